@@ -99,15 +99,41 @@ static int goes(struct usernet *net, struct conn *conn, const struct tcpcore_tra
     return 1;
 }
 
+/* Sends a segment in pieces that the path takes. */
+static void send_pieces(struct usernet *net, const struct conn *conn, size_t length)
+{
+    const struct pair *pair = &conn->pair;
+    size_t from = 0, piece;
+    memcpy(net->text, segment_place(net), length);
+    while ((piece = path_piece(&conn->path, net->text, length, &from, segment_place(net), pair->server, pair->client)))
+        send_segment(net, piece, pair->server, pair->client, conn->path.may_be_cut);
+}
+
 /* Emits the segment that is due, summed; whether there was one. */
 static int emit_segment(struct usernet *net, struct conn *conn)
 {
     struct tcpcore_transmit sent;
     if (tcpcore_transmit(&conn->end, segment_place(net), TCPCORE_EMIT_ROOM, &sent) != TCPCORE_DONE)
         return 0;
-    if (goes(net, conn, &sent))
-        send_segment(net, (size_t)sent.length, conn->pair.server, sent.to);
+    if (!goes(net, conn, &sent))
+        return 1;
+    size_t length = (size_t)sent.length, packet = IP_HEADER + length;
+    path_sent(&conn->path, sent.position + sent.count, packet < conn->path.mtu ? packet : conn->path.mtu);
+    if (packet <= conn->path.mtu)
+        send_segment(net, length, conn->pair.server, sent.to, conn->path.may_be_cut);
+    else
+        send_pieces(net, conn, length);
     return 1;
+}
+
+/* The device cuts a train into segments that the path takes. */
+static void fit(const struct path *path, struct tcpcore_train *train)
+{
+    size_t most = path_text(path, (size_t)train->header), text = (size_t)train->whole.count;
+    if (text <= most || (train->segments > 1 && train->each <= most))
+        return;
+    train->each = most;
+    train->segments = (text + most - 1) / most;
 }
 
 /* Emits as many segments as go together, which a device with offloads cuts and sums; whether there was any. */
@@ -116,15 +142,18 @@ static int emit_train(struct usernet *net, struct conn *conn)
     struct tcpcore_train train;
     if (tcpcore_emit_train(&conn->end, segment_place(net), TCPCORE_TRAIN_ROOM, SIZE_MAX, &train) != TCPCORE_DONE)
         return 0;
-    if (goes(net, conn, &train.whole))
-        send_train(net, conn->pair.server, &train);
+    if (!goes(net, conn, &train.whole))
+        return 1;
+    fit(&conn->path, &train);
+    path_sent(&conn->path, train.whole.position + train.whole.count, IP_HEADER + (size_t)(train.header + (train.segments > 1 ? train.each : train.whole.count)));
+    send_train(net, conn->pair.server, &train);
     return 1;
 }
 
 /* Emits all that is due. */
 static void emit(struct usernet *net, struct conn *conn)
 {
-    while (net->offloads ? emit_train(net, conn) : emit_segment(net, conn))
+    while (net->offloads && !conn->path.may_be_cut ? emit_train(net, conn) : emit_segment(net, conn))
         ;
 }
 
@@ -143,6 +172,7 @@ static int make_end(struct usernet *net, struct conn *conn)
     tcpcore_config config = {.addr = conn->pair.server, .port = conn->pair.server_port, .mss = net->mss, .isn = isn,
                              .send_capacity = conn->capacity, .recv_capacity = conn->capacity, .limit = UINT64_C(1) << 62,
                              .window_shift = SHIFT, .scales = 1, .sack = 1};
+    path_init(&conn->path, isn, net->mss + (uint32_t)HEADERS);
     conn->block = malloc(room);
     conn->end = (tcpcore_end)TCPCORE_END_INIT;
     conn->is_open = conn->block && tcpcore_new(&conn->end, &config, conn->block, room) == TCPCORE_DONE;
@@ -170,8 +200,19 @@ static void stray(struct usernet *net, const struct ip_packet *from, int vouched
     if (tcpcore_stray_reset(from->src, from->dst, bytes, from->length, segment_place(net), TCPCORE_RESET_ROOM, &length) !=
         TCPCORE_DONE || !limits_answer(net))
         return;
-    send_segment(net, length, from->dst, from->src);
+    send_segment(net, length, from->dst, from->src, 0);
     count(net, STRAYS, 1);
+}
+
+/* Nobody answers on the host's side: the client is told by ICMP that there is no way to there, or else by a reset. */
+static void refuse(struct usernet *net, const struct ip_packet *syn, int vouched, int fault)
+{
+    struct pair key = {.client = syn->src, .server = syn->dst};
+    count(net, REFUSED, 1);
+    if (fault == EHOSTUNREACH || fault == ENETUNREACH || fault == ETIMEDOUT || fault == EHOSTDOWN)
+        tell_unreachable(net, &key, IP_TCP, syn->segment, fault);
+    else
+        stray(net, syn, vouched);
 }
 
 static int watch(struct usernet *net, struct conn *conn)
@@ -199,8 +240,7 @@ static int host_answered(struct usernet *net, struct conn *conn)
         count(net, OPENED, 1);
         return 1;
     }
-    count(net, REFUSED, 1);
-    stray(net, &(struct ip_packet){conn->pair.client, conn->pair.server, conn->syn, conn->syn_length}, 0);
+    refuse(net, &(struct ip_packet){conn->pair.client, conn->pair.server, conn->syn, conn->syn_length}, 0, fault);
     drop(net, conn, 1);
     return 0;
 }
@@ -224,8 +264,7 @@ static void open_conn(struct usernet *net, const struct pair *key, const struct 
     } else if (host >= 0) {
         close(host);
     } else if (capacity && !is_exhausted(fault)) {
-        count(net, REFUSED, 1);
-        stray(net, packet, vouched);
+        refuse(net, packet, vouched, fault);
         return;
     }
     count(net, EXHAUSTED, capacity > 0);
@@ -328,13 +367,37 @@ void arrive(struct usernet *net, const struct ip_packet *packet, int vouched)
         drop(net, conn, 1); /* the client doesn't wait for the host any longer */
 }
 
+void conn_error(struct usernet *net, const struct icmp_error *error)
+{
+    struct pair key = {error->dst, error->src, error->dst_port, error->src_port, NULL};
+    struct conn *conn = error->protocol == IP_TCP ? conn_of(pairs_find(&net->pairs, &key)) : NULL;
+    if (!conn || !conn->is_open)
+        return;
+    struct tcpcore_status status = status_of(conn);
+    int found = path_error(&conn->path, &status, error, net->now);
+    count(net, ERRORS, found != PATH_NOTHING);
+    count(net, NARROWED, found == PATH_NARROWER);
+    if (found == PATH_HARD)
+        tcpcore_abort(&conn->end);
+    else if (found == PATH_NARROWER)
+        tcpcore_resend_first(&conn->end);
+    wheel_wake(&net->wheel, &conn->node);
+}
+
+/* The timers' times have come, and what they say of the path. */
+static void run_times(struct usernet *net, struct conn *conn)
+{
+    uint32_t found = timers_run(&conn->timers, &conn->end, net->now);
+    count(net, GAVE_UP, (found & TIMERS_GAVE_UP) != 0);
+    count(net, NARROWED, (uint64_t)path_run(&conn->path, conn->timers.una, (found & TIMERS_TIMED_OUT) != 0, net->now));
+}
+
 /* Looks at one connection: its timers, both ways, what is due, and whether it has ended. */
 static void turn(struct usernet *net, struct conn *conn)
 {
     if (!conn->is_open && !host_answered(net, conn))
         return;
-    if (timers_run(&conn->timers, &conn->end, net->now) & TIMERS_GAVE_UP)
-        count(net, GAVE_UP, 1);
+    run_times(net, conn);
     if (conn->socket >= 0 && conn->timers.phase >= TCPCORE_PHASE_ESTABLISHED &&
         (!carry_up(net, conn) || !carry_down(net, conn)))
         tcpcore_abort(&conn->end);

@@ -82,17 +82,23 @@ static void answer_arp(struct usernet *net, const uint8_t *frame, size_t length)
         to_device(net->offloads ? answer : at, (net->offloads ? TUN_HEADER : 0) + count, net);
 }
 
-void send_segment(struct usernet *net, size_t length, tcpcore_addr from, tcpcore_addr to)
-{
-    send_packet(net, length, from, to, IP_TCP);
-}
-
 /* Nothing of it is left to the device, whose header is all zero where there is one. */
-void send_packet(struct usernet *net, size_t length, tcpcore_addr from, tcpcore_addr to, uint8_t protocol)
+static void send_chosen(struct usernet *net, size_t length, tcpcore_addr from, tcpcore_addr to, uint8_t protocol, const struct ip_choices *choices)
 {
     uint8_t *frame = net->packet + ETHERNET_HEADER;
     memset(frame, 0, TUN_HEADER);
-    pass_down(net, frame, TUN_HEADER + ip_write_any(frame + TUN_HEADER, from, to, length, protocol));
+    pass_down(net, frame, TUN_HEADER + ip_write_chosen(frame + TUN_HEADER, from, to, length, protocol, choices));
+}
+
+void send_segment(struct usernet *net, size_t length, tcpcore_addr from, tcpcore_addr to, int may_be_cut)
+{
+    struct ip_choices choices = {.may_be_cut = may_be_cut != 0, .id = may_be_cut ? ++net->next_id : 0};
+    send_chosen(net, length, from, to, IP_TCP, &choices);
+}
+
+void send_packet(struct usernet *net, size_t length, tcpcore_addr from, tcpcore_addr to, uint8_t protocol)
+{
+    send_chosen(net, length, from, to, protocol, &(struct ip_choices){0});
 }
 
 void send_train(struct usernet *net, tcpcore_addr from, const struct tcpcore_train *train)
@@ -101,10 +107,14 @@ void send_train(struct usernet *net, tcpcore_addr from, const struct tcpcore_tra
     pass_down(net, frame, trains_write(frame, from, train));
 }
 
-/* What decides which thread has a packet: its addresses and ports, or of an echo its identifier. */
+/* What decides which thread has a packet: its addresses and ports, or of an echo its identifier; of an error those of the packet that met
+   it, the other way round. */
 static struct pair key_of(const struct ip_packet *packet, uint8_t protocol)
 {
     const uint8_t *bytes = packet->segment;
+    struct icmp_error error;
+    if (protocol == IP_ICMP && icmp_read_error(packet, &error))
+        return (struct pair){error.dst, error.src, error.dst_port, error.src_port, NULL};
     if (protocol == IP_ICMP)
         return (struct pair){packet->src, packet->dst, icmp_id(bytes), 0, NULL};
     return (struct pair){packet->src, packet->dst, read16(bytes), read16(bytes + 2), NULL};

@@ -78,20 +78,25 @@ void relays_expire(struct usernet *net)
     expire(net, &net->brief, SHORT_SILENCE);
 }
 
-/* The namespace is told that what it sent with these addresses and ports couldn't be delivered, as often as strays are answered. The message
-   has the front of such a packet, which is all that its kernel looks at (RFC 1122, 3.2.2). */
-static void tell_unreachable(struct usernet *net, const struct pair *key, uint8_t protocol, int fault)
+/* The code of a fault of the host's (RFC 792; RFC 1812, 5.2.7.1). */
+static uint8_t code_of(int fault)
 {
-    int code = fault == ECONNREFUSED ? ICMP_NO_PORT : fault == EACCES || fault == EPERM ? ICMP_PROHIBITED : fault == EHOSTUNREACH ? ICMP_NO_HOST : ICMP_NO_NET;
-    uint8_t packet[IP_HEADER + UDP_HEADER] = {0};
+    if (fault == ECONNREFUSED)
+        return ICMP_NO_PORT;
+    if (fault == EACCES || fault == EPERM)
+        return ICMP_PROHIBITED;
+    return fault == EHOSTUNREACH || fault == ETIMEDOUT || fault == EHOSTDOWN ? ICMP_NO_HOST : ICMP_NO_NET;
+}
+
+/* The message has the front of such a packet, which is all that the namespace's kernel looks at (RFC 1122, 3.2.2). */
+void tell_unreachable(struct usernet *net, const struct pair *key, uint8_t protocol, const uint8_t *front, int fault)
+{
+    uint8_t packet[IP_HEADER + UNREACHABLE_FRONT];
     if (!limits_answer(net))
         return;
-    size_t length = ip_write_any(packet, key->client, key->server, UDP_HEADER, protocol);
-    if (protocol == IP_UDP)
-        udp_write(packet + IP_HEADER, key->client, key->client_port, key->server, key->server_port, 0);
-    else
-        icmp_make_echo(packet + IP_HEADER, ICMP_HEADER, ICMP_ECHO, key->client_port);
-    length = icmp_unreachable(segment_place(net), (uint8_t)code, packet, length);
+    size_t length = ip_write_any(packet, key->client, key->server, UNREACHABLE_FRONT, protocol);
+    memcpy(packet + IP_HEADER, front, UNREACHABLE_FRONT);
+    length = icmp_unreachable(segment_place(net), code_of(fault), packet, length);
     send_packet(net, length, key->server, key->client, IP_ICMP);
     count(net, UNREACHABLE, 1);
 }
@@ -101,6 +106,17 @@ static void make_room(struct usernet *net)
 {
     while (net->relays.count + net->brief.count >= net->limits.flows)
         drop_relay(net, oldest_relay(net));
+}
+
+/* The same of what a relay has sent, which nobody keeps. */
+static void tell_sender(struct usernet *net, const struct pair *key, uint8_t protocol, int fault)
+{
+    uint8_t front[UNREACHABLE_FRONT] = {0};
+    if (protocol == IP_UDP)
+        udp_write(front, key->client, key->client_port, key->server, key->server_port, 0);
+    else
+        icmp_make_echo(front, ICMP_HEADER, ICMP_ECHO, key->client_port);
+    tell_unreachable(net, key, protocol, front, fault);
 }
 
 /* A relay that the namespace begins; NULL where there is none, with errno. */
@@ -149,7 +165,7 @@ static void carry_out(struct usernet *net, const struct pair *key, uint8_t proto
     if (is_exhausted(errno) || errno == EMSGSIZE || errno == EAGAIN)
         count(net, EXHAUSTED, 1);
     else
-        tell_unreachable(net, key, protocol, errno);
+        tell_sender(net, key, protocol, errno);
 }
 
 void relays_datagram(struct usernet *net, const struct ip_packet *packet, int vouched)
@@ -176,6 +192,9 @@ void relays_message(struct usernet *net, const struct ip_packet *packet)
         return;
     }
     struct pair key = {packet->src, packet->dst, icmp_id(packet->segment), 0, NULL};
+    struct icmp_error error;
+    if (icmp_read_error(packet, &error))
+        conn_error(net, &error);
     if (packet->segment[0] != ICMP_ECHO)
         return;
     if (!is_here(net, packet->dst)) {
@@ -197,7 +216,7 @@ static int carry_in(struct usernet *net, struct relay *relay)
     ssize_t got = recv(relay->socket, place + front, UDP_MOST, MSG_DONTWAIT);
     if (got < 0) {
         if (errno != EAGAIN && errno != EINTR)
-            tell_unreachable(net, pair, relay->protocol, errno);
+            tell_sender(net, pair, relay->protocol, errno);
         return 0;
     }
     size_t length = (size_t)got;

@@ -22,8 +22,8 @@
 #include <unistd.h>
 #include <wchar.h>
 
-/* The bytes of both headers, and the descriptors that are for no connection: of the program, and of each thread. */
-enum { HEADERS = 40, SPARE = 32, SPARE_EACH = 8, MIB = 1 << 20 };
+/* The descriptors that are for no connection: of the program, and of each thread. */
+enum { SPARE = 32, SPARE_EACH = 8, MIB = 1 << 20 };
 
 static struct shared shared = {.lock = PTHREAD_MUTEX_INITIALIZER, .api = -1};
 static struct words told;
@@ -33,7 +33,8 @@ static void tell(void)
 {
     static const char *const names[COUNTERS] = {
         "opened", "refused", "published", "strays", "gave_up", "malformed", "arrived", "emitted", "up", "down", "full", "recycled",
-        "exhausted", "withheld", "unsaid", "now", "most", "half_open", "reserved", "flows", "flows_now", "datagrams", "unreachable"};
+        "exhausted", "withheld", "unsaid", "now", "most", "half_open", "reserved", "flows", "flows_now", "datagrams", "unreachable",
+        "errors", "narrowed"};
     struct mallinfo2 held = mallinfo2();
     unsigned long long sums[COUNTERS] = {0};
     for (uint32_t net = 0; net < shared.threads; net++)

@@ -15,6 +15,7 @@
 #include "companions/icmp.h"
 #include "companions/ip.h"
 #include "companions/pairs.h"
+#include "companions/path.h"
 #include "companions/timers.h"
 #include "companions/trains.h"
 #include "companions/udp.h"
@@ -40,8 +41,8 @@ enum { DEVICE = LISTENERS, SIGNALS, INBOX, EXITS, API, CALLER, NAMED = CALLER + 
 /* The first of the gateway's ports from which connections and datagrams are carried in. */
 enum { FIRST_PORT = 32768 };
 
-/* The longest header of a segment. */
-enum { MOST_HEADER = 60 };
+/* The longest header of a segment; the bytes of the shortest IPv4 and TCP headers together. */
+enum { MOST_HEADER = 60, HEADERS = 40 };
 
 /* The connections of one kind, the oldest first, and a connection's place among them; all zero where it is in none. */
 struct link { struct link *older, *newer; struct queue *queue; };
@@ -56,6 +57,7 @@ struct conn {
     tcpcore_end end;                /* the namespace's peer; none before the host's socket is connected */
     struct timers timers;
     struct answers answers;
+    struct path path;
     void *block;                    /* the memory of the end, for as long as there is one */
     uint32_t capacity;              /* bytes kept for each direction */
     int socket;                     /* the host's, or -1 once both directions are done */
@@ -94,7 +96,8 @@ enum counter {
     NOW, MOST, HALF_OPEN,       /* connections now, the most at once, and those half-open now */
     RESERVED,                   /* bytes of all ends now, as limits.memory counts them */
     FLOWS, FLOWS_NOW,           /* flows of datagrams and echoes so far, and now */
-    DATAGRAMS, UNREACHABLE,     /* datagrams and echoes that went through, either way; those that ICMP said couldn't */
+    DATAGRAMS, UNREACHABLE,     /* datagrams and echoes that went through, either way; what ICMP said couldn't */
+    ERRORS, NARROWED,           /* the namespace's ICMP errors that were about a connection's flight; those that shortened its packets */
     COUNTERS
 };
 
@@ -152,6 +155,7 @@ struct usernet {
     int is_tap;                /* whether packets lie behind Ethernet headers */
     struct ethernet_addr host; /* then: the namespace's address, as its last frame has it */
     uint16_t mss, next_port;   /* the maximum segment size; the last of the gateway's ports that was tried */
+    uint16_t next_id;          /* the identification of the last packet that may be cut */
     tcpcore_addr own, gateway; /* the namespace's address, and that which means the host's loopback */
     tcpcore_addr resolver;     /* that which means the host's name server */
     struct timespec read_at;   /* the age of the file of name servers when it was read */
@@ -192,7 +196,7 @@ uint32_t owner_of(struct usernet *net, const struct pair *pair);
 
 /* A segment for the namespace is written to segment_place, then sent: summed and of `length` bytes, or what tcpcore_emit_train wrote. */
 static inline uint8_t *segment_place(struct usernet *net) { return net->packet + ETHERNET_HEADER + TRAINS_FRONT; }
-void send_segment(struct usernet *net, size_t length, tcpcore_addr from, tcpcore_addr to);
+void send_segment(struct usernet *net, size_t length, tcpcore_addr from, tcpcore_addr to, int may_be_cut);
 void send_packet(struct usernet *net, size_t length, tcpcore_addr from, tcpcore_addr to, uint8_t protocol);
 void send_train(struct usernet *net, tcpcore_addr from, const struct tcpcore_train *train);
 
@@ -210,6 +214,9 @@ int stop_all(struct shared *shared, int status);
    carried in. */
 void arrive(struct usernet *net, const struct ip_packet *packet, int vouched);
 void conn_publish(struct usernet *net, struct inward inward);
+
+/* An ICMP error came from the namespace about a packet that it was sent. */
+void conn_error(struct usernet *net, const struct icmp_error *error);
 
 /* ports.c: publishes a port, whose `id` and `socket` aren't looked at; answers its number, or 0 with errno. What has this number is no
    longer published; whether there was any. */
@@ -252,7 +259,12 @@ void end_all(struct usernet *net);
    EACCES where the program was told to leave that place alone. `kind` is SOCK_STREAM or SOCK_DGRAM. */
 int host_socket(struct usernet *net, tcpcore_addr to, uint16_t port, int kind, int protocol);
 
-/* relays.c: a datagram or an ICMP message came from the namespace; a socket of a relay has something, or that of the published port at this
+/* relays.c: the namespace is told that what it sent with these addresses and ports couldn't be delivered, as often as strays are answered. `front` is
+   what its packet has behind the IPv4 header. */
+enum { UNREACHABLE_FRONT = 8 };
+void tell_unreachable(struct usernet *net, const struct pair *key, uint8_t protocol, const uint8_t *front, int fault);
+
+/* A datagram or an ICMP message came from the namespace; a socket of a relay has something, or that of the published port at this
    place; all relays of that one go; those that were silent for long go; those that were dropped are freed; all go. */
 void relays_datagram(struct usernet *net, const struct ip_packet *packet, int vouched);
 void relays_message(struct usernet *net, const struct ip_packet *packet);
