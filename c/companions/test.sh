@@ -12,7 +12,7 @@ library=$(realpath -m "${1:-../../crates/tcp_c/out/libtcp_c.a}")
 warnings="-std=c11 -g -Wall -Wextra -Wpedantic -Werror"
 stricter="-Wcast-qual -Wconversion -Wshadow -Wstrict-prototypes"
 sanitizers="-O1 -fsanitize=address,undefined -fno-sanitize-recover=all"
-tests="timers congestion cubic answers flow recovery resets losses fuzz ip datagrams table demux crowd faults pairs path trains wheel"
+tests="timers congestion cubic answers flow recovery resets losses fuzz ip datagrams table demux crowd faults fragments pairs path trains wheel"
 passed=0
 
 pass() { passed=$((passed + 1)); }
@@ -63,7 +63,7 @@ sanitized() { objects "$1" "$1" $sanitizers && build "$1" examples/echo.c echo.s
 
 check_with() {
     local compiler=$1 package=$2 name level
-    for name in timers congestion cubic answers flow ip ethernet icmp udp table demux faults pairs path trains wheel; do
+    for name in timers congestion cubic answers flow ip ethernet icmp udp table demux faults fragments pairs path trains wheel; do
         check_file "$compiler" "$name"
     done
     # What it needs is the system's; ../../apps/usernet runs it.
