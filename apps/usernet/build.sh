@@ -6,7 +6,7 @@ set -euo pipefail
 cd "$(dirname "$0")"
 library=$(realpath "${1:-../../crates/tcp_c/out/libtcp_c.a}")
 shift || true
-companions=$(printf ' ../../c/companions/%s.c' answers ethernet faults icmp ip pairs path table timers trains tun udp wheel)
+companions=$(printf ' ../../c/companions/%s.c' answers ethernet faults fragments icmp ip pairs path table timers trains tun udp wheel)
 seccomp=
 [[ ! -e /usr/include/seccomp.h ]] || seccomp="-DHAS_SECCOMP -lseccomp"
 flags="-std=c11 -O2 -g -Wall -Wextra -Wpedantic -Wconversion -Wshadow -Wcast-qual -Werror -I../../c -I../../c/tcpcore"

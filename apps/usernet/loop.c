@@ -10,6 +10,7 @@
 #include <string.h>
 #include <sys/epoll.h>
 #include <sys/socket.h>
+#include <sys/uio.h>
 #include <time.h>
 #include <unistd.h>
 
@@ -145,25 +146,55 @@ static const uint8_t *without_ethernet(struct usernet *net, const uint8_t *bytes
     return bytes + ETHERNET_HEADER;
 }
 
+/* A packet, and what the device has in front of it. */
+struct arrival {
+    const uint8_t *front, *bytes;
+    size_t front_length, length;
+    int vouched; /* whether its checksum needs no look */
+};
+
+/* Reads the packet of an arrival; one that was cut is read once its last piece has come, and has nothing in front that says anything of it but
+   its Ethernet header. Whether there is one. */
+static int read_packet(struct usernet *net, struct arrival *arrival, struct ip_packet *found, uint8_t *protocol)
+{
+    struct ip_net to = {.prefix = 32};
+    memcpy(&to.addr, arrival->bytes + 16, sizeof to.addr);
+    int answer = ip_read_any(to, arrival->bytes, arrival->length, found, protocol);
+    if (answer != IP_FRAGMENT)
+        return answer == IP_DONE;
+    count(net, PIECES, 1);
+    if (fragments_add(&net->fragments, arrival->bytes, arrival->length, net->now, &arrival->bytes, &arrival->length) != FRAGMENTS_WHOLE)
+        return 0;
+    count(net, JOINED, 1);
+    memcpy(net->front, arrival->front, arrival->front_length);
+    memset(net->front, 0, net->offloads ? TUN_HEADER : 0);
+    arrival->front = net->front, arrival->vouched = 0;
+    return ip_read_any(to, arrival->bytes, arrival->length, found, protocol) == IP_DONE;
+}
+
+/* Another thread gets the packet as if the device had given it. What it can't take is lost, too. */
+static void pass_over(const struct usernet *other, const struct arrival *arrival)
+{
+    struct iovec pieces[2] = {{(void *)(uintptr_t)arrival->front, arrival->front_length}, {(void *)(uintptr_t)arrival->bytes, arrival->length}};
+    sendmsg(other->to_inbox, &(struct msghdr){.msg_iov = pieces, .msg_iovlen = 2}, MSG_DONTWAIT);
+}
+
 /* A frame of the device: a packet of this thread's connections and relays, or of another one's, which gets the frame. What goes to many
    hosts, or by broadcast, has no host behind it, and is answered by nobody (RFC 1122, 3.2.2; RFC 9293, 3.9.2.3). */
 static void from_device(const void *frame, size_t all, void *context)
 {
     struct usernet *net = context;
-    const uint8_t *bytes = frame;
-    size_t length = all;
-    struct ip_net to = {.prefix = 32};
+    struct arrival arrival = {.front = frame, .bytes = frame, .length = all};
     struct ip_packet found;
     uint8_t protocol;
-    int vouched = 0;
     if (net->offloads)
-        bytes = trains_read(frame, length, &length, &vouched);
-    if (bytes && net->is_tap)
-        bytes = without_ethernet(net, bytes, &length);
-    if (!bytes || length < IP_HEADER || bytes[16] >= 224)
+        arrival.bytes = trains_read(frame, all, &arrival.length, &arrival.vouched);
+    if (arrival.bytes && net->is_tap)
+        arrival.bytes = without_ethernet(net, arrival.bytes, &arrival.length);
+    if (!arrival.bytes || arrival.length < IP_HEADER || arrival.bytes[16] >= 224)
         return;
-    memcpy(&to.addr, bytes + 16, sizeof to.addr);
-    if (ip_read_any(to, bytes, length, &found, &protocol) != IP_DONE || (protocol != IP_TCP && protocol != IP_UDP && protocol != IP_ICMP))
+    arrival.front_length = (size_t)(arrival.bytes - arrival.front);
+    if (!read_packet(net, &arrival, &found, &protocol) || (protocol != IP_TCP && protocol != IP_UDP && protocol != IP_ICMP))
         return;
     if (found.length < (protocol == IP_TCP ? SEGMENT_HEADER : UDP_HEADER)) {
         count(net, MALFORMED, 1);
@@ -172,9 +203,9 @@ static void from_device(const void *frame, size_t all, void *context)
     struct pair key = key_of(&found, protocol);
     uint32_t owner = owner_of(net, &key);
     if (owner == net->index) {
-        take_packet(net, &found, protocol, vouched);
+        take_packet(net, &found, protocol, arrival.vouched);
     } else {
-        send(net->shared->all[owner]->to_inbox, frame, all, MSG_DONTWAIT); /* what it can't take is lost, too */
+        pass_over(net->shared->all[owner], &arrival);
     }
 }
 
@@ -285,6 +316,7 @@ int loop_init(struct usernet *net, const uint8_t secret[16])
     pairs_init(&net->pairs, net->buckets, BUCKETS, secret);
     pairs_init(&net->datagrams, net->datagram_buckets, FLOW_BUCKETS, secret);
     pairs_init(&net->echoes, net->echo_buckets, FLOW_BUCKETS, secret);
+    fragments_init(&net->fragments, net->cut, CUT);
     pairs_init(&net->inward, net->inward_buckets, FLOW_BUCKETS, secret);
     if (net->events < 0 || socketpair(AF_UNIX, SOCK_DGRAM | SOCK_CLOEXEC, 0, pair) != 0 ||
         tcpcore_new(&net->reader, &config, net->reader_block, sizeof net->reader_block) != TCPCORE_DONE)

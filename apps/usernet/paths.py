@@ -8,8 +8,9 @@ import struct
 import subprocess
 import sys
 
+import clients
 import publishing
-from world import CLIENTS, GATEWAY, Child, need
+from world import CLIENTS, FAR, GATEWAY, Child, need
 
 INNER, OUTSIDE, INSIDE = "usernet-inner", "10.99.0.1", "10.99.0.2"
 
@@ -112,7 +113,22 @@ def connected(port, seconds):
     return "reset"
 
 
-PATHS = [no_way, narrow, carried_further]
+def cut(place):
+    """Datagrams and echoes longer than the device's MTU are put together from their pieces, whichever thread has them, and some are lost."""
+    for fault, *more in (0,), (0, "--no-offloads"), (0, "--threads", 3), (1, "--threads", 3), (0, "-c", "tap0"):
+        if "tap0" in more:
+            place.client("ip", "tuntap", "add", "dev", "tap0", "mode", "tap")
+        with place.usernet(fault, *more):
+            place.client(sys.executable, clients.__file__, "--long", GATEWAY)
+            for host in GATEWAY, FAR:
+                text = place.client("ping", "-c", "10", "-i", "0.05", "-W", "1", "-s", "20000", host)
+                need(f"echoes of {host}", fault > 0 or " 10 received, 0% packet loss" in text, True)
+            counters = place.counters()
+            need("put together", counters["joined"] >= 100 and counters["pieces"] >= 12 * 20, True)
+    place.client("ip", "link", "delete", "tap0")
+
+
+PATHS = [no_way, narrow, carried_further, cut]
 
 if __name__ == "__main__":
     word, *words = sys.argv[1:]

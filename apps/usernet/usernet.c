@@ -34,7 +34,7 @@ static void tell(void)
     static const char *const names[COUNTERS] = {
         "opened", "refused", "published", "strays", "gave_up", "malformed", "arrived", "emitted", "up", "down", "full", "recycled",
         "exhausted", "withheld", "unsaid", "now", "most", "half_open", "reserved", "flows", "flows_now", "datagrams", "unreachable",
-        "errors", "narrowed"};
+        "pieces", "joined", "errors", "narrowed"};
     struct mallinfo2 held = mallinfo2();
     unsigned long long sums[COUNTERS] = {0};
     for (uint32_t net = 0; net < shared.threads; net++)

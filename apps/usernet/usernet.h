@@ -12,6 +12,7 @@
 #include "companions/answers.h"
 #include "companions/ethernet.h"
 #include "companions/faults.h"
+#include "companions/fragments.h"
 #include "companions/icmp.h"
 #include "companions/ip.h"
 #include "companions/pairs.h"
@@ -31,6 +32,9 @@ enum { CAPACITY = 262144, LEAST_CAPACITY = 8192, SHIFT = 3, BUCKETS = 65536, FLO
 
 /* The most threads, and ports that are published; the queues of half-open connections by their destination. */
 enum { THREADS = 64, LISTENERS = 256, PLACES = 4096 };
+
+/* The packets that a thread puts together from their pieces at once. */
+enum { CUT = 8 };
 
 /* The most clients of the API's socket at once. */
 enum { CALLERS = 8 };
@@ -97,6 +101,7 @@ enum counter {
     RESERVED,                   /* bytes of all ends now, as limits.memory counts them */
     FLOWS, FLOWS_NOW,           /* flows of datagrams and echoes so far, and now */
     DATAGRAMS, UNREACHABLE,     /* datagrams and echoes that went through, either way; what ICMP said couldn't */
+    PIECES, JOINED,             /* pieces of packets that came; packets that were put together from them */
     ERRORS, NARROWED,           /* the namespace's ICMP errors that were about a connection's flight; those that shortened its packets */
     COUNTERS
 };
@@ -173,13 +178,16 @@ struct usernet {
     struct pairs inward;            /* those of published ports, by the host's clients */
     struct pair *datagram_buckets[FLOW_BUCKETS], *echo_buckets[FLOW_BUCKETS], *inward_buckets[FLOW_BUCKETS];
     struct queue relays, brief; /* all of them, by when a packet went through last: those that are soon over are in `brief` */
+    struct fragments fragments; /* pieces of the namespace's packets */
+    struct fragments_packet cut[CUT];
     struct relay *gone;        /* relays that are freed behind these events */
     uint64_t reserved;         /* bytes of all ends */
     uint64_t second, answered; /* the second in which the last stray came, and resets in it */
     tcpcore_end reader;        /* an end that is never opened: it reads what comes for no other */
     uint8_t reader_block[TCPCORE_MEMORY(1, 1)];
     struct faults up, down;    /* the path between device and ends */
-    uint8_t frame[TUN_HEADER + 65535]; /* what the device gave */
+    uint8_t frame[TUN_HEADER + ETHERNET_HEADER + 65535]; /* what the device gave */
+    uint8_t front[TUN_HEADER + ETHERNET_HEADER];         /* what a packet that was put together has in front */
     uint8_t packet[ETHERNET_HEADER + TRAINS_ROOM]; /* what the device is given */
     uint8_t text[CAPACITY];    /* what a socket gave */
 };
