@@ -22,7 +22,7 @@ from world import CLIENTS, GATEWAY, HERE, SERVERS, need
 
 # What --help tells, and the most descriptors that are for no connection.
 CONNECTIONS, HALF_OPEN, EACH, FLOWS, SPARE = 4096, 1024, 256, 1024, 64
-KINDS = "resets", "options", "half_open", "scan", "windows", "storm", "noise", "packets", "endings", "datagrams", "messages"
+KINDS = "resets", "options", "half_open", "scan", "windows", "storm", "noise", "packets", "endings", "datagrams", "messages", "errors", "pieces"
 # Seconds within which a client is served, whatever else goes on.
 SOON = 10
 

@@ -49,7 +49,7 @@ static const char USAGE[] =
     "  --strays N          so many resets and ICMP messages a second for what leads nowhere, refusals among them (1000)\n"
     "  --quiet MS          a connection repeats no answer to what it doesn't take for so many milliseconds (500); 0: it always does\n"
     "\n"
-    "An echo to a host needs the host's leave (net.ipv4.ping_group_range). Datagrams that the namespace cut into pieces are lost.\n";
+    "An echo to a host needs the host's leave (net.ipv4.ping_group_range).\n";
 
 /* A number from `least` to `most`; whether the word is one. */
 static int read_number(const char *word, uint64_t least, uint64_t most, uint64_t *number)
