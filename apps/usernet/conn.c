@@ -35,6 +35,7 @@ static struct conn *conn_new(struct usernet *net, const struct pair *key, int so
     timers_init(&conn->timers, &RULES);
     answers_init(&conn->answers, (uint32_t)net->limits.quiet);
     pairs_add(&net->pairs, &conn->pair);
+    v6_hold(net, &conn->pair, 1);
     limits_enter(net, conn);
     return conn;
 }
@@ -53,6 +54,7 @@ void drop(struct usernet *net, struct conn *conn, int resets)
     pairs_remove(&net->pairs, &conn->pair);
     wheel_put(&net->wheel, &conn->node, net->now, -1);
     limits_leave(net, conn);
+    v6_hold(net, &conn->pair, -1);
     if (conn->socket >= 0)
         close_socket(conn->socket, resets);
     if (conn->is_open)
@@ -169,10 +171,11 @@ static int make_end(struct usernet *net, struct conn *conn)
 {
     size_t room = TCPCORE_MEMORY(conn->capacity, conn->capacity);
     uint32_t isn = (uint32_t)(250 * net->now + pairs_secret(&net->pairs, &conn->pair));
-    tcpcore_config config = {.addr = conn->pair.server, .port = conn->pair.server_port, .mss = net->mss, .isn = isn,
+    uint16_t mss = (uint16_t)(net->mss - (ip6_is_surrogate(conn->pair.client) ? IP6_MORE : 0));
+    tcpcore_config config = {.addr = conn->pair.server, .port = conn->pair.server_port, .mss = mss, .isn = isn,
                              .send_capacity = conn->capacity, .recv_capacity = conn->capacity, .limit = UINT64_C(1) << 62,
                              .window_shift = SHIFT, .scales = 1, .sack = 1};
-    path_init(&conn->path, isn, net->mss + (uint32_t)HEADERS);
+    path_init(&conn->path, isn, mss + (uint32_t)HEADERS);
     conn->block = malloc(room);
     conn->end = (tcpcore_end)TCPCORE_END_INIT;
     conn->is_open = conn->block && tcpcore_new(&conn->end, &config, conn->block, room) == TCPCORE_DONE;

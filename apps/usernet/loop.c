@@ -47,8 +47,8 @@ static void to_device(const void *packet, size_t length, void *context)
     count(net, EMITTED, write(net->device, packet, length) > 0); /* what it can't take is lost, and sent again */
 }
 
-/* The gateway's address on Ethernet, and the name server's: one of a local administration (IEEE 802). */
-static const struct ethernet_addr GATEWAY = {{0x52, 0x55, 10, 0, 2, 2}};
+/* One of a local administration (IEEE 802). */
+const struct ethernet_addr GATEWAY_ETHERNET = {{0x52, 0x55, 10, 0, 2, 2}};
 
 /* Puts an Ethernet header between the device's header and the packet, for which there is room before both. */
 static uint8_t *with_ethernet(const struct usernet *net, uint8_t *frame)
@@ -59,12 +59,12 @@ static uint8_t *with_ethernet(const struct usernet *net, uint8_t *frame)
         front.hdr_len = (uint16_t)(front.hdr_len + ETHERNET_HEADER), front.csum_start = (uint16_t)(front.csum_start + ETHERNET_HEADER);
     frame -= ETHERNET_HEADER;
     memcpy(frame, &front, TUN_HEADER);
-    ethernet_write(frame + TUN_HEADER, net->host, GATEWAY, ETHERNET_IPV4);
+    ethernet_write(frame + TUN_HEADER, net->host, GATEWAY_ETHERNET, frame[TUN_HEADER + ETHERNET_HEADER] >> 4 == 6 ? ETHERNET_IPV6 : ETHERNET_IPV4);
     return frame;
 }
 
-/* A packet behind the device's header goes to the device, which may have none. */
-static void pass_down(struct usernet *net, uint8_t *frame, size_t length)
+/* The device may have no header. */
+void pass_on_wire(struct usernet *net, uint8_t *frame, size_t length)
 {
     size_t front = net->offloads ? 0 : TUN_HEADER;
     if (net->is_tap)
@@ -72,13 +72,22 @@ static void pass_down(struct usernet *net, uint8_t *frame, size_t length)
     faults_pass(&net->down, frame + front, length - front, to_device, net);
 }
 
+/* The same of a packet whose addresses may be surrogates. */
+static void pass_down(struct usernet *net, uint8_t *frame, size_t length)
+{
+    if (frame[TUN_HEADER + 16] >= 0xf0)
+        frame = v6_write(net, frame, &length);
+    if (frame)
+        pass_on_wire(net, frame, length);
+}
+
 /* Who asks for the gateway's Ethernet address, or for the name server's, is told. */
 static void answer_arp(struct usernet *net, const uint8_t *frame, size_t length)
 {
     uint8_t answer[TUN_HEADER + ETHERNET_ANSWER] = {0}, *at = answer + TUN_HEADER;
-    size_t count = ethernet_answer(at, frame, length, GATEWAY, net->gateway);
+    size_t count = ethernet_answer(at, frame, length, GATEWAY_ETHERNET, net->gateway);
     if (count == 0)
-        count = ethernet_answer(at, frame, length, GATEWAY, net->resolver);
+        count = ethernet_answer(at, frame, length, GATEWAY_ETHERNET, net->resolver);
     if (count > 0)
         to_device(net->offloads ? answer : at, (net->offloads ? TUN_HEADER : 0) + count, net);
 }
@@ -86,7 +95,7 @@ static void answer_arp(struct usernet *net, const uint8_t *frame, size_t length)
 /* Nothing of it is left to the device, whose header is all zero where there is one. */
 static void send_chosen(struct usernet *net, size_t length, tcpcore_addr from, tcpcore_addr to, uint8_t protocol, const struct ip_choices *choices)
 {
-    uint8_t *frame = net->packet + ETHERNET_HEADER;
+    uint8_t *frame = segment_place(net) - TRAINS_FRONT;
     memset(frame, 0, TUN_HEADER);
     pass_down(net, frame, TUN_HEADER + ip_write_chosen(frame + TUN_HEADER, from, to, length, protocol, choices));
 }
@@ -104,19 +113,19 @@ void send_packet(struct usernet *net, size_t length, tcpcore_addr from, tcpcore_
 
 void send_train(struct usernet *net, tcpcore_addr from, const struct tcpcore_train *train)
 {
-    uint8_t *frame = net->packet + ETHERNET_HEADER;
+    uint8_t *frame = segment_place(net) - TRAINS_FRONT;
     pass_down(net, frame, trains_write(frame, from, train));
 }
 
 /* What decides which thread has a packet: its addresses and ports, or of an echo its identifier; of an error those of the packet that met
    it, the other way round. */
-static struct pair key_of(const struct ip_packet *packet, uint8_t protocol)
+static struct pair key_of(struct usernet *net, const struct ip_packet *packet, uint8_t protocol)
 {
     const uint8_t *bytes = packet->segment;
     struct icmp_error error;
-    if (protocol == IP_ICMP && icmp_read_error(packet, &error))
+    if (protocol == IP6_ICMP ? v6_read_error(net, &error) : protocol == IP_ICMP && icmp_read_error(packet, &error))
         return (struct pair){error.dst, error.src, error.dst_port, error.src_port, NULL};
-    if (protocol == IP_ICMP)
+    if (protocol == IP_ICMP || protocol == IP6_ICMP)
         return (struct pair){packet->src, packet->dst, icmp_id(bytes), 0, NULL};
     return (struct pair){packet->src, packet->dst, read16(bytes), read16(bytes + 2), NULL};
 }
@@ -125,8 +134,8 @@ static void take_packet(struct usernet *net, const struct ip_packet *packet, uin
 {
     if (protocol == IP_UDP)
         relays_datagram(net, packet, vouched);
-    else if (protocol == IP_ICMP)
-        relays_message(net, packet);
+    else if (protocol != IP_TCP)
+        relays_message(net, packet, protocol);
     else
         arrive(net, packet, vouched);
 }
@@ -138,7 +147,7 @@ static const uint8_t *without_ethernet(struct usernet *net, const uint8_t *bytes
     if (*length < ETHERNET_HEADER)
         return NULL;
     net->host = ethernet_src(bytes);
-    if (ethernet_type(bytes) != ETHERNET_IPV4) {
+    if (ethernet_type(bytes) != ETHERNET_IPV4 && ethernet_type(bytes) != ETHERNET_IPV6) {
         answer_arp(net, bytes, *length);
         return NULL;
     }
@@ -158,6 +167,13 @@ struct arrival {
 static int read_packet(struct usernet *net, struct arrival *arrival, struct ip_packet *found, uint8_t *protocol)
 {
     struct ip_net to = {.prefix = 32};
+    if (arrival->bytes[0] >> 4 == 6) {
+        int is_there = v6_read(net, arrival->bytes, arrival->length, arrival->vouched, found, protocol);
+        arrival->vouched = 1;
+        return is_there;
+    }
+    if (arrival->bytes[16] >= 224)
+        return 0;
     memcpy(&to.addr, arrival->bytes + 16, sizeof to.addr);
     int answer = ip_read_any(to, arrival->bytes, arrival->length, found, protocol);
     if (answer != IP_FRAGMENT)
@@ -191,16 +207,16 @@ static void from_device(const void *frame, size_t all, void *context)
         arrival.bytes = trains_read(frame, all, &arrival.length, &arrival.vouched);
     if (arrival.bytes && net->is_tap)
         arrival.bytes = without_ethernet(net, arrival.bytes, &arrival.length);
-    if (!arrival.bytes || arrival.length < IP_HEADER || arrival.bytes[16] >= 224)
+    if (!arrival.bytes || arrival.length < IP_HEADER)
         return;
     arrival.front_length = (size_t)(arrival.bytes - arrival.front);
-    if (!read_packet(net, &arrival, &found, &protocol) || (protocol != IP_TCP && protocol != IP_UDP && protocol != IP_ICMP))
+    if (!read_packet(net, &arrival, &found, &protocol) || (protocol != IP_TCP && protocol != IP_UDP && protocol != IP_ICMP && protocol != IP6_ICMP))
         return;
     if (found.length < (protocol == IP_TCP ? SEGMENT_HEADER : UDP_HEADER)) {
         count(net, MALFORMED, 1);
         return;
     }
-    struct pair key = key_of(&found, protocol);
+    struct pair key = key_of(net, &found, protocol);
     uint32_t owner = owner_of(net, &key);
     if (owner == net->index) {
         take_packet(net, &found, protocol, arrival.vouched);

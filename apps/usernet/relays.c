@@ -18,8 +18,10 @@ static struct relay *relay_of(struct link *link) { return (struct relay *)(void 
 
 static struct pairs *pairs_of(struct usernet *net, uint8_t protocol) { return protocol == IP_UDP ? &net->datagrams : &net->echoes; }
 
+static int kind_of(uint8_t protocol) { return protocol == IP_UDP ? 0 : protocol == IP_ICMP ? IPPROTO_ICMP : IPPROTO_ICMPV6; }
+
 /* Those that are soon over: questions to name servers, and echoes. */
-static int is_brief(const struct relay *relay) { return relay->protocol == IP_ICMP || relay->pair.server_port == DOMAIN_PORT; }
+static int is_brief(const struct relay *relay) { return relay->protocol != IP_UDP || relay->pair.server_port == DOMAIN_PORT; }
 
 /* A packet went through. */
 static void touch(struct usernet *net, struct relay *relay)
@@ -34,6 +36,7 @@ static void drop_relay(struct usernet *net, struct relay *relay)
 {
     pairs_remove(pairs_of(net, relay->protocol), &relay->pair);
     queue_leave(&relay->order);
+    v6_hold(net, &relay->pair, -1);
     if (relay->is_inward)
         pairs_remove(&net->inward, &relay->outer);
     else
@@ -94,11 +97,17 @@ void tell_unreachable(struct usernet *net, const struct pair *key, uint8_t proto
     uint8_t packet[IP_HEADER + UNREACHABLE_FRONT];
     if (!limits_answer(net))
         return;
+    count(net, UNREACHABLE, 1);
+    if (ip6_is_surrogate(key->client)) {
+        size_t in_v6 = v6_unreachable(net, key, protocol, front, code_of(fault));
+        if (in_v6 > 0)
+            send_packet(net, in_v6, key->server, key->client, IP6_ICMP);
+        return;
+    }
     size_t length = ip_write_any(packet, key->client, key->server, UNREACHABLE_FRONT, protocol);
     memcpy(packet + IP_HEADER, front, UNREACHABLE_FRONT);
     length = icmp_unreachable(segment_place(net), code_of(fault), packet, length);
     send_packet(net, length, key->server, key->client, IP_ICMP);
-    count(net, UNREACHABLE, 1);
 }
 
 /* The one that was silent for the longest time makes way for another. */
@@ -115,7 +124,7 @@ static void tell_sender(struct usernet *net, const struct pair *key, uint8_t pro
     if (protocol == IP_UDP)
         udp_write(front, key->client, key->client_port, key->server, key->server_port, 0);
     else
-        icmp_make_echo(front, ICMP_HEADER, ICMP_ECHO, key->client_port);
+        icmp_make_echo(front, ICMP_HEADER, protocol == IP_ICMP ? ICMP_ECHO : ICMP6_ECHO, key->client_port);
     tell_unreachable(net, key, protocol, front, fault);
 }
 
@@ -123,13 +132,14 @@ static void tell_sender(struct usernet *net, const struct pair *key, uint8_t pro
 static struct relay *new_relay(struct usernet *net, const struct pair *key, uint8_t protocol)
 {
     make_room(net);
-    int host = host_socket(net, key->server, key->server_port, SOCK_DGRAM, protocol == IP_UDP ? 0 : IPPROTO_ICMP);
+    int host = host_socket(net, key->server, key->server_port, SOCK_DGRAM, kind_of(protocol));
     struct relay *relay = host >= 0 ? malloc(sizeof *relay) : NULL;
     /* The lowest bit tells it from a connection. */
     struct epoll_event event = {.events = EPOLLIN, .data.u64 = (uint64_t)(uintptr_t)relay | 1};
     if (relay && epoll_ctl(net->events, EPOLL_CTL_ADD, host, &event) == 0) {
         *relay = (struct relay){.pair = *key, .socket = host, .protocol = protocol};
         pairs_add(pairs_of(net, protocol), &relay->pair);
+        v6_hold(net, &relay->pair, 1);
         count(net, FLOWS, 1);
         return relay;
     }
@@ -180,30 +190,34 @@ void relays_datagram(struct usernet *net, const struct ip_packet *packet, int vo
 }
 
 /* The gateway and the name server answer echoes themselves: there is no such host. */
-static int is_here(const struct usernet *net, tcpcore_addr addr)
+static int is_here(struct usernet *net, tcpcore_addr addr)
 {
+    const struct ip6_addr *v6 = ip6_is_surrogate(addr) ? v6_find(net, addr) : NULL;
+    if (v6)
+        return memcmp(v6, &V6_GATEWAY, sizeof *v6) == 0 || memcmp(v6, &V6_RESOLVER, sizeof *v6) == 0;
     return memcmp(&addr, &net->gateway, sizeof addr) == 0 || memcmp(&addr, &net->resolver, sizeof addr) == 0;
 }
 
-void relays_message(struct usernet *net, const struct ip_packet *packet)
+void relays_message(struct usernet *net, const struct ip_packet *packet, uint8_t protocol)
 {
-    if (!icmp_is_whole(packet)) {
+    int is_v6 = protocol == IP6_ICMP;
+    if (!is_v6 && !icmp_is_whole(packet)) {
         count(net, MALFORMED, 1);
         return;
     }
     struct pair key = {packet->src, packet->dst, icmp_id(packet->segment), 0, NULL};
     struct icmp_error error;
-    if (icmp_read_error(packet, &error))
+    if (is_v6 ? v6_read_error(net, &error) : icmp_read_error(packet, &error))
         conn_error(net, &error);
-    if (packet->segment[0] != ICMP_ECHO)
+    if (packet->segment[0] != (is_v6 ? ICMP6_ECHO : ICMP_ECHO))
         return;
     if (!is_here(net, packet->dst)) {
-        carry_out(net, &key, IP_ICMP, packet->segment, packet->length);
+        carry_out(net, &key, protocol, packet->segment, packet->length);
         return;
     }
     memcpy(segment_place(net), packet->segment, packet->length);
-    icmp_make_echo(segment_place(net), packet->length, ICMP_REPLY, key.client_port);
-    send_packet(net, packet->length, packet->dst, packet->src, IP_ICMP);
+    icmp_make_echo(segment_place(net), packet->length, is_v6 ? ICMP6_REPLY : ICMP_REPLY, key.client_port);
+    send_packet(net, packet->length, packet->dst, packet->src, protocol);
     count(net, DATAGRAMS, 1);
 }
 
@@ -223,7 +237,7 @@ static int carry_in(struct usernet *net, struct relay *relay)
     if (relay->protocol == IP_UDP)
         length = udp_write(place, pair->server, pair->server_port, pair->client, pair->client_port, length);
     else if (length >= ICMP_HEADER)
-        icmp_make_echo(place, length, ICMP_REPLY, pair->client_port);
+        icmp_make_echo(place, length, relay->protocol == IP_ICMP ? ICMP_REPLY : ICMP6_REPLY, pair->client_port);
     else
         return 1;
     send_packet(net, length, pair->server, pair->client, relay->protocol);

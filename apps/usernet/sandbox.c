@@ -88,22 +88,24 @@ static const int CALLS[] = {
     SCMP_SYS(rt_sigprocmask), SCMP_SYS(rt_sigreturn), SCMP_SYS(restart_syscall), SCMP_SYS(sched_yield), SCMP_SYS(sched_getaffinity), SCMP_SYS(set_robust_list),
     SCMP_SYS(rseq), SCMP_SYS(exit), SCMP_SYS(exit_group)};
 
-/* Beside them sockets of IPv4 alone, and files that are only read. Whatever else is called ends the program. */
-int sandbox_filter(void)
+/* Beside them sockets of IPv4, and of IPv6 where that is there, and files that are only read. Whatever else is called ends the program. */
+int sandbox_filter(int has_ipv6)
 {
     scmp_filter_ctx filter = seccomp_init(SCMP_ACT_KILL_PROCESS);
     int fault = !filter || seccomp_attr_set(filter, SCMP_FLTATR_CTL_TSYNC, 1) != 0;
     for (size_t at = 0; !fault && at < sizeof CALLS / sizeof CALLS[0]; at++)
         fault = seccomp_rule_add(filter, SCMP_ACT_ALLOW, CALLS[at], 0) != 0;
     fault = fault || seccomp_rule_add(filter, SCMP_ACT_ALLOW, SCMP_SYS(socket), 1, SCMP_A0(SCMP_CMP_EQ, AF_INET)) != 0 ||
+            (has_ipv6 && seccomp_rule_add(filter, SCMP_ACT_ALLOW, SCMP_SYS(socket), 1, SCMP_A0(SCMP_CMP_EQ, AF_INET6)) != 0) ||
             seccomp_rule_add(filter, SCMP_ACT_ALLOW, SCMP_SYS(openat), 1, SCMP_A2(SCMP_CMP_MASKED_EQ, O_ACCMODE | O_CREAT, O_RDONLY)) != 0 ||
             seccomp_load(filter) != 0;
     seccomp_release(filter);
     return !fault || fails("--enable-seccomp");
 }
 #else
-int sandbox_filter(void)
+int sandbox_filter(int has_ipv6)
 {
+    (void)has_ipv6;
     fputs("usernet: --enable-seccomp: built without libseccomp\n", stderr);
     return 0;
 }

@@ -98,6 +98,9 @@ static struct usernet *make(uint32_t index, int queue, const struct limits *all,
     net->limits = share_of(all, index);
     net->device = queue, net->offloads = told.device.offloads;
     net->is_tap = tun_is_tap(queue, net->host.byte);
+    net->mtu = told.device.mtu;
+    if (told.has_ipv6 && !(net->v6 = calloc((size_t)V6_SETS * V6_WAYS, sizeof *net->v6)))
+        return NULL;
     net->mss = (uint16_t)(told.device.mtu < 1500 ? told.device.mtu - HEADERS : 1460);
     net->own = host_of(100), net->gateway = host_of(2), net->resolver = host_of(3);
     net->up.percent = net->down.percent = (uint32_t)told.fault;
@@ -169,7 +172,7 @@ int main(int number, char **words)
     for (uint32_t net = 1; net < shared.threads; net++)
         if (pthread_create(&others[net], NULL, run, shared.all[net]) != 0)
             return perror("threads"), 1;
-    if (told.is_filtered && !sandbox_filter())
+    if (told.is_filtered && !sandbox_filter(told.has_ipv6))
         return 1;
     tell_ready();
     loop_run(shared.all[0], signals, told.exits == NO_DESCRIPTOR ? -1 : (int)told.exits, read_signal);

@@ -14,7 +14,9 @@
 #include "companions/faults.h"
 #include "companions/fragments.h"
 #include "companions/icmp.h"
+#include "companions/icmp6.h"
 #include "companions/ip.h"
+#include "companions/ip6.h"
 #include "companions/pairs.h"
 #include "companions/path.h"
 #include "companions/timers.h"
@@ -32,6 +34,9 @@ enum { CAPACITY = 262144, LEAST_CAPACITY = 8192, SHIFT = 3, BUCKETS = 65536, FLO
 
 /* The most threads, and ports that are published; the queues of half-open connections by their destination. */
 enum { THREADS = 64, LISTENERS = 256, PLACES = 4096 };
+
+/* The IPv6 addresses that a thread knows at once: in so many sets, of so many each. */
+enum { V6_SETS = 16384, V6_WAYS = 4 };
 
 /* The packets that a thread puts together from their pieces at once. */
 enum { CUT = 8 };
@@ -84,9 +89,17 @@ struct relay {
     struct relay *next;  /* of those that were dropped */
     uint64_t since;     /* when one went through last */
     int socket;
-    uint8_t protocol;   /* IP_UDP or IP_ICMP */
+    uint8_t protocol;   /* IP_UDP, IP_ICMP or IP6_ICMP */
     uint8_t is_inward;  /* whether its socket is a published port's */
     uint8_t is_dropped; /* whether it waits to be freed */
+};
+
+/* An IPv6 address, and the address that stands for it. */
+struct v6_entry {
+    struct ip6_addr addr;
+    tcpcore_addr surrogate;
+    uint32_t uses;    /* by connections and relays */
+    uint64_t entered; /* when it came, before others or behind them; 0 where there is none */
 };
 
 /* What is counted. */
@@ -141,6 +154,7 @@ struct shared {
     struct usernet *all[THREADS];
     uint32_t threads;
     struct in_addr outbound;                   /* the address from which the host's sockets connect; all zero: the system's choice */
+    struct in6_addr outbound6;                 /* the same of IPv6 */
     int has_loopback, has_dns;                 /* whether the host's loopback and its name server are reached */
     pthread_mutex_t lock;                      /* of what is published */
     struct published published[LISTENERS];
@@ -159,10 +173,14 @@ struct usernet {
     int offloads;              /* whether trains of segments are exchanged with the device */
     int is_tap;                /* whether packets lie behind Ethernet headers */
     struct ethernet_addr host; /* then: the namespace's address, as its last frame has it */
+    uint32_t mtu;              /* of the device */
     uint16_t mss, next_port;   /* the maximum segment size; the last of the gateway's ports that was tried */
     uint16_t next_id;          /* the identification of the last packet that may be cut */
     tcpcore_addr own, gateway; /* the namespace's address, and that which means the host's loopback */
     tcpcore_addr resolver;     /* that which means the host's name server */
+    struct v6_entry *v6;           /* NULL where there is no IPv6 */
+    uint64_t v6_entered;      /* how many were entered */
+    struct ip6_packet v6_packet; /* the last one that came */
     struct timespec read_at;   /* the age of the file of name servers when it was read */
     struct in_addr nameserver; /* the first one in it */
     uint64_t now;              /* milliseconds */
@@ -188,7 +206,7 @@ struct usernet {
     struct faults up, down;    /* the path between device and ends */
     uint8_t frame[TUN_HEADER + ETHERNET_HEADER + 65535]; /* what the device gave */
     uint8_t front[TUN_HEADER + ETHERNET_HEADER];         /* what a packet that was put together has in front */
-    uint8_t packet[ETHERNET_HEADER + TRAINS_ROOM]; /* what the device is given */
+    uint8_t packet[ETHERNET_HEADER + IP6_MORE + TRAINS_ROOM]; /* what the device is given */
     uint8_t text[CAPACITY];    /* what a socket gave */
 };
 
@@ -203,10 +221,35 @@ static inline void count(struct usernet *net, enum counter which, uint64_t numbe
 uint32_t owner_of(struct usernet *net, const struct pair *pair);
 
 /* A segment for the namespace is written to segment_place, then sent: summed and of `length` bytes, or what tcpcore_emit_train wrote. */
-static inline uint8_t *segment_place(struct usernet *net) { return net->packet + ETHERNET_HEADER + TRAINS_FRONT; }
+static inline uint8_t *segment_place(struct usernet *net) { return net->packet + ETHERNET_HEADER + IP6_MORE + TRAINS_FRONT; }
 void send_segment(struct usernet *net, size_t length, tcpcore_addr from, tcpcore_addr to, int may_be_cut);
 void send_packet(struct usernet *net, size_t length, tcpcore_addr from, tcpcore_addr to, uint8_t protocol);
 void send_train(struct usernet *net, tcpcore_addr from, const struct tcpcore_train *train);
+
+/* A packet behind the device's header, with room for an Ethernet header before both, goes to the device. */
+void pass_on_wire(struct usernet *net, uint8_t *frame, size_t length);
+
+/* The gateway's address on Ethernet, and the name server's. */
+extern const struct ethernet_addr GATEWAY_ETHERNET;
+
+/* ipv6.c: addresses that mean the host's loopback and its name server. */
+extern const struct ip6_addr V6_GATEWAY, V6_RESOLVER;
+
+/* The address of a surrogate, or NULL. A pair holds its two (1), or lets go of them (-1). */
+const struct ip6_addr *v6_find(struct usernet *net, tcpcore_addr surrogate);
+void v6_hold(struct usernet *net, const struct pair *pair, int change);
+
+/* Reads a packet, whose checksum needs no look where `vouched` and afterwards; its addresses are surrogates. Whether there is one. */
+int v6_read(struct usernet *net, const uint8_t *bytes, size_t length, int vouched, struct ip_packet *found, uint8_t *protocol);
+
+/* Of the packet that v6_read found last: whether it is an error, of which the addresses are surrogates. */
+int v6_read_error(struct usernet *net, struct icmp_error *error);
+
+/* As icmp_unreachable, at segment_place and without its checksum: of a packet with these surrogates. Its length, or 0. */
+size_t v6_unreachable(struct usernet *net, const struct pair *key, uint8_t protocol, const uint8_t *front, uint8_t code);
+
+/* A frame with an IPv4 packet between surrogates becomes one between their addresses, which begins before it; NULL where one isn't known. */
+uint8_t *v6_write(struct usernet *net, uint8_t *frame, size_t *length);
 
 /* Makes what a thread has; whether it could. */
 int loop_init(struct usernet *net, const uint8_t secret[16]);
@@ -275,7 +318,7 @@ void tell_unreachable(struct usernet *net, const struct pair *key, uint8_t proto
 /* A datagram or an ICMP message came from the namespace; a socket of a relay has something, or that of the published port at this
    place; all relays of that one go; those that were silent for long go; those that were dropped are freed; all go. */
 void relays_datagram(struct usernet *net, const struct ip_packet *packet, int vouched);
-void relays_message(struct usernet *net, const struct ip_packet *packet);
+void relays_message(struct usernet *net, const struct ip_packet *packet, uint8_t protocol);
 void relays_readable(struct usernet *net, struct relay *relay);
 void relays_inward(struct usernet *net, const struct published *published, uint64_t place);
 void relays_remove(struct usernet *net, uint64_t place);
@@ -320,6 +363,7 @@ struct words {
     uint64_t ready, exits; /* descriptors, or NO_DESCRIPTOR: one is written to once all is there, the other's end ends the program */
     uint32_t network;      /* its number, without the host's */
     const char *api;       /* the path of the API's socket, or NULL */
+    int has_ipv6;           /* whether there is IPv6 */
     int is_path;           /* whether the namespace is named by its file */
     int shows;             /* whether counts are reported */
     int is_boxed, is_filtered; /* whether what isn't needed is given up: files and rights; calls of the system */
@@ -328,9 +372,9 @@ struct words {
 #define NO_DESCRIPTOR UINT64_MAX
 
 /* sandbox.c: with one thread, before the others are made: nothing of the file system is left but /etc and /run to be read, and no right. Then,
-   of all threads: no call of the system is left but those that the loop makes. Whether it could be done. */
+   of all threads: no call of the system is left but those that the loop makes, with sockets of IPv6 or without. Whether it could be done. */
 int sandbox_enter(const struct words *told);
-int sandbox_filter(void);
+int sandbox_filter(int has_ipv6);
 
 /* Reads the program's words, which may publish ports. Answers below 0 where it goes on, else the status to end with. */
 int words_read(int number, char **words, struct words *told, struct shared *shared);

@@ -12,7 +12,7 @@
 
 static const char USAGE[] =
     "usernet [OPTION ..] PID|PATH [DEVICE]\n"
-    "The network of a namespace, in user space: TCP, UDP and echoes over IPv4. PID is a process in the namespace, or with --netns-type=path PATH\n"
+    "The network of a namespace, in user space: TCP, UDP and echoes over IPv4 and IPv6. PID is a process in the namespace, or with --netns-type=path PATH\n"
     "is its file. The namespace is 10.0.2.100; 10.0.2.2 leads to the host's loopback, and 10.0.2.3 to its name server. DEVICE is the name that\n"
     "the namespace's TUN device gets (tun0), or of a TAP device that is there.\n"
     "\n"
@@ -22,7 +22,9 @@ static const char USAGE[] =
     "                             list_hostfwd, remove_hostfwd\n"
     "  --disable-host-loopback    10.0.2.2 leads nowhere\n"
     "  --disable-dns              10.0.2.3 leads nowhere\n"
-    "  --outbound-addr ADDRESS    connects from this address of the host\n"
+    "  --outbound-addr ADDRESS, --outbound-addr6 ADDRESS\n"
+    "                             connects from this address of the host\n"
+    "  -6, --enable-ipv6          IPv6, too: the namespace is fd00::100, fd00::2 leads to the host's loopback, fd00::3 to its name server\n"
     "  --cidr ADDRESS/PREFIX      the network, of at most 25 bits, in place of 10.0.2.0/24; its hosts keep their last numbers\n"
     "  -m, --mtu N                of the device, 576 to 65535 (1500)\n"
     "  -r, --ready-fd FD          writes 1 to this descriptor once the network is there\n"
@@ -138,7 +140,7 @@ static int read_option(const char *name, const char *value, struct words *told, 
 {
     const struct { const char *name; int *flag, value; } FLAGS[] = {
         {"stats", &told->shows, 1}, {"no-offloads", &told->device.offloads, 0}, {"configure", &told->device.configures, 1},
-        {"enable-sandbox", &told->is_boxed, 1}, {"enable-seccomp", &told->is_filtered, 1}, {"disable-host-loopback", &shared->has_loopback, 0},
+        {"enable-sandbox", &told->is_boxed, 1}, {"enable-seccomp", &told->is_filtered, 1}, {"enable-ipv6", &told->has_ipv6, 1}, {"disable-host-loopback", &shared->has_loopback, 0},
         {"disable-dns", &shared->has_dns, 0}};
     for (size_t at = 0; at < sizeof FLAGS / sizeof FLAGS[0]; at++)
         if (strcmp(name, FLAGS[at].name) == 0)
@@ -153,6 +155,8 @@ static int read_option(const char *name, const char *value, struct words *told, 
         return told->api = value, *value != 0;
     if (strcmp(name, "outbound-addr") == 0)
         return inet_pton(AF_INET, value, &shared->outbound) == 1;
+    if (strcmp(name, "outbound-addr6") == 0)
+        return inet_pton(AF_INET6, value, &shared->outbound6) == 1;
     if (strcmp(name, "publish") == 0)
         return publish(value, shared);
     if (strcmp(name, "cidr") == 0)
@@ -185,7 +189,7 @@ static int read_rest(char **words, struct words *told)
 static const struct option OPTIONS[] = {
     {"configure", 0, 0, 'c'}, {"mtu", 1, 0, 'm'}, {"ready-fd", 1, 0, 'r'}, {"exit-fd", 1, 0, 'e'}, {"help", 0, 0, 'h'}, {"version", 0, 0, 'v'},
     {"publish", 1, 0, 0}, {"disable-host-loopback", 0, 0, 0}, {"disable-dns", 0, 0, 0}, {"enable-sandbox", 0, 0, 0}, {"enable-seccomp", 0, 0, 0},
-    {"outbound-addr", 1, 0, 0}, {"cidr", 1, 0, 0}, {"api-socket", 1, 0, 'a'},
+    {"outbound-addr", 1, 0, 0}, {"cidr", 1, 0, 0}, {"api-socket", 1, 0, 'a'}, {"enable-ipv6", 0, 0, '6'}, {"outbound-addr6", 1, 0, 0},
     {"netns-type", 1, 0, 0}, {"userns-path", 1, 0, 0}, {"netns", 1, 0, 0}, {"threads", 1, 0, 0}, {"no-offloads", 0, 0, 0}, {"stats", 0, 0, 0},
     {"fault", 1, 0, 0}, {"connections", 1, 0, 0}, {"half-open", 1, 0, 0}, {"half-open-each", 1, 0, 0}, {"memory", 1, 0, 0}, {"flows", 1, 0, 0},
     {"ports", 1, 0, 0}, {"strays", 1, 0, 0}, {"quiet", 1, 0, 0}, {0}};
@@ -209,7 +213,7 @@ static int read_options(int number, char **words, struct words *told, struct sha
 {
     int letter, place = 0;
     opterr = 0;
-    while ((letter = getopt_long(number, words, "cm:r:e:a:hv", OPTIONS, &place)) != -1) {
+    while ((letter = getopt_long(number, words, "cm:r:e:a:6hv", OPTIONS, &place)) != -1) {
         if (letter == 'h')
             return fputs(USAGE, stdout), 0;
         if (letter == 'v')
@@ -239,6 +243,7 @@ int words_read(int number, char **words, struct words *told, struct shared *shar
     told->device.mtu = (uint32_t)told->mtu;
     told->device.addr = told->network + 100;
     told->device.gateway = told->network + 2;
+    told->device.has_ipv6 = told->has_ipv6;
     shared->threads = (uint32_t)told->threads;
     aim_published(shared, told->device.addr);
     return has_shares(told) ? -1 : 1;
