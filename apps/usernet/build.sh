@@ -14,4 +14,4 @@ mkdir -p out
 ${CC:-gcc} $flags "$@" -pthread usernet.c words.c loop.c conn.c host.c relays.c carry.c limits.c ports.c api.c json.c ipv6.c sandbox.c $companions ../../c/tcpcore/tcpcore.c "$library" \
     $seccomp -o "out/${PROGRAM:-usernet}"
 [[ -z $seccomp ]] || ${CC:-gcc} $flags sandbox_test.c sandbox.c $seccomp -o out/sandbox_test
-${CC:-gcc} $flags fuzz.c fuzz_packets.c ../../c/companions/icmp.c ../../c/companions/ip.c ../../c/companions/trains.c ../../c/companions/udp.c -o out/fuzz
+${CC:-gcc} $flags fuzz.c fuzz_packets.c $(printf ' ../../c/companions/%s.c' icmp icmp6 ip ip6 table trains udp) ../../c/tcpcore/tcpcore.c "$library" -o out/fuzz

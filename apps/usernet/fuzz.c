@@ -335,7 +335,7 @@ static void endings(void)
 static const struct kind { const char *name; void (*make)(void); } KINDS[] = {
     {"bad_syns", bad_syns}, {"options", options}, {"half_open", half_open}, {"resets", resets}, {"scan", scan}, {"windows", windows}, {"storm", storm},
     {"noise", noise}, {"packets", packets}, {"endings", endings}, {"one_place", one_place},
-    {"unfit", unfit}, {"datagrams", datagrams}, {"messages", messages}, {"errors", errors}, {"pieces", pieces}};
+    {"unfit", unfit}, {"datagrams", datagrams}, {"messages", messages}, {"errors", errors}, {"pieces", pieces}, {"sixes", sixes}};
 enum { COUNT = sizeof KINDS / sizeof KINDS[0] };
 
 static int open_device(const char *name)

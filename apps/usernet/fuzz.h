@@ -2,7 +2,7 @@
 #ifndef USERNET_FUZZ_H
 #define USERNET_FUZZ_H
 
-#include "companions/icmp.h"
+#include "companions/icmp6.h"
 #include "companions/segment.h"
 #include "companions/trains.h"
 #include "companions/udp.h"
@@ -40,5 +40,6 @@ void datagrams(void);
 void messages(void);
 void errors(void);
 void pieces(void);
+void sixes(void);
 
 #endif

@@ -109,3 +109,75 @@ void pieces(void)
     write16(packet + 10, (uint16_t)~words_sum(packet, IP_HEADER, 0));
     put(frame, TRAINS_FRONT + length);
 }
+
+/* An address of IPv6: one that answers, names, a neighbour's, an IPv4 address in another form, many hosts, one of few or any. */
+static struct ip6_addr somewhere6(void)
+{
+    static const struct ip6_addr SOME_ADDRS[] = {{{0xfd, [15] = 2}}, {{0xfd, [15] = 3}}, {{0xfe, 0x80, [15] = 2}}, {{[10] = 0xff, [11] = 0xff, [12] = 127, [15] = 1}},
+                                                 {{0xff, 2, [15] = 1}}, {{[15] = 1}}, {{0xfd, [15] = 2}}};
+    uint32_t drawn = draw(10);
+    struct ip6_addr addr = {{0x20, 1, [14] = (uint8_t)draw(256), [15] = (uint8_t)draw(256)}};
+    if (drawn < 7)
+        return SOME_ADDRS[drawn];
+    for (int at = 2; drawn == 7 && at < 16; at++)
+        addr.byte[at] = (uint8_t)draw(256);
+    return addr;
+}
+
+/* What a message of ICMPv6 is made of: an echo, an error that quotes a segment, a question to neighbours, or anything; its length. */
+static size_t draw_message(uint8_t *out)
+{
+    static const uint8_t TYPES[] = {1, 2, 2, 3, 4, 128, 128, 129, 133, 135, 135, 136};
+    uint8_t quoted[8];
+    struct ip6_addr one = somewhere6(), other = somewhere6();
+    for (size_t at = 0; at < sizeof quoted; at++)
+        quoted[at] = (uint8_t)draw(256);
+    size_t length = icmp6_unreachable(out, (uint8_t)draw(8), one, other, draw(4) ? IP_TCP : (uint8_t)draw(256), quoted);
+    out[0] = draw(8) ? TYPES[draw(sizeof TYPES)] : (uint8_t)draw(256);
+    write16(out + 6, (uint16_t)(draw(2) ? draw(2000) : draw(65536)));
+    if (out[0] == 135)
+        memcpy(out + 8, &one, sizeof one);
+    return draw(4) ? length : 8 + draw((uint32_t)length - 8);
+}
+
+/* A segment's header with a SYN or without, or anything; its length. */
+static size_t draw_segment(uint8_t *out)
+{
+    static const uint16_t PORTS[] = {8081, 8082, 9, 53};
+    size_t length = SEGMENT_HEADER + (draw(2) ? 0 : draw(100));
+    for (size_t at = 0; at < length; at++)
+        out[at] = (uint8_t)draw(256);
+    write16(out, (uint16_t)(FIRST + draw(64)));
+    write16(out + 2, PORTS[draw(4)]);
+    if (draw(4))
+        out[AT_OFFSET] = SEGMENT_HEADER / 4 << 4, out[AT_BITS] = draw(2) ? SYN : (uint8_t)draw(32);
+    return length;
+}
+
+/* Packets of IPv6: segments, datagrams, messages, behind extension headers or not, pieces, and sums that are wrong or left out. */
+void sixes(void)
+{
+    static uint8_t frame[TUN_HEADER + IP6_HEADER + 1000];
+    static const uint8_t PROTOCOLS[] = {IP_TCP, IP_TCP, IP_UDP, IP6_ICMP, IP6_ICMP}, EXTENSIONS[] = {0, 60, 43, 44};
+    struct virtio_net_hdr front = {0};
+    struct ip6_addr src = draw(8) ? (struct ip6_addr){{0xfd, [14] = 2, [15] = (uint8_t)draw(8)}} : somewhere6(), dst = somewhere6();
+    uint8_t protocol = PROTOCOLS[draw(sizeof PROTOCOLS)], *packet = frame + TUN_HEADER, *at = packet + IP6_HEADER;
+    size_t extension = draw(8) ? 0 : 8 * (1 + (size_t)draw(3)), length = protocol == IP6_ICMP ? draw_message(at + extension) : draw_segment(at + extension);
+    struct ip6_packet made = {src, dst, protocol, 0, at + extension, length};
+    uint8_t *sum = at + extension + (protocol == IP_TCP ? AT_CHECKSUM : protocol == IP_UDP ? 6 : 2);
+    if (protocol == IP_UDP)
+        write16(at + extension + 4, (uint16_t)(draw(8) ? length : draw(65536)));
+    write16(sum, 0);
+    write16(sum, (uint16_t)~ip6_sum(&made));
+    if (draw(10) == 0)
+        *sum ^= 0x55;
+    if (draw(8) == 0)
+        front.flags = VIRTIO_NET_HDR_F_NEEDS_CSUM, front.csum_start = IP6_HEADER, front.csum_offset = (uint16_t)(sum - (at + extension));
+    ip6_write(packet, src, dst, extension + length, extension ? EXTENSIONS[draw(4)] : protocol, draw(2) ? IP6_ALL_HOPS : IP6_HOPS);
+    if (extension)
+        memset(at, 0, extension), at[0] = protocol, at[1] = (uint8_t)(draw(8) ? extension / 8 - 1 : draw(256));
+    if (draw(20) == 0)
+        packet[draw(IP6_HEADER)] = (uint8_t)draw(256);
+    memcpy(frame, &front, TUN_HEADER);
+    put(frame, TUN_HEADER + IP6_HEADER + extension + length - (draw(16) ? 0 : draw((uint32_t)length)));
+}

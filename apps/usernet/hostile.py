@@ -22,7 +22,7 @@ from world import CLIENTS, GATEWAY, HERE, SERVERS, need
 
 # What --help tells, and the most descriptors that are for no connection.
 CONNECTIONS, HALF_OPEN, EACH, FLOWS, SPARE = 4096, 1024, 256, 1024, 64
-KINDS = "resets", "options", "half_open", "scan", "windows", "storm", "noise", "packets", "endings", "datagrams", "messages", "errors", "pieces"
+KINDS = "resets", "options", "half_open", "scan", "windows", "storm", "noise", "packets", "endings", "datagrams", "messages", "errors", "pieces", "sixes"
 # Seconds within which a client is served, whatever else goes on.
 SOON = 10
 
@@ -263,7 +263,7 @@ def calls(place, packets, seed):
     small = ["--connections", 50, "--half-open", 20, "--half-open-each", 10, "--memory", 4]
     yield words, (), ["--threads", 1]
     for threads in 1, 4:
-        told = ["--threads", threads]
+        told = ["--threads", threads, "--enable-ipv6"]
         yield no_segments, (), told
         for kind in KINDS:
             yield one_kind, (kind, packets // 2 // len(KINDS), seed), [*told, "--no-offloads"]
