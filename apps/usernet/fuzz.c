@@ -247,7 +247,7 @@ static void scan(void)
 }
 
 /* Text to the echo, whose answers find windows of nothing, of a few bytes, or of much. */
-static void windows(void)
+void windows(void)
 {
     struct flow *flow = some_flow(OPEN);
     if (flow->phase != OPEN) {

@@ -34,6 +34,9 @@ void put(const uint8_t *frame, size_t length);
 /* A flow of this or any phase. */
 struct flow *some_flow(int phase);
 
+/* Text to an open connection, or a SYN. */
+void windows(void);
+
 /* fuzz_packets.c: what is no segment. */
 void packets(void);
 void datagrams(void);

@@ -74,6 +74,10 @@ void errors(void)
     uint8_t *bytes = frame + TRAINS_FRONT, quoted[60] = {0};
     const struct flow *flow = some_flow(OPEN);
     uint32_t seq = flow->ack - (draw(4) ? draw(3000) : draw32());
+    if (flow->phase != OPEN || draw(2)) { /* so that something is in flight */
+        windows();
+        return;
+    }
     ip_write_any(quoted, flow->server, CLIENT, draw(2) ? 1480 : draw(1481), draw(16) ? IP_TCP : (uint8_t)draw(256));
     write16(quoted + IP_HEADER, flow->server_port);
     write16(quoted + IP_HEADER + 2, (uint16_t)(FIRST + (flow - flows)));
@@ -89,25 +93,46 @@ void errors(void)
     go_as(frame, flow->server, length, IP_ICMP, 2);
 }
 
-/* Pieces of few packets, of all protocols: in order or not, overlapping, of nothing, past the end of all packets. */
-void pieces(void)
+/* A piece that begins at so many times 8 bytes. */
+static void go_piece(const uint8_t *text, size_t length, tcpcore_addr to, uint8_t protocol, uint16_t id, uint32_t place, int is_last)
 {
     static uint8_t frame[TRAINS_ROOM];
-    static const uint8_t PROTOCOLS[] = {IP_UDP, IP_UDP, IP_TCP, IP_ICMP, 99};
-    uint8_t *packet = frame + TUN_HEADER, *bytes = frame + TRAINS_FRONT;
-    size_t length = draw(4) ? 8 * (size_t)draw(100) : draw(1400);
-    uint32_t place = draw(4) ? draw(40) : draw(8192);
-    struct ip_choices choices = {.may_be_cut = 1, .id = (uint16_t)draw(draw(2) ? 4 : 65536)};
-    memset(frame, 0, TUN_HEADER);
-    for (size_t at = 0; at < length; at++)
-        bytes[at] = (uint8_t)draw(256);
-    if (place == 0 && length >= UDP_HEADER)
-        udp_write(bytes, CLIENT, (uint16_t)draw(65536), somewhere(), 8090, length - UDP_HEADER);
-    ip_write_chosen(packet, CLIENT, somewhere(), length, PROTOCOLS[draw(sizeof PROTOCOLS)], &choices);
-    write16(packet + 6, (uint16_t)((draw(3) ? 0x2000 : 0) | (place & 0x1fff)));
+    uint8_t *packet = frame + TUN_HEADER;
+    struct ip_choices choices = {.may_be_cut = 1, .id = id};
+    memcpy(frame + TRAINS_FRONT, text, length);
+    ip_write_chosen(packet, CLIENT, to, length, protocol, &choices);
+    write16(packet + 6, (uint16_t)((is_last ? 0 : 0x2000) | (place & 0x1fff)));
     write16(packet + 10, 0);
     write16(packet + 10, (uint16_t)~words_sum(packet, IP_HEADER, 0));
     put(frame, TRAINS_FRONT + length);
+}
+
+/* Pieces of packets: in order, with some lost, doubled or changed; or of few packets, overlapping, of nothing, past the end of all. */
+void pieces(void)
+{
+    static uint8_t text[8000];
+    static const uint8_t PROTOCOLS[] = {IP_UDP, IP_UDP, IP_TCP, IP_ICMP, 99};
+    uint8_t protocol = PROTOCOLS[draw(sizeof PROTOCOLS)];
+    tcpcore_addr to = somewhere();
+    uint16_t id = (uint16_t)draw(draw(2) ? 4 : 65536);
+    size_t length = draw(4) ? 8 * (size_t)draw(100) : draw(1400);
+    for (size_t at = 0; at < length; at++)
+        text[at] = (uint8_t)draw(256);
+    if (draw(2)) {
+        go_piece(text, length, to, protocol, id, draw(4) ? draw(40) : draw(8192), draw(3) == 0);
+        return;
+    }
+    length = UDP_HEADER + draw(sizeof text - UDP_HEADER);
+    if (protocol == IP_UDP)
+        udp_write(text, CLIENT, (uint16_t)draw(65536), to, 8090, length - UDP_HEADER);
+    else
+        icmp_make_echo(text, length, ICMP_ECHO, (uint16_t)draw(65536));
+    size_t each = 8 * (1 + (size_t)draw(150));
+    for (size_t from = 0; from < length; from += each)
+        for (uint32_t left = draw(30) ? 1 : draw(3); left > 0; left--) {
+            size_t count = length - from < each ? length - from : each;
+            go_piece(text + from, count, to, protocol, id, (uint32_t)from / 8, from + count == length);
+        }
 }
 
 /* An address of IPv6: one that answers, names, a neighbour's, an IPv4 address in another form, many hosts, one of few or any. */

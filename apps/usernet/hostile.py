@@ -16,6 +16,7 @@ import subprocess
 import sys
 import time
 
+import ipv6
 import publishing
 import world
 from world import CLIENTS, GATEWAY, HERE, SERVERS, need
@@ -35,6 +36,7 @@ class Hostile(world.World):
     def start_servers(self, stack):
         os.environ["ASAN_OPTIONS"] = os.environ["UBSAN_OPTIONS"] = f"log_path={self.folder}/report:print_stacktrace=1"
         self.start_server(stack, sys.executable, HERE / "world.py", "--serve")
+        stack.enter_context(ipv6.servers(self))
         self.server("ip", "link", "add", "silent", "type", "veth", "peer", "name", "nobody")
         self.server("ip", "addr", "add", "198.51.100.2/24", "dev", "silent")
         for device in "silent", "nobody":
