@@ -147,7 +147,8 @@ static int emit_train(struct usernet *net, struct conn *conn)
     if (!goes(net, conn, &train.whole))
         return 1;
     fit(&conn->path, &train);
-    path_sent(&conn->path, train.whole.position + train.whole.count, IP_HEADER + (size_t)(train.header + (train.segments > 1 ? train.each : train.whole.count)));
+    uint64_t text = train.segments > 1 ? train.each : train.whole.count;
+    path_sent(&conn->path, train.whole.position + train.whole.count, IP_HEADER + (size_t)(train.header + text));
     send_train(net, conn->pair.server, &train);
     return 1;
 }

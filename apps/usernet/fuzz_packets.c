@@ -138,8 +138,9 @@ void pieces(void)
 /* An address of IPv6: one that answers, names, a neighbour's, an IPv4 address in another form, many hosts, one of few or any. */
 static struct ip6_addr somewhere6(void)
 {
-    static const struct ip6_addr SOME_ADDRS[] = {{{0xfd, [15] = 2}}, {{0xfd, [15] = 3}}, {{0xfe, 0x80, [15] = 2}}, {{[10] = 0xff, [11] = 0xff, [12] = 127, [15] = 1}},
-                                                 {{0xff, 2, [15] = 1}}, {{[15] = 1}}, {{0xfd, [15] = 2}}};
+    static const struct ip6_addr SOME_ADDRS[] = {
+        {{0xfd, [15] = 2}}, {{0xfd, [15] = 3}}, {{0xfe, 0x80, [15] = 2}}, {{[10] = 0xff, [11] = 0xff, [12] = 127, [15] = 1}},
+        {{0xff, 2, [15] = 1}}, {{[15] = 1}}, {{0xfd, [15] = 2}}};
     uint32_t drawn = draw(10);
     struct ip6_addr addr = {{0x20, 1, [14] = (uint8_t)draw(256), [15] = (uint8_t)draw(256)}};
     if (drawn < 7)

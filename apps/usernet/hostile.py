@@ -239,7 +239,7 @@ def api_noise(place, packets, seed):
     words = place.words(CLIENTS, [HERE / "out/fuzz", "all", packets, seed])
     with world.Child(words, stdout=subprocess.DEVNULL) as fuzz:
         publishing.noise(str(place.folder / "api.sock"), seed, 2000)
-        fuzz.wait(60)
+        fuzz.wait(world.LIMIT)
     place.served()
     place.ends()
 

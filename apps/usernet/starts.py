@@ -131,7 +131,7 @@ def descriptors_told(place):
     watched, held = os.pipe()
     space = "--netns-type=path", f"/run/netns/{world.CLIENTS}"
     boxes = [] if "WITHOUT_SECCOMP" in os.environ else ["--enable-sandbox", "--enable-seccomp"]
-    words = ["--disable-host-loopback", "--mtu=65520", *boxes, "-c", "-e", watched, "-r", tells, *space, "tap0"]
+    words = ["--disable-host-loopback", "--mtu=65520", *boxes, "--enable-ipv6", "-c", "-e", watched, "-r", tells, *space, "tap0"]
     words.insert(0, world.HERE / "out" / place.program_name)
     with world.Child(place.words(world.SERVERS, words), stdout=subprocess.DEVNULL, pass_fds=(tells, watched)) as child:
         need("ready", os.read(ready, 9), b"1")

@@ -3,10 +3,11 @@
  *     usernet [OPTION ..] PID|PATH [DEVICE]
  * Each connection of the namespace ends in an end of ours (../../c/tcpcore/tcpcore.h), behind which a socket of the host goes
  * on to the same address and port; datagrams and echoes go through sockets of the host's, too. 10.0.2.2 is the host's loopback,
- * 10.0.2.3 its name server, 10.0.2.100 the namespace. IPv4 alone. It prints "ready", ends on SIGTERM or SIGINT with every connection reset, and reports counts
- * and bytes held with --stats, at its end and on SIGUSR1. --threads runs so many, each with a queue of the device and the
- * connections that a hash deals to it. --fault loses, doubles and delays so many percent, for tests. What the namespace can hold
- * is limited: --help tells how, and all other words. Where the device is deleted it ends with status 1.
+ * 10.0.2.3 its name server, 10.0.2.100 the namespace; with -6 fd00::2, fd00::3 and fd00::100 are, too. It prints "ready", ends on
+ * SIGTERM or SIGINT with every connection reset, and reports counts and bytes held with --stats, at its end and on SIGUSR1.
+ * --threads runs so many, each with a queue of the device and the connections that a hash deals to it. --fault loses, doubles and
+ * delays so many percent, for tests. What the namespace can hold is limited: --help tells how, and all other words. Where the
+ * device is deleted it ends with status 1.
  */
 #define _GNU_SOURCE
 #include "usernet.h"

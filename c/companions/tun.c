@@ -95,6 +95,13 @@ static int bring_up_v6(const struct tun_config *config, int is_tap)
     return bad ? fails(config->name) : 0;
 }
 
+static int bring_up_all(const struct tun_config *config, int is_tap)
+{
+    if (config->has_ipv6)
+        ask_nobody(config->name);
+    return bring_up(config, is_tap) != 0 || (config->has_ipv6 && bring_up_v6(config, is_tap) != 0);
+}
+
 /* Attaches to the device, and makes it where it isn't there. */
 static int attach(const struct tun_config *config, int device, short kind)
 {
@@ -142,9 +149,7 @@ static int make(const struct tun_config *config, int channel, uint32_t count)
     for (uint32_t at = 0; at < count; at++) {
         int device = queue(config, count > 1 ? IFF_MULTI_QUEUE : 0), is_tap = device >= 0 && tun_is_tap(device, (uint8_t[6]){0});
         int comes_up = at == 0 && (!is_tap || config->configures);
-        if (comes_up && config->has_ipv6)
-            ask_nobody(config->name);
-        if (device < 0 || (comes_up && bring_up(config, is_tap) != 0) || (comes_up && config->has_ipv6 && bring_up_v6(config, is_tap) != 0) || pass(channel, device) != 0)
+        if (device < 0 || (comes_up && bring_up_all(config, is_tap) != 0) || pass(channel, device) != 0)
             return -1;
     }
     return 0;

@@ -178,6 +178,13 @@ static void errors(void)
     message[0] = ICMP_EXPIRED;
     CHECK(is_error(message, length, &found), 1);
     CHECK(found.mtu, 0);
+}
+
+static void quotations(void)
+{
+    uint8_t message[ICMP_ROOM + 40] = {0};
+    struct icmp_error found;
+    size_t length = make_error(message);
     /* What is quoted: another version, a header that is too short or too long, a length that can't be, a piece but the first. */
     static const struct { size_t at; uint8_t value; int wanted; } QUOTED[] = {
         {8, 0x65, 0}, {8, 0x44, 0}, {8, 0x46, 0}, {8, 0x4f, 0}, {11, 27, 0}, {11, 28, 1}, {14, 0x20, 1}, {15, 1, 0}, {14, 0x1f, 0}};
@@ -230,6 +237,7 @@ int main(void)
     echoes();
     unreachable();
     errors();
+    quotations();
     printf("datagrams: %d checks\n", checks);
     return 0;
 }
