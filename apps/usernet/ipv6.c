@@ -9,7 +9,7 @@
 
 /* fd00::2 leads to the host's loopback, fd00::3 to its name server, and fe80::2 is a neighbour's address for both. */
 const struct ip6_addr V6_GATEWAY = {{0xfd, [15] = 2}}, V6_RESOLVER = {{0xfd, [15] = 3}};
-static const struct ip6_addr V6_ROUTER = {{0xfe, 0x80, [15] = 2}}, ALL_HOSTS = {{0xff, 2, [15] = 1}};
+static const struct ip6_addr V6_ROUTER = {{0xfe, 0x80, [15] = 2}};
 
 static int is_equal(const struct ip6_addr *one, const struct ip6_addr *other) { return memcmp(one, other, sizeof *one) == 0; }
 
@@ -66,7 +66,7 @@ void v6_hold(struct usernet *net, const struct pair *pair, int change)
         server->uses += (uint32_t)change;
 }
 
-/* A message of this host's goes out, without its checksum, which lies at message_place. */
+/* A message of the router's, which lies at segment_place without its checksum, goes out. */
 static void send_message(struct usernet *net, size_t length, struct ip6_addr src, struct ip6_addr dst, uint8_t hops)
 {
     uint8_t *message = segment_place(net), *frame = message - IP6_HEADER - TUN_HEADER;
@@ -76,20 +76,20 @@ static void send_message(struct usernet *net, size_t length, struct ip6_addr src
     pass_on_wire(net, frame, TUN_HEADER + IP6_HEADER + length);
 }
 
-/* What a neighbour asks on a TAP device: for an Ethernet address, or for a router. Who has no address asks for all to hear the answer. */
+/* What a neighbour asks on a TAP device: for an Ethernet address, or for a router. Who has no address yet asks in vain, and once more when it
+   has one. */
 static void answer_neighbour(struct usernet *net, const struct ip6_packet *asks)
 {
     static const struct ip6_addr *const OWN[] = {&V6_GATEWAY, &V6_RESOLVER, &V6_ROUTER};
-    const struct ip6_addr to = ip6_may_be_peer(asks->src) ? asks->src : ALL_HOSTS;
     for (size_t at = 0; at < sizeof OWN / sizeof OWN[0]; at++) {
         size_t length = icmp6_neighbour(segment_place(net), asks, GATEWAY_ETHERNET, *OWN[at]);
         if (length > 0)
-            send_message(net, length, *OWN[at], to, IP6_ALL_HOPS);
+            send_message(net, length, *OWN[at], asks->src, IP6_ALL_HOPS);
     }
     if (asks->hops != IP6_ALL_HOPS || !icmp6_is_whole(asks) || asks->segment[0] != ICMP6_ASKS_ROUTER)
         return;
     size_t length = icmp6_router(segment_place(net), GATEWAY_ETHERNET, V6_GATEWAY, net->mtu, V6_RESOLVER);
-    send_message(net, length, V6_ROUTER, to, IP6_ALL_HOPS);
+    send_message(net, length, V6_ROUTER, asks->src, IP6_ALL_HOPS);
 }
 
 /* A checksum is looked at here, since ends have that over their surrogates. */

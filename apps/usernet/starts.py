@@ -95,7 +95,7 @@ def refused_words(place):
     words = [["--ready-fd", "99"], ["-r", "3"], ["-e", "99"], ["-r", "4294967297"], ["-r", "-1"], ["--netns", path], ["--netns-type=path", path],
              *(["--publish", word] for word in publish), *(["--cidr", word] for word in cidr), ["--publish", "127.0.0.1:7006:80", "-r", "3"],
              *([f"--{name}", "3", "--threads", "4"] for name in ("ports", "connections", "half-open", "half-open-each", "flows")),
-             ["--outbound-addr", ""], ["-m", "575"], ["--threads", "65"], ["sixteen_is_a_lot"]]
+             ["--outbound-addr", ""], ["--outbound-addr6", "10.0.0.1"], ["-m", "575"], ["-6", "-m", "1279"], ["--api-socket", ""], ["--threads", "65"], ["sixteen_is_a_lot"]]
     for call in words:
         space = [] if path in call else ["--netns", world.CLIENTS]
         done = subprocess.run(place.words(world.SERVERS, ["timeout", 5, world.HERE / "out" / place.program_name, *space, *call]), stdout=subprocess.PIPE,

@@ -26,7 +26,7 @@ static const char USAGE[] =
     "                             connects from this address of the host\n"
     "  -6, --enable-ipv6          IPv6, too: the namespace is fd00::100, fd00::2 leads to the host's loopback, fd00::3 to its name server\n"
     "  --cidr ADDRESS/PREFIX      the network, of at most 25 bits, in place of 10.0.2.0/24; its hosts keep their last numbers\n"
-    "  -m, --mtu N                of the device, 576 to 65535 (1500)\n"
+    "  -m, --mtu N                of the device, 576 to 65535 (1500), with IPv6 from 1280 on\n"
     "  -r, --ready-fd FD          writes 1 to this descriptor once the network is there\n"
     "  -e, --exit-fd FD           ends when the other side of this descriptor is closed\n"
     "  --netns-type pid|path, --userns-path PATH, --netns NAME\n"
@@ -246,5 +246,7 @@ int words_read(int number, char **words, struct words *told, struct shared *shar
     told->device.has_ipv6 = told->has_ipv6;
     shared->threads = (uint32_t)told->threads;
     aim_published(shared, told->device.addr);
+    if (told->has_ipv6 && told->mtu < IP6_LEAST_MTU)
+        return fputs("usernet: IPv6 wants an MTU of 1280 or more\n", stderr), 1;
     return has_shares(told) ? -1 : 1;
 }
