@@ -14,12 +14,12 @@ static const struct ip6_addr V6_ROUTER = {{0xfe, 0x80, [15] = 2}};
 static int is_equal(const struct ip6_addr *one, const struct ip6_addr *other) { return memcmp(one, other, sizeof *one) == 0; }
 
 /* Where an address with this surrogate is, if it is anywhere. */
-static struct v6_entry *set_of(struct usernet *net, tcpcore_addr surrogate) { return net->v6 + V6_WAYS * (read32(surrogate.byte) % V6_SETS); }
+static struct v6_entry *set_of(struct usernet *net, tcpcore_addr surrogate) { return net->v6 + (size_t)V6_WAYS * (read32(surrogate.byte) % V6_SETS); }
 
 static struct v6_entry *entry_of(struct usernet *net, tcpcore_addr surrogate)
 {
-    struct v6_entry *set = set_of(net, surrogate);
-    for (int way = 0; net->v6 && way < V6_WAYS; way++)
+    struct v6_entry *set = net->v6 ? set_of(net, surrogate) : NULL;
+    for (int way = 0; set && way < V6_WAYS; way++)
         if (set[way].entered && memcmp(&set[way].surrogate, &surrogate, sizeof surrogate) == 0)
             return &set[way];
     return NULL;

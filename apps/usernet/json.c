@@ -19,7 +19,7 @@ static int value(struct reader *reader);
 
 static void pass_space(struct reader *reader)
 {
-    while (reader->at < reader->end && memchr(" \t\n\r", *reader->at, 4))
+    while (reader->at < reader->end && *reader->at && strchr(" \t\n\r", *reader->at))
         reader->at++;
 }
 

@@ -80,7 +80,7 @@ static struct limits limits_of_all(void)
 {
     struct rlimit files;
     struct limits limits = told.limits;
-    uint64_t spare = SPARE + SPARE_EACH * shared.threads, least = 2 * shared.threads;
+    uint64_t threads = shared.threads, spare = SPARE + SPARE_EACH * threads, least = 2 * threads;
     getrlimit(RLIMIT_NOFILE, &files);
     files.rlim_cur = files.rlim_max;
     setrlimit(RLIMIT_NOFILE, &files);
