@@ -145,6 +145,16 @@ def asked(end, text, earlier=()):
     raise AssertionError("no answer")
 
 
+def send_long(host):
+    """Datagrams that the namespace cuts into pieces, since they are longer than its device's MTU, come back whole."""
+    for number in range(20):
+        with socket.socket(socket.AF_INET, socket.SOCK_DGRAM) as end:
+            end.connect((host, 8090))
+            texts = [bytes((number * 7 + at * at) % 251 for at in range(length)) for length in (1473, 2953, 9000, 65507)]
+            for at, text in enumerate(texts):
+                need(f"a datagram of {len(text)}", asked(end, text, texts[:at]) == text, True)
+
+
 def send_datagrams(host):
     """Twenty sockets; each datagram comes back as it was. And where nobody is the sender is told."""
     ends = [socket.socket(socket.AF_INET, socket.SOCK_DGRAM) for _ in range(20)]
@@ -323,6 +333,8 @@ if __name__ == "__main__":
         half_closing(sys.argv[2])
     elif "--datagrams" in sys.argv:
         send_datagrams(sys.argv[2])
+    elif "--long" in sys.argv:
+        send_long(sys.argv[2])
     elif "--questions" in sys.argv:
         ask(sys.argv[2], int(sys.argv[3]))
     elif "--to-many" in sys.argv:

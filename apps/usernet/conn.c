@@ -15,9 +15,6 @@ static const struct timers_rules RULES = {
     .first_rto = 1000, .least_rto = 200, .greatest_rto = 60000, .granularity = 1, .time_wait = 2000,
     .r1 = 3, .r2 = 924600, .syn_limit = 180000, .syn_ack_limit = 60000};
 
-/* The first of the gateway's ports from which connections are carried in. */
-enum { FIRST_PORT = 32768 };
-
 /* A pair is its connection's first field. */
 static struct conn *conn_of(struct pair *pair) { return (struct conn *)(void *)pair; }
 
@@ -36,10 +33,19 @@ static struct conn *conn_new(struct usernet *net, const struct pair *key, int so
         return NULL;
     *conn = (struct conn){.pair = *key, .socket = socket, .capacity = capacity};
     timers_init(&conn->timers, &RULES);
-    answers_init(&conn->answers, (uint32_t)net->shared->limits.quiet);
+    answers_init(&conn->answers, (uint32_t)net->limits.quiet);
     pairs_add(&net->pairs, &conn->pair);
+    v6_hold(net, &conn->pair, 1);
     limits_enter(net, conn);
     return conn;
+}
+
+/* Closes a socket of the host's, whose other side gets a reset where `resets`. */
+static void close_socket(int socket, int resets)
+{
+    if (resets)
+        setsockopt(socket, SOL_SOCKET, SO_LINGER, &(struct linger){.l_onoff = 1}, sizeof(struct linger));
+    close(socket);
 }
 
 /* An event of this turn may be its own, so that it stays where it is. */
@@ -48,10 +54,9 @@ void drop(struct usernet *net, struct conn *conn, int resets)
     pairs_remove(&net->pairs, &conn->pair);
     wheel_put(&net->wheel, &conn->node, net->now, -1);
     limits_leave(net, conn);
-    if (resets && conn->socket >= 0)
-        setsockopt(conn->socket, SOL_SOCKET, SO_LINGER, &(struct linger){.l_onoff = 1}, sizeof(struct linger));
+    v6_hold(net, &conn->pair, -1);
     if (conn->socket >= 0)
-        close(conn->socket);
+        close_socket(conn->socket, resets);
     if (conn->is_open)
         tcpcore_free(&conn->end);
     free(conn->block);
@@ -72,7 +77,7 @@ void free_dropped(struct usernet *net)
 
 uint64_t edge_of(const struct conn *conn, const struct tcpcore_status *status)
 {
-    return status->rcv_position + conn->capacity - status->unread;
+    return status->next + conn->capacity - status->unread;
 }
 
 uint64_t step_of(const struct usernet *net, const struct conn *conn)
@@ -92,8 +97,18 @@ static int goes(struct usernet *net, struct conn *conn, const struct tcpcore_tra
     }
     timers_sent(&conn->timers, sent, net->now);
     if (bits_of(segment, ACK))
-        answers_sent(&conn->answers, segment, edge);
+        answers_told(&conn->answers, segment, edge);
     return 1;
+}
+
+/* Sends a segment in pieces that the path takes. */
+static void send_pieces(struct usernet *net, const struct conn *conn, size_t length)
+{
+    const struct pair *pair = &conn->pair;
+    size_t from = 0, piece;
+    memcpy(net->text, segment_place(net), length);
+    while ((piece = path_piece(&conn->path, net->text, length, &from, segment_place(net), pair->server, pair->client)))
+        send_segment(net, piece, pair->server, pair->client, conn->path.may_be_cut);
 }
 
 /* Emits the segment that is due, summed; whether there was one. */
@@ -102,9 +117,25 @@ static int emit_segment(struct usernet *net, struct conn *conn)
     struct tcpcore_transmit sent;
     if (tcpcore_transmit(&conn->end, segment_place(net), TCPCORE_EMIT_ROOM, &sent) != TCPCORE_DONE)
         return 0;
-    if (goes(net, conn, &sent))
-        send_segment(net, (size_t)sent.length, conn->pair.server, sent.to);
+    if (!goes(net, conn, &sent))
+        return 1;
+    size_t length = (size_t)sent.length, packet = IP_HEADER + length;
+    path_sent(&conn->path, sent.position + sent.count, packet < conn->path.mtu ? packet : conn->path.mtu);
+    if (packet <= conn->path.mtu)
+        send_segment(net, length, conn->pair.server, sent.to, conn->path.may_be_cut);
+    else
+        send_pieces(net, conn, length);
     return 1;
+}
+
+/* The device cuts a train into segments that the path takes. */
+static void fit(const struct path *path, struct tcpcore_train *train)
+{
+    size_t most = path_text(path, (size_t)train->header), text = (size_t)train->whole.count;
+    if (text <= most || (train->segments > 1 && train->each <= most))
+        return;
+    train->each = most;
+    train->segments = (text + most - 1) / most;
 }
 
 /* Emits as many segments as go together, which a device with offloads cuts and sums; whether there was any. */
@@ -113,15 +144,19 @@ static int emit_train(struct usernet *net, struct conn *conn)
     struct tcpcore_train train;
     if (tcpcore_emit_train(&conn->end, segment_place(net), TCPCORE_TRAIN_ROOM, SIZE_MAX, &train) != TCPCORE_DONE)
         return 0;
-    if (goes(net, conn, &train.whole))
-        send_train(net, conn->pair.server, &train);
+    if (!goes(net, conn, &train.whole))
+        return 1;
+    fit(&conn->path, &train);
+    uint64_t text = train.segments > 1 ? train.each : train.whole.count;
+    path_sent(&conn->path, train.whole.position + train.whole.count, IP_HEADER + (size_t)(train.header + text));
+    send_train(net, conn->pair.server, &train);
     return 1;
 }
 
 /* Emits all that is due. */
 static void emit(struct usernet *net, struct conn *conn)
 {
-    while (net->offloads ? emit_train(net, conn) : emit_segment(net, conn))
+    while (net->offloads && !conn->path.may_be_cut ? emit_train(net, conn) : emit_segment(net, conn))
         ;
 }
 
@@ -137,9 +172,11 @@ static int make_end(struct usernet *net, struct conn *conn)
 {
     size_t room = TCPCORE_MEMORY(conn->capacity, conn->capacity);
     uint32_t isn = (uint32_t)(250 * net->now + pairs_secret(&net->pairs, &conn->pair));
-    tcpcore_config config = {.addr = conn->pair.server, .port = conn->pair.server_port, .mss = net->mss, .isn = isn,
+    uint16_t mss = (uint16_t)(net->mss - (ip6_is_surrogate(conn->pair.client) ? IP6_MORE : 0));
+    tcpcore_config config = {.addr = conn->pair.server, .port = conn->pair.server_port, .mss = mss, .isn = isn,
                              .send_capacity = conn->capacity, .recv_capacity = conn->capacity, .limit = UINT64_C(1) << 62,
                              .window_shift = SHIFT, .scales = 1, .sack = 1};
+    path_init(&conn->path, isn, mss + (uint32_t)HEADERS);
     conn->block = malloc(room);
     conn->end = (tcpcore_end)TCPCORE_END_INIT;
     conn->is_open = conn->block && tcpcore_new(&conn->end, &config, conn->block, room) == TCPCORE_DONE;
@@ -167,8 +204,19 @@ static void stray(struct usernet *net, const struct ip_packet *from, int vouched
     if (tcpcore_stray_reset(from->src, from->dst, bytes, from->length, segment_place(net), TCPCORE_RESET_ROOM, &length) !=
         TCPCORE_DONE || !limits_answer(net))
         return;
-    send_segment(net, length, from->dst, from->src);
+    send_segment(net, length, from->dst, from->src, 0);
     count(net, STRAYS, 1);
+}
+
+/* Nobody answers on the host's side: the client is told by ICMP that there is no way to there, or else by a reset. */
+static void refuse(struct usernet *net, const struct ip_packet *syn, int vouched, int fault)
+{
+    struct pair key = {.client = syn->src, .server = syn->dst};
+    count(net, REFUSED, 1);
+    if (fault == EHOSTUNREACH || fault == ENETUNREACH || fault == ETIMEDOUT || fault == EHOSTDOWN)
+        tell_unreachable(net, &key, IP_TCP, syn->segment, fault);
+    else
+        stray(net, syn, vouched);
 }
 
 static int watch(struct usernet *net, struct conn *conn)
@@ -196,8 +244,7 @@ static int host_answered(struct usernet *net, struct conn *conn)
         count(net, OPENED, 1);
         return 1;
     }
-    count(net, REFUSED, 1);
-    stray(net, &(struct ip_packet){conn->pair.client, conn->pair.server, conn->syn, conn->syn_length}, 0);
+    refuse(net, &(struct ip_packet){conn->pair.client, conn->pair.server, conn->syn, conn->syn_length}, 0, fault);
     drop(net, conn, 1);
     return 0;
 }
@@ -207,6 +254,7 @@ static int host_answered(struct usernet *net, struct conn *conn)
 static void open_conn(struct usernet *net, const struct pair *key, const struct ip_packet *packet, int vouched)
 {
     uint32_t capacity = limits_admit(net, key);
+    count(net, FULL, capacity == 0);
     int host = capacity ? host_socket(net, key->server, key->server_port, SOCK_STREAM, 0) : -1, fault = errno;
     struct conn *conn = host >= 0 ? conn_new(net, key, host, capacity) : NULL;
     if (conn) {
@@ -220,34 +268,32 @@ static void open_conn(struct usernet *net, const struct pair *key, const struct 
     } else if (host >= 0) {
         close(host);
     } else if (capacity && !is_exhausted(fault)) {
-        count(net, REFUSED, 1);
-        stray(net, packet, vouched);
+        refuse(net, packet, vouched, fault);
         return;
     }
     count(net, EXHAUSTED, capacity > 0);
 }
 
-/* A port of the gateway's that is this thread's and in no use towards the key's; whether there was one. */
-static int take_port(struct usernet *net, struct pair *key)
+/* Where this thread's share of the ports or of another limit is used up, the next thread may have some left; whether there is one that was
+   not asked, and heard of it. */
+static int pass_on(struct usernet *net, struct inward inward)
 {
-    for (uint32_t left = (uint32_t)net->shared->limits.ports; left > 0; left--) {
-        net->next_port = (uint16_t)((net->next_port + 1u) % net->shared->limits.ports);
-        key->server_port = (uint16_t)(FIRST_PORT + net->next_port);
-        if (owner_of(net, key) == net->index && !pairs_find(&net->pairs, key))
-            return 1;
-    }
-    return 0;
+    struct shared *shared = net->shared;
+    if (++inward.turn >= shared->threads)
+        return 0;
+    return send(shared->all[(net->index + 1) % shared->threads]->to_inbox, &inward, sizeof inward, MSG_DONTWAIT) == sizeof inward;
 }
 
-void conn_publish(struct usernet *net, int socket, uint16_t port)
+void conn_publish(struct usernet *net, struct inward inward)
 {
-    struct pair key = {.client = net->own, .client_port = port, .server = net->gateway};
-    int has_port = take_port(net, &key);
-    uint32_t capacity = has_port ? limits_admit(net, &key) : 0;
-    struct conn *conn = capacity ? conn_new(net, &key, socket, capacity) : NULL;
-    count(net, FULL, !has_port);
+    struct pair key = {.client = inward.guest, .client_port = inward.guest_port, .server = net->gateway};
+    uint32_t capacity = ports_deal(net, &net->pairs, &key) ? limits_admit(net, &key) : 0;
+    if (capacity == 0 && pass_on(net, inward))
+        return;
+    struct conn *conn = capacity ? conn_new(net, &key, inward.socket, capacity) : NULL;
+    count(net, FULL, capacity == 0);
     if (conn && make_end(net, conn) && watch(net, conn)) {
-        tcpcore_connect(&conn->end, conn->pair.client, port);
+        tcpcore_connect(&conn->end, conn->pair.client, conn->pair.client_port);
         count(net, PUBLISHED, 1);
         wheel_wake(&net->wheel, &conn->node);
         return;
@@ -256,20 +302,20 @@ void conn_publish(struct usernet *net, int socket, uint16_t port)
     if (conn)
         drop(net, conn, 1);
     else
-        close(socket);
+        close_socket(inward.socket, 1);
 }
 
 /* Whether a SYN may open anew what is in TIME-WAIT: its number lies behind all that came (RFC 9293, 3.10.7.4). */
 static int reopens(const struct conn *conn, const uint8_t *bytes)
 {
     struct tcpcore_status status = status_of(conn);
-    uint32_t after = read32(bytes + AT_SEQ) - (conn->first + (uint32_t)status.rcv_position);
+    uint32_t after = read32(bytes + AT_SEQ) - (conn->first + (uint32_t)status.next);
     return status.phase == TCPCORE_PHASE_TIME_WAIT && after < UINT32_C(1) << 31;
 }
 
 /* Whether a segment is answered before the others of its batch are read. What the end refuses brought it nothing: with text or
    without, it is answered once in a while. */
-static int may_answer(struct usernet *net, struct conn *conn, const struct ip_packet *packet, const struct tcpcore_arrive_report *taken)
+static int may_answer(struct usernet *net, struct conn *conn, const struct ip_packet *packet, const struct tcpcore_taken *taken)
 {
     uint8_t bare[SEGMENT_HEADER];
     if (taken->rule < TCPCORE_RULE_UNACCEPTABLE || taken->rule >= TCPCORE_RULE_TAKEN)
@@ -284,17 +330,17 @@ static int may_answer(struct usernet *net, struct conn *conn, const struct ip_pa
 static void take(struct usernet *net, struct conn *conn, const struct ip_packet *packet, int vouched)
 {
     struct tcpcore_status before = status_of(conn);
-    struct tcpcore_arrive_report taken;
+    struct tcpcore_taken taken;
     if (withholds_reset(&before, packet->segment, packet->length))
         return; /* what the client has sent goes to the host first */
     uint32_t answer =
-        vouched ? tcpcore_arrive_vouched_with_report(&conn->end, packet->src, packet->dst, packet->segment, packet->length, &taken)
-                : tcpcore_arrive_with_report(&conn->end, packet->src, packet->dst, packet->segment, packet->length, &taken);
+        vouched ? tcpcore_taken_vouched(&conn->end, packet->src, packet->dst, packet->segment, packet->length, &taken)
+                : tcpcore_taken(&conn->end, packet->src, packet->dst, packet->segment, packet->length, &taken);
     if (taken.rule == TCPCORE_RULE_NONE) {
         count(net, MALFORMED, answer >= TCPCORE_TOO_SHORT && answer <= TCPCORE_BAD_PADDING);
         return;
     }
-    timers_arrived_with_report(&conn->timers, &conn->end, &taken, net->now);
+    timers_taken(&conn->timers, &conn->end, &taken, net->now);
     limits_touch(net, conn);
     if (may_answer(net, conn, packet, &taken))
         emit(net, conn); /* out of order, or a gap was filled (RFC 5681, 4.2) */
@@ -325,13 +371,37 @@ void arrive(struct usernet *net, const struct ip_packet *packet, int vouched)
         drop(net, conn, 1); /* the client doesn't wait for the host any longer */
 }
 
+void conn_error(struct usernet *net, const struct icmp_error *error)
+{
+    struct pair key = {error->dst, error->src, error->dst_port, error->src_port, NULL};
+    struct conn *conn = error->protocol == IP_TCP ? conn_of(pairs_find(&net->pairs, &key)) : NULL;
+    if (!conn || !conn->is_open)
+        return;
+    struct tcpcore_status status = status_of(conn);
+    int found = path_error(&conn->path, &status, error, net->now);
+    count(net, ERRORS, found != PATH_NOTHING);
+    count(net, NARROWED, found == PATH_NARROWER);
+    if (found == PATH_HARD)
+        tcpcore_abort(&conn->end);
+    else if (found == PATH_NARROWER)
+        tcpcore_resend_first(&conn->end);
+    wheel_wake(&net->wheel, &conn->node);
+}
+
+/* The timers' times have come, and what they say of the path. */
+static void run_times(struct usernet *net, struct conn *conn)
+{
+    uint32_t found = timers_run(&conn->timers, &conn->end, net->now);
+    count(net, GAVE_UP, (found & TIMERS_GAVE_UP) != 0);
+    count(net, NARROWED, (uint64_t)path_run(&conn->path, conn->timers.una, (found & TIMERS_TIMED_OUT) != 0, net->now));
+}
+
 /* Looks at one connection: its timers, both ways, what is due, and whether it has ended. */
 static void turn(struct usernet *net, struct conn *conn)
 {
     if (!conn->is_open && !host_answered(net, conn))
         return;
-    if (timers_run(&conn->timers, &conn->end, net->now) & TIMERS_ABORTED)
-        count(net, ABANDONED, 1);
+    run_times(net, conn);
     if (conn->socket >= 0 && conn->timers.phase >= TCPCORE_PHASE_ESTABLISHED &&
         (!carry_up(net, conn) || !carry_down(net, conn)))
         tcpcore_abort(&conn->end);

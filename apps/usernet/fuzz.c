@@ -5,10 +5,7 @@
  * Each packet is made here: what it shows is that usernet outlives it (fuzz.py looks at that). It prints how many were sent.
  */
 #define _GNU_SOURCE
-#include "companions/icmp.h"
-#include "companions/segment.h"
-#include "companions/trains.h"
-#include "companions/udp.h"
+#include "fuzz.h"
 
 #include <arpa/inet.h>
 #include <errno.h>
@@ -23,20 +20,10 @@
 #include <sys/socket.h>
 #include <unistd.h>
 
-/* One flow for each client port from FIRST on, of which SOME are used at random; the bytes of text in a segment at most; packets between
-   two looks at answers. */
-enum { FIRST = 1024, FLOWS = 20000, SOME = 4096, TEXT = 1400, BURST = 64, OPTIONS = 40 };
-enum { IDLE, OPENING, OPEN };
-
 /* The ports of world.py: what comes is sent back; it closes at once; it resets what sends anything; nobody listens. */
 enum { ECHO = 8082, CLOSES = 8085, RESETS = 8086, NOBODY = 9 };
 
-static struct flow {
-    tcpcore_addr server;
-    uint16_t server_port;
-    uint32_t seq, ack; /* the next numbers of both directions */
-    int phase;
-} flows[FLOWS];
+struct flow flows[FLOWS];
 
 /* A segment to be written: its control bits, window, text, and what is wrong with it. */
 struct made {
@@ -51,9 +38,8 @@ struct made {
 
 static uint64_t state, sent, wanted;
 static int device, losses;
-static tcpcore_addr client = {{10, 0, 2, 50}};
 
-static uint32_t draw(uint32_t below)
+uint32_t draw(uint32_t below)
 {
     state ^= state << 13;
     state ^= state >> 7;
@@ -61,7 +47,7 @@ static uint32_t draw(uint32_t below)
     return (uint32_t)((state >> 16) % below);
 }
 
-static uint32_t draw32(void) { return draw(65536) << 16 | draw(65536); }
+uint32_t draw32(void) { return draw(65536) << 16 | draw(65536); }
 
 static void write32(uint8_t *at, uint32_t value)
 {
@@ -69,8 +55,8 @@ static void write32(uint8_t *at, uint32_t value)
     write16(at + 2, (uint16_t)value);
 }
 
-/* Writes one packet; where the queue is full it waits a moment. What the kernel takes for no packet at all is left out. */
-static void put(const uint8_t *frame, size_t length)
+/* Where the queue is full it waits a moment. What the kernel takes for no packet at all is left out. */
+void put(const uint8_t *frame, size_t length)
 {
     while (send(device, frame, length, 0) < 0 && errno != EINVAL) {
         if (errno != ENOBUFS && errno != EAGAIN)
@@ -115,13 +101,13 @@ static void go(const struct flow *flow, const struct made *made)
     bytes[AT_BITS] = (uint8_t)made->bits;
     write16(bytes + AT_WINDOW, made->window);
     memcpy(bytes + SEGMENT_HEADER, made->option, made->options);
-    trains_sum(bytes, length, client, flow->server);
+    trains_sum(bytes, length, CLIENT, flow->server);
     if (made->has_bad_sum)
         bytes[AT_CHECKSUM] ^= 0x55;
     if (made->needs_sum)
         front.flags = VIRTIO_NET_HDR_F_NEEDS_CSUM, front.csum_start = IP_HEADER, front.csum_offset = AT_CHECKSUM;
     memcpy(frame, &front, TUN_HEADER);
-    put(frame, TUN_HEADER + ip_write(frame + TUN_HEADER, client, flow->server, length));
+    put(frame, TUN_HEADER + ip_write(frame + TUN_HEADER, CLIENT, flow->server, length));
 }
 
 /* What has come for a flow: the numbers that its next segments have. */
@@ -151,8 +137,7 @@ static void read_answers(void)
             note(frame + TRAINS_FRONT, (size_t)got - TRAINS_FRONT);
 }
 
-/* A flow of this or any phase. */
-static struct flow *some_flow(int phase)
+struct flow *some_flow(int phase)
 {
     struct flow *flow = &flows[draw(SOME)];
     for (int turn = 0; turn < 50 && flow->phase != phase; turn++)
@@ -262,7 +247,7 @@ static void scan(void)
 }
 
 /* Text to the echo, whose answers find windows of nothing, of a few bytes, or of much. */
-static void windows(void)
+void windows(void)
 {
     struct flow *flow = some_flow(OPEN);
     if (flow->phase != OPEN) {
@@ -330,68 +315,6 @@ static void noise(void)
     go(flow, &made);
 }
 
-/* Bytes that are hardly an IPv4 packet. */
-static void packets(void)
-{
-    uint8_t frame[TUN_HEADER + 64] = {0};
-    size_t length = draw(65);
-    for (size_t at = 0; at < length; at++)
-        frame[TUN_HEADER + at] = (uint8_t)draw(256);
-    if (draw(2) && length >= IP_HEADER)
-        ip_write(frame + TUN_HEADER, client, (tcpcore_addr){{10, 0, 2, 2}}, draw((uint32_t)length - IP_HEADER + 1));
-    put(frame, TUN_HEADER + length);
-}
-
-/* Where a datagram or an echo goes: to who answers, to nobody, to who is silent, to the name server, or anywhere. */
-static tcpcore_addr somewhere(void)
-{
-    static const tcpcore_addr SOME_ADDRS[] = {{{10, 0, 2, 2}}, {{10, 0, 2, 3}}, {{198, 51, 100, 1}}, {{127, 0, 0, 1}}, {{224, 0, 0, 1}},
-                                              {{255, 255, 255, 255}}};
-    uint32_t drawn = draw(7);
-    return drawn < 6 ? SOME_ADDRS[drawn] : (tcpcore_addr){{(uint8_t)draw(256), (uint8_t)draw(256), (uint8_t)draw(256), (uint8_t)draw(256)}};
-}
-
-/* A packet of another protocol whose bytes lie at frame + TRAINS_FRONT. */
-static void go_as(uint8_t *frame, tcpcore_addr to, size_t length, uint8_t protocol, size_t sum_at)
-{
-    struct virtio_net_hdr front = {0};
-    if (draw(4) == 0)
-        front.flags = VIRTIO_NET_HDR_F_NEEDS_CSUM, front.csum_start = IP_HEADER, front.csum_offset = (uint16_t)sum_at;
-    memcpy(frame, &front, TUN_HEADER);
-    put(frame, TUN_HEADER + ip_write_any(frame + TUN_HEADER, client, to, length, protocol));
-}
-
-/* Datagrams from many ports, whole ones and such whose length or checksum is wrong. */
-static void datagrams(void)
-{
-    static const uint16_t PORTS[] = {8090, 53, 9, 0};
-    static uint8_t frame[TRAINS_ROOM];
-    uint8_t *bytes = frame + TRAINS_FRONT;
-    tcpcore_addr to = somewhere();
-    size_t text = draw(20) ? draw(100) : draw(1400), length = draw(50) ? UDP_HEADER + text : draw(UDP_HEADER + 1);
-    for (size_t at = 0; at < text; at++)
-        bytes[UDP_HEADER + at] = (uint8_t)draw(256);
-    udp_write(bytes, client, (uint16_t)draw(65536), to, draw(8) ? PORTS[draw(4)] : (uint16_t)draw(65536), text);
-    if (draw(10) == 0)
-        bytes[draw(UDP_HEADER)] = (uint8_t)draw(256);
-    go_as(frame, to, length, IP_UDP, 6);
-}
-
-/* Echoes with many identifiers, and any other message. */
-static void messages(void)
-{
-    static uint8_t frame[TRAINS_ROOM];
-    uint8_t *bytes = frame + TRAINS_FRONT;
-    size_t length = draw(20) ? ICMP_HEADER + draw(100) : draw(ICMP_HEADER + 1);
-    for (size_t at = 0; at < ICMP_HEADER + 100; at++)
-        bytes[at] = (uint8_t)draw(256);
-    if (length >= ICMP_HEADER)
-        icmp_make_echo(bytes, length, draw(4) ? ICMP_ECHO : (uint8_t)draw(256), (uint16_t)draw(65536));
-    if (draw(10) == 0)
-        bytes[draw(ICMP_HEADER)] = (uint8_t)draw(256);
-    go_as(frame, somewhere(), length, IP_ICMP, 2);
-}
-
 /* Connections that end in each way, so that some are opened anew in TIME-WAIT. */
 static void endings(void)
 {
@@ -412,7 +335,7 @@ static void endings(void)
 static const struct kind { const char *name; void (*make)(void); } KINDS[] = {
     {"bad_syns", bad_syns}, {"options", options}, {"half_open", half_open}, {"resets", resets}, {"scan", scan}, {"windows", windows}, {"storm", storm},
     {"noise", noise}, {"packets", packets}, {"endings", endings}, {"one_place", one_place},
-    {"unfit", unfit}, {"datagrams", datagrams}, {"messages", messages}};
+    {"unfit", unfit}, {"datagrams", datagrams}, {"messages", messages}, {"errors", errors}, {"pieces", pieces}, {"sixes", sixes}};
 enum { COUNT = sizeof KINDS / sizeof KINDS[0] };
 
 static int open_device(const char *name)

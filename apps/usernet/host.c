@@ -76,16 +76,65 @@ static int is_bound(const struct usernet *net, int socket, struct in_addr to)
     return is_done;
 }
 
+/* The host's address for one of the namespace's IPv6 addresses; all zero where it is left alone. Neither its loopback nor an IPv4 address in
+   another form leads anywhere, nor does an address that means one of this link's hosts. */
+static struct in6_addr address_of_v6(const struct usernet *net, const struct ip6_addr *to)
+{
+    struct in6_addr found = IN6ADDR_ANY_INIT;
+    if (memcmp(to, &V6_GATEWAY, sizeof *to) == 0)
+        return net->shared->has_loopback ? in6addr_loopback : found;
+    if (ip6_may_be_peer(*to) && !(to->byte[0] == 0xfe && to->byte[1] >= 0x80) && memcmp(to, &V6_RESOLVER, sizeof *to) != 0)
+        memcpy(&found, to, sizeof found);
+    return found;
+}
+
+/* The same as is_bound. */
+static int is_bound_v6(const struct usernet *net, int socket, const struct in6_addr *to)
+{
+    struct sockaddr_in6 from = {.sin6_family = AF_INET6, .sin6_addr = net->shared->outbound6};
+    setsockopt(socket, IPPROTO_IPV6, IPV6_V6ONLY, &(int){1}, sizeof(int));
+    if (IN6_IS_ADDR_UNSPECIFIED(&from.sin6_addr) || IN6_IS_ADDR_LOOPBACK(to))
+        return 1;
+    int is_done = bind(socket, (struct sockaddr *)&from, sizeof from) == 0;
+    if (!is_done && errno == EADDRNOTAVAIL)
+        errno = ENETUNREACH;
+    return is_done;
+}
+
+/* A socket that is of no use any more; below 0, and errno as it was. */
+static int without(int socket)
+{
+    int fault = errno;
+    if (socket >= 0)
+        close(socket);
+    errno = fault;
+    return -1;
+}
+
+static int v6_socket(struct usernet *net, const struct ip6_addr *to, uint16_t port, int kind, int protocol)
+{
+    struct sockaddr_in6 at = {.sin6_family = AF_INET6, .sin6_port = htons(port), .sin6_addr = address_of_v6(net, to)};
+    int host = IN6_IS_ADDR_UNSPECIFIED(&at.sin6_addr) ? -1 : socket(AF_INET6, kind | SOCK_NONBLOCK | SOCK_CLOEXEC, protocol);
+    if (IN6_IS_ADDR_UNSPECIFIED(&at.sin6_addr))
+        errno = EACCES;
+    if (host >= 0 && is_bound_v6(net, host, &at.sin6_addr) && (connect(host, (struct sockaddr *)&at, sizeof at) == 0 || errno == EINPROGRESS))
+        return host;
+    return without(host);
+}
+
 int host_socket(struct usernet *net, tcpcore_addr to, uint16_t port, int kind, int protocol)
 {
+    const struct ip6_addr *v6 = ip6_is_surrogate(to) ? v6_find(net, to) : NULL;
+    if (v6 && memcmp(v6, &V6_RESOLVER, sizeof *v6) != 0)
+        return v6_socket(net, v6, port, kind, protocol);
+    if (v6)
+        to = net->resolver;
+
     struct sockaddr_in at = {.sin_family = AF_INET, .sin_port = htons(port), .sin_addr = address_of(net, to, port)};
     int host = at.sin_addr.s_addr ? socket(AF_INET, kind | SOCK_NONBLOCK | SOCK_CLOEXEC, protocol) : -1;
     if (at.sin_addr.s_addr == 0)
         errno = EACCES;
-    if (host < 0 || (is_bound(net, host, at.sin_addr) && (connect(host, (struct sockaddr *)&at, sizeof at) == 0 || errno == EINPROGRESS)))
+    if (host >= 0 && is_bound(net, host, at.sin_addr) && (connect(host, (struct sockaddr *)&at, sizeof at) == 0 || errno == EINPROGRESS))
         return host;
-    int fault = errno;
-    close(host);
-    errno = fault;
-    return -1;
+    return without(host);
 }

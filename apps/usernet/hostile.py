@@ -16,12 +16,14 @@ import subprocess
 import sys
 import time
 
+import ipv6
+import publishing
 import world
 from world import CLIENTS, GATEWAY, HERE, SERVERS, need
 
 # What --help tells, and the most descriptors that are for no connection.
 CONNECTIONS, HALF_OPEN, EACH, FLOWS, SPARE = 4096, 1024, 256, 1024, 64
-KINDS = "resets", "options", "half_open", "scan", "windows", "storm", "noise", "packets", "endings", "datagrams", "messages"
+KINDS = "resets", "options", "half_open", "scan", "windows", "storm", "noise", "packets", "endings", "datagrams", "messages", "errors", "pieces", "sixes"
 # Seconds within which a client is served, whatever else goes on.
 SOON = 10
 
@@ -34,6 +36,7 @@ class Hostile(world.World):
     def start_servers(self, stack):
         os.environ["ASAN_OPTIONS"] = os.environ["UBSAN_OPTIONS"] = f"log_path={self.folder}/report:print_stacktrace=1"
         self.start_server(stack, sys.executable, HERE / "world.py", "--serve")
+        stack.enter_context(ipv6.servers(self))
         self.server("ip", "link", "add", "silent", "type", "veth", "peer", "name", "nobody")
         self.server("ip", "addr", "add", "198.51.100.2/24", "dev", "silent")
         for device in "silent", "nobody":
@@ -224,10 +227,20 @@ def small_limits(place, packets):
     for kind in "endings", "half_open", "windows", "endings":
         place.fuzz(kind, packets)
         found = place.counters()
-        need("most connections", found["most"] <= 52, True)
-        need("half-open", found["half_open"] <= 24, True)
+        need("most connections", found["most"] <= 50, True)
+        need("half-open", found["half_open"] <= 20, True)
         need("memory", found["reserved"] <= 4 << 20, True)
     need("some were dropped", found["full"] > 0, True)
+    place.ends()
+
+
+def api_noise(place, packets, seed):
+    """Who may write to the API's socket writes what it likes, while the namespace does so, too."""
+    words = place.words(CLIENTS, [HERE / "out/fuzz", "all", packets, seed])
+    with world.Child(words, stdout=subprocess.DEVNULL) as fuzz:
+        publishing.noise(str(place.folder / "api.sock"), seed, 2000)
+        fuzz.wait(world.LIMIT)
+    place.served()
     place.ends()
 
 
@@ -247,12 +260,12 @@ def stopped(place):
     need("reports", place.reports(), "")
 
 
-def calls(packets, seed):
+def calls(place, packets, seed):
     """What runs with what words of the program."""
     small = ["--connections", 50, "--half-open", 20, "--half-open-each", 10, "--memory", 4]
     yield words, (), ["--threads", 1]
     for threads in 1, 4:
-        told = ["--threads", threads]
+        told = ["--threads", threads, "--enable-ipv6"]
         yield no_segments, (), told
         for kind in KINDS:
             yield one_kind, (kind, packets // 2 // len(KINDS), seed), [*told, "--no-offloads"]
@@ -260,6 +273,7 @@ def calls(packets, seed):
         yield one_place, (), told
         yield answers, (), told
         yield small_limits, (2000,), [*told, *small]
+        yield api_noise, (packets // 4, seed), [*told, "--api-socket", place.folder / "api.sock"]
         yield out_of_descriptors, (), told
         yield out_of_ports, (), [*told, "--ports", 40]
         yield no_device, (), told
@@ -273,7 +287,7 @@ def main():
     told = parser.parse_args()
     count = 0
     with Hostile(1 << 20) as place:
-        for call, rest, more in calls(told.packets, told.seed):
+        for call, rest, more in calls(place, told.packets, told.seed):
             began = time.monotonic()
             with place.usernet(0, *more):
                 try:

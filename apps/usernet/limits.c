@@ -68,7 +68,7 @@ static uint64_t room_of(uint32_t capacity) { return TCPCORE_MEMORY(capacity, cap
 /* What a new connection would keep for each direction. */
 static uint32_t capacity_now(const struct usernet *net)
 {
-    uint64_t left = net->shared->limits.memory - net->reserved;
+    uint64_t left = net->limits.memory - net->reserved;
     uint32_t capacity = CAPACITY;
     while (capacity > LEAST_CAPACITY && room_of(capacity) > left * net->shared->threads / PARTS)
         capacity /= 2;
@@ -78,7 +78,7 @@ static uint32_t capacity_now(const struct usernet *net)
 /* Whether there may be one more connection, of whatever kind. */
 static int has_room(struct usernet *net)
 {
-    uint64_t most = net->shared->limits.connections;
+    uint64_t most = net->limits.connections;
     while (net->resting.count > 0 && (net->pairs.used >= most || capacity_now(net) < CAPACITY))
         drop(net, conn_of_order(net->resting.oldest), 0);
     return (net->pairs.used < most && capacity_now(net) > 0) || oldest_goes(net, &net->half_open, GRACE, conn_of_order) ||
@@ -87,12 +87,10 @@ static int has_room(struct usernet *net)
 
 uint32_t limits_admit(struct usernet *net, const struct pair *key)
 {
-    const struct limits *limits = &net->shared->limits;
+    const struct limits *limits = &net->limits;
     int may_be = has_place(net, place_of(net, key), limits->each, conn_of_place) &&
                  has_place(net, &net->half_open, limits->half_open, conn_of_order) && has_room(net);
-    uint32_t capacity = may_be ? capacity_now(net) : 0;
-    count(net, FULL, capacity == 0);
-    return capacity;
+    return may_be ? capacity_now(net) : 0;
 }
 
 void limits_enter(struct usernet *net, struct conn *conn)
@@ -132,7 +130,7 @@ int limits_answer(struct usernet *net)
 {
     if (net->second != net->now / 1000)
         net->second = net->now / 1000, net->answered = 0;
-    if (net->answered >= net->shared->limits.strays) {
+    if (net->answered >= net->limits.strays) {
         count(net, WITHHELD, 1);
         return 0;
     }

@@ -10,11 +10,14 @@
 #include <string.h>
 #include <sys/epoll.h>
 #include <sys/socket.h>
+#include <sys/uio.h>
 #include <time.h>
 #include <unistd.h>
 
-/* PAUSE: the milliseconds for which nothing is accepted where the system lacks what that takes. */
-enum { EVENTS = 256, BATCH = 128, PAUSE = 100, DEVICE = LISTENERS, SIGNALS, INBOX, EXITS };
+enum { EVENTS = 256, BATCH = 128 };
+
+/* What is passed from thread to thread is a frame with a packet, an inward connection, or nothing, by its length. */
+_Static_assert(sizeof(struct inward) < IP_HEADER, "a frame has more bytes than an inward connection");
 
 static uint64_t milliseconds(void)
 {
@@ -23,11 +26,19 @@ static uint64_t milliseconds(void)
     return (uint64_t)time.tv_sec * 1000 + (uint64_t)time.tv_nsec / 1000000;
 }
 
-/* The middle bits: the buckets go by the upper ones, the initial sequence number by the lower ones. */
+/* The middle bits: the buckets go by the upper ones, the initial sequence number by the lower ones. The gateway's ports for what is carried
+   in are dealt one by one, so that where there are as many of them as threads each has its own. */
 uint32_t owner_of(struct usernet *net, const struct pair *pair)
 {
-    uint32_t threads = net->shared->threads;
-    return threads == 1 ? 0 : (uint32_t)(pairs_secret(&net->pairs, pair) >> 20 & 0xfff) % threads;
+    uint32_t threads = net->shared->threads, turn = pair->server_port - (uint32_t)FIRST_PORT;
+    struct pair key = *pair;
+    if (threads == 1)
+        return 0;
+    if (turn < net->limits.ports && memcmp(&key.server, &net->gateway, sizeof key.server) == 0)
+        key.server_port = 0;
+    else
+        turn = 0;
+    return ((uint32_t)(pairs_secret(&net->pairs, &key) >> 20 & 0xfff) + turn) % threads;
 }
 
 static void to_device(const void *packet, size_t length, void *context)
@@ -36,8 +47,8 @@ static void to_device(const void *packet, size_t length, void *context)
     count(net, EMITTED, write(net->device, packet, length) > 0); /* what it can't take is lost, and sent again */
 }
 
-/* The gateway's address on Ethernet, and the name server's: one of a local administration (IEEE 802). */
-static const struct ethernet_addr GATEWAY = {{0x52, 0x55, 10, 0, 2, 2}};
+/* One of a local administration (IEEE 802). */
+const struct ethernet_addr GATEWAY_ETHERNET = {{0x52, 0x55, 10, 0, 2, 2}};
 
 /* Puts an Ethernet header between the device's header and the packet, for which there is room before both. */
 static uint8_t *with_ethernet(const struct usernet *net, uint8_t *frame)
@@ -48,12 +59,12 @@ static uint8_t *with_ethernet(const struct usernet *net, uint8_t *frame)
         front.hdr_len = (uint16_t)(front.hdr_len + ETHERNET_HEADER), front.csum_start = (uint16_t)(front.csum_start + ETHERNET_HEADER);
     frame -= ETHERNET_HEADER;
     memcpy(frame, &front, TUN_HEADER);
-    ethernet_write(frame + TUN_HEADER, net->host, GATEWAY, ETHERNET_IPV4);
+    ethernet_write(frame + TUN_HEADER, net->host, GATEWAY_ETHERNET, frame[TUN_HEADER + ETHERNET_HEADER] >> 4 == 6 ? ETHERNET_IPV6 : ETHERNET_IPV4);
     return frame;
 }
 
-/* A packet behind the device's header goes to the device, which may have none. */
-static void pass_down(struct usernet *net, uint8_t *frame, size_t length)
+/* The device may have no header. */
+void pass_on_wire(struct usernet *net, uint8_t *frame, size_t length)
 {
     size_t front = net->offloads ? 0 : TUN_HEADER;
     if (net->is_tap)
@@ -61,41 +72,60 @@ static void pass_down(struct usernet *net, uint8_t *frame, size_t length)
     faults_pass(&net->down, frame + front, length - front, to_device, net);
 }
 
+/* The same of a packet whose addresses may be surrogates. */
+static void pass_down(struct usernet *net, uint8_t *frame, size_t length)
+{
+    if (frame[TUN_HEADER + 16] >= 0xf0)
+        frame = v6_write(net, frame, &length);
+    if (frame)
+        pass_on_wire(net, frame, length);
+}
+
 /* Who asks for the gateway's Ethernet address, or for the name server's, is told. */
 static void answer_arp(struct usernet *net, const uint8_t *frame, size_t length)
 {
     uint8_t answer[TUN_HEADER + ETHERNET_ANSWER] = {0}, *at = answer + TUN_HEADER;
-    size_t count = ethernet_answer(at, frame, length, GATEWAY, net->gateway);
+    size_t count = ethernet_answer(at, frame, length, GATEWAY_ETHERNET, net->gateway);
     if (count == 0)
-        count = ethernet_answer(at, frame, length, GATEWAY, net->resolver);
+        count = ethernet_answer(at, frame, length, GATEWAY_ETHERNET, net->resolver);
     if (count > 0)
         to_device(net->offloads ? answer : at, (net->offloads ? TUN_HEADER : 0) + count, net);
 }
 
-void send_segment(struct usernet *net, size_t length, tcpcore_addr from, tcpcore_addr to)
+/* Nothing of it is left to the device, whose header is all zero where there is one. */
+static void send_chosen(struct usernet *net, size_t length, tcpcore_addr from, tcpcore_addr to, uint8_t protocol, const struct ip_choices *choices)
 {
-    send_packet(net, length, from, to, IP_TCP);
+    uint8_t *frame = segment_place(net) - TRAINS_FRONT;
+    memset(frame, 0, TUN_HEADER);
+    pass_down(net, frame, TUN_HEADER + ip_write_chosen(frame + TUN_HEADER, from, to, length, protocol, choices));
 }
 
-/* Nothing of it is left to the device, whose header is all zero where there is one. */
+void send_segment(struct usernet *net, size_t length, tcpcore_addr from, tcpcore_addr to, int may_be_cut)
+{
+    struct ip_choices choices = {.may_be_cut = may_be_cut != 0, .id = may_be_cut ? ++net->next_id : 0};
+    send_chosen(net, length, from, to, IP_TCP, &choices);
+}
+
 void send_packet(struct usernet *net, size_t length, tcpcore_addr from, tcpcore_addr to, uint8_t protocol)
 {
-    uint8_t *frame = net->packet + ETHERNET_HEADER;
-    memset(frame, 0, TUN_HEADER);
-    pass_down(net, frame, TUN_HEADER + ip_write_any(frame + TUN_HEADER, from, to, length, protocol));
+    send_chosen(net, length, from, to, protocol, &(struct ip_choices){0});
 }
 
 void send_train(struct usernet *net, tcpcore_addr from, const struct tcpcore_train *train)
 {
-    uint8_t *frame = net->packet + ETHERNET_HEADER;
+    uint8_t *frame = segment_place(net) - TRAINS_FRONT;
     pass_down(net, frame, trains_write(frame, from, train));
 }
 
-/* What decides which thread has a packet: its addresses and ports, or of an echo its identifier. */
-static struct pair key_of(const struct ip_packet *packet, uint8_t protocol)
+/* What decides which thread has a packet: its addresses and ports, or of an echo its identifier; of an error those of the packet that met
+   it, the other way round. */
+static struct pair key_of(struct usernet *net, const struct ip_packet *packet, uint8_t protocol)
 {
     const uint8_t *bytes = packet->segment;
-    if (protocol == IP_ICMP)
+    struct icmp_error error;
+    if (protocol == IP6_ICMP ? v6_read_error(net, &error) : protocol == IP_ICMP && icmp_read_error(packet, &error))
+        return (struct pair){error.dst, error.src, error.dst_port, error.src_port, NULL};
+    if (protocol == IP_ICMP || protocol == IP6_ICMP)
         return (struct pair){packet->src, packet->dst, icmp_id(bytes), 0, NULL};
     return (struct pair){packet->src, packet->dst, read16(bytes), read16(bytes + 2), NULL};
 }
@@ -104,8 +134,8 @@ static void take_packet(struct usernet *net, const struct ip_packet *packet, uin
 {
     if (protocol == IP_UDP)
         relays_datagram(net, packet, vouched);
-    else if (protocol == IP_ICMP)
-        relays_message(net, packet);
+    else if (protocol != IP_TCP)
+        relays_message(net, packet, protocol);
     else
         arrive(net, packet, vouched);
 }
@@ -117,7 +147,7 @@ static const uint8_t *without_ethernet(struct usernet *net, const uint8_t *bytes
     if (*length < ETHERNET_HEADER)
         return NULL;
     net->host = ethernet_src(bytes);
-    if (ethernet_type(bytes) != ETHERNET_IPV4) {
+    if (ethernet_type(bytes) != ETHERNET_IPV4 && ethernet_type(bytes) != ETHERNET_IPV6) {
         answer_arp(net, bytes, *length);
         return NULL;
     }
@@ -125,36 +155,73 @@ static const uint8_t *without_ethernet(struct usernet *net, const uint8_t *bytes
     return bytes + ETHERNET_HEADER;
 }
 
+/* A packet, and what the device has in front of it. */
+struct arrival {
+    const uint8_t *front, *bytes;
+    size_t front_length, length;
+    int vouched; /* whether its checksum needs no look */
+};
+
+/* Reads the packet of an arrival; one that was cut is read once its last piece has come, and has nothing in front that says anything of it but
+   its Ethernet header. Whether there is one. */
+static int read_packet(struct usernet *net, struct arrival *arrival, struct ip_packet *found, uint8_t *protocol)
+{
+    struct ip_net to = {.prefix = 32};
+    if (arrival->bytes[0] >> 4 == 6) {
+        int is_there = v6_read(net, arrival->bytes, arrival->length, arrival->vouched, found, protocol);
+        arrival->vouched = 1;
+        return is_there;
+    }
+    if (arrival->bytes[16] >= 224)
+        return 0;
+    memcpy(&to.addr, arrival->bytes + 16, sizeof to.addr);
+    int answer = ip_read_any(to, arrival->bytes, arrival->length, found, protocol);
+    if (answer != IP_FRAGMENT)
+        return answer == IP_DONE;
+    count(net, PIECES, 1);
+    if (fragments_add(&net->fragments, arrival->bytes, arrival->length, net->now, &arrival->bytes, &arrival->length) != FRAGMENTS_WHOLE)
+        return 0;
+    count(net, JOINED, 1);
+    memcpy(net->front, arrival->front, arrival->front_length);
+    memset(net->front, 0, net->offloads ? TUN_HEADER : 0);
+    arrival->front = net->front, arrival->vouched = 0;
+    return ip_read_any(to, arrival->bytes, arrival->length, found, protocol) == IP_DONE;
+}
+
+/* Another thread gets the packet as if the device had given it. What it can't take is lost, too. */
+static void pass_over(const struct usernet *other, const struct arrival *arrival)
+{
+    struct iovec pieces[2] = {{(void *)(uintptr_t)arrival->front, arrival->front_length}, {(void *)(uintptr_t)arrival->bytes, arrival->length}};
+    sendmsg(other->to_inbox, &(struct msghdr){.msg_iov = pieces, .msg_iovlen = 2}, MSG_DONTWAIT);
+}
+
 /* A frame of the device: a packet of this thread's connections and relays, or of another one's, which gets the frame. What goes to many
    hosts, or by broadcast, has no host behind it, and is answered by nobody (RFC 1122, 3.2.2; RFC 9293, 3.9.2.3). */
 static void from_device(const void *frame, size_t all, void *context)
 {
     struct usernet *net = context;
-    const uint8_t *bytes = frame;
-    size_t length = all;
-    struct ip_net to = {.prefix = 32};
+    struct arrival arrival = {.front = frame, .bytes = frame, .length = all};
     struct ip_packet found;
     uint8_t protocol;
-    int vouched = 0;
     if (net->offloads)
-        bytes = trains_read(frame, length, &length, &vouched);
-    if (bytes && net->is_tap)
-        bytes = without_ethernet(net, bytes, &length);
-    if (!bytes || length < IP_HEADER || bytes[16] >= 224)
+        arrival.bytes = trains_read(frame, all, &arrival.length, &arrival.vouched);
+    if (arrival.bytes && net->is_tap)
+        arrival.bytes = without_ethernet(net, arrival.bytes, &arrival.length);
+    if (!arrival.bytes || arrival.length < IP_HEADER)
         return;
-    memcpy(&to.addr, bytes + 16, sizeof to.addr);
-    if (ip_read_any(to, bytes, length, &found, &protocol) != IP_DONE || (protocol != IP_TCP && protocol != IP_UDP && protocol != IP_ICMP))
+    arrival.front_length = (size_t)(arrival.bytes - arrival.front);
+    if (!read_packet(net, &arrival, &found, &protocol) || (protocol != IP_TCP && protocol != IP_UDP && protocol != IP_ICMP && protocol != IP6_ICMP))
         return;
     if (found.length < (protocol == IP_TCP ? SEGMENT_HEADER : UDP_HEADER)) {
         count(net, MALFORMED, 1);
         return;
     }
-    struct pair key = key_of(&found, protocol);
+    struct pair key = key_of(net, &found, protocol);
     uint32_t owner = owner_of(net, &key);
     if (owner == net->index) {
-        take_packet(net, &found, protocol, vouched);
+        take_packet(net, &found, protocol, arrival.vouched);
     } else {
-        send(net->shared->all[owner]->to_inbox, frame, all, MSG_DONTWAIT); /* what it can't take is lost, too */
+        pass_over(net->shared->all[owner], &arrival);
     }
 }
 
@@ -189,9 +256,15 @@ static void read_inbox(struct usernet *net)
 {
     for (int at = 0; at < BATCH; at++) {
         ssize_t got = recv(net->inbox, net->frame, sizeof net->frame, MSG_DONTWAIT);
+        struct inward inward;
         if (got <= 0)
             return;
-        from_device(net->frame, (size_t)got, net);
+        if (got != sizeof inward) {
+            from_device(net->frame, (size_t)got, net);
+            continue;
+        }
+        memcpy(&inward, net->frame, sizeof inward);
+        conn_publish(net, inward);
     }
 }
 
@@ -199,37 +272,6 @@ static int watch(struct usernet *net, int descriptor, uint32_t events, uint64_t 
 {
     struct epoll_event event = {.events = events, .data.u64 = number};
     return epoll_ctl(net->events, EPOLL_CTL_ADD, descriptor, &event) == 0;
-}
-
-/* One thread is woken by a connection that comes, and takes it. */
-static int listen_all(struct usernet *net)
-{
-    const struct published *published = net->shared->published;
-    net->listens_at = 0;
-    for (uint64_t at = 0; published[at].socket >= 0; at++)
-        if (!watch(net, published[at].socket, EPOLLIN | EPOLLEXCLUSIVE, at))
-            return 0;
-    return 1;
-}
-
-/* Connections of the host wait for a while: what they would take isn't there. */
-static void pause_all(struct usernet *net)
-{
-    const struct published *published = net->shared->published;
-    for (uint64_t at = 0; published[at].socket >= 0; at++)
-        epoll_ctl(net->events, EPOLL_CTL_DEL, published[at].socket, NULL);
-    net->listens_at = net->now + PAUSE;
-}
-
-static void accept_on(struct usernet *net, const struct published *published)
-{
-    int socket = accept4(published->socket, NULL, NULL, SOCK_NONBLOCK | SOCK_CLOEXEC);
-    if (socket >= 0) {
-        conn_publish(net, socket, published->port);
-    } else if (is_exhausted(errno)) {
-        count(net, EXHAUSTED, 1);
-        pause_all(net);
-    }
 }
 
 /* A socket of a connection, which may have been dropped since these events were found. */
@@ -242,11 +284,15 @@ static void take_socket(struct usernet *net, struct conn *conn, uint32_t events)
     wheel_wake(&net->wheel, &conn->node);
 }
 
-/* An event's number is that of what listens, DEVICE, SIGNALS, INBOX, EXITS, and else the place of a connection, or one more than that of a relay. */
+/* An event's number is one of usernet.h, and else the address of a connection, or one more than that of a relay. */
 static void take_event(struct usernet *net, const struct epoll_event *event, void (*signalled)(void))
 {
     if (event->data.u64 < LISTENERS)
-        accept_on(net, &net->shared->published[event->data.u64]);
+        ports_take(net, event->data.u64);
+    else if (event->data.u64 == API)
+        api_accept(net);
+    else if (event->data.u64 >= CALLER && event->data.u64 < NAMED)
+        api_take(net, event->data.u64 - CALLER);
     else if (event->data.u64 == DEVICE)
         read_device(net);
     else if (event->data.u64 == SIGNALS)
@@ -261,19 +307,19 @@ static void take_event(struct usernet *net, const struct epoll_event *event, voi
         take_socket(net, event->data.ptr, event->events);
 }
 
-static void report(struct usernet *net, enum counter which, uint64_t number)
+static void tell(struct usernet *net, enum counter which, uint64_t number)
 {
     atomic_store_explicit(&net->counters[which], number, memory_order_relaxed);
 }
 
 /* What there is now, for whoever asks. */
-static void report_now(struct usernet *net)
+static void tell_of_now(struct usernet *net)
 {
-    report(net, NOW, net->pairs.used);
-    report(net, MOST, net->pairs.most);
-    report(net, HALF_OPEN, net->half_open.count);
-    report(net, RESERVED, net->reserved);
-    report(net, FLOWS_NOW, net->relays.count + net->brief.count);
+    tell(net, NOW, net->pairs.used);
+    tell(net, MOST, net->pairs.most);
+    tell(net, HALF_OPEN, net->half_open.count);
+    tell(net, RESERVED, net->reserved);
+    tell(net, FLOWS_NOW, net->relays.count + net->brief.count);
 }
 
 int loop_init(struct usernet *net, const uint8_t secret[16])
@@ -286,28 +332,33 @@ int loop_init(struct usernet *net, const uint8_t secret[16])
     pairs_init(&net->pairs, net->buckets, BUCKETS, secret);
     pairs_init(&net->datagrams, net->datagram_buckets, FLOW_BUCKETS, secret);
     pairs_init(&net->echoes, net->echo_buckets, FLOW_BUCKETS, secret);
+    fragments_init(&net->fragments, net->cut, CUT);
+    pairs_init(&net->inward, net->inward_buckets, FLOW_BUCKETS, secret);
     if (net->events < 0 || socketpair(AF_UNIX, SOCK_DGRAM | SOCK_CLOEXEC, 0, pair) != 0 ||
         tcpcore_new(&net->reader, &config, net->reader_block, sizeof net->reader_block) != TCPCORE_DONE)
         return 0;
     net->inbox = pair[0], net->to_inbox = pair[1];
-    return listen_all(net) && watch(net, net->device, EPOLLIN, DEVICE) && watch(net, net->inbox, EPOLLIN, INBOX);
+    return ports_listen(net) && watch(net, net->device, EPOLLIN, DEVICE) && watch(net, net->inbox, EPOLLIN, INBOX) &&
+           (net->index > 0 || api_watch(net));
 }
 
 /* What was found together, then all that is awake; what was dropped on the way is freed behind both. */
 static void loop_turn(struct usernet *net, void (*signalled)(void))
 {
     struct epoll_event events[EVENTS];
-    int found = epoll_wait(net->events, events, EVENTS, wheel_wait(&net->wheel, net->now));
+    int wait = wheel_wait(&net->wheel, net->now), found = epoll_wait(net->events, events, EVENTS, net->index > 0 ? wait : api_wait(wait));
     net->now = milliseconds();
-    if (net->listens_at && net->now >= net->listens_at && !listen_all(net))
-        pause_all(net);
+    if (net->listens_at && net->now >= net->listens_at)
+        ports_listen(net);
     for (int at = 0; at < found; at++)
         take_event(net, &events[at], signalled);
+    if (net->index == 0)
+        api_expire(net);
     relays_expire(net);
     turn_all(net);
     free_dropped(net);
     relays_free(net);
-    report_now(net);
+    tell_of_now(net);
 }
 
 void loop_run(struct usernet *net, int signals, int exits, void (*signalled)(void))
@@ -323,5 +374,7 @@ void loop_run(struct usernet *net, int signals, int exits, void (*signalled)(voi
     }
     end_all(net);
     relays_end(net);
-    report_now(net);
+    if (net->index == 0)
+        api_end();
+    tell_of_now(net);
 }

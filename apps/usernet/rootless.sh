@@ -53,6 +53,17 @@ passed=$((passed + 1))
 passed=$((passed + 1))
 [[ $(page http://10.0.2.2:8097/) == 200 ]] || { cat "$folder/log"; echo "rootless: FAILED: no page of the loopback"; exit 1; }
 passed=$((passed + 1))
+# A port of the host's that rootlesskit publishes by the API's socket leads to a server inside.
+su "$user" -c "cd / && XDG_RUNTIME_DIR=$folder/run timeout 30 rootlesskit --net=slirp4netns --slirp4netns-binary=$folder/usernet --port-driver=slirp4netns \
+    --publish=127.0.0.1:8098:8097/tcp --copy-up=/etc python3 -m http.server 8097 --directory /etc/apt" >"$folder/log" 2>&1 &
+inside=$!
+for _ in {1..100}; do
+    ! curl -sf -o /dev/null --max-time 5 http://127.0.0.1:8098/ || break
+    sleep 0.1
+done
+curl -sf -o /dev/null --max-time 5 http://127.0.0.1:8098/ || { cat "$folder/log"; echo "rootless: FAILED: no page by a published port"; exit 1; }
+kill "$inside"
+passed=$((passed + 1))
 if page http://10.0.2.2:8097/ --disable-host-loopback >/dev/null; then echo "rootless: FAILED: the loopback is reached"; exit 1; fi
 passed=$((passed + 1))
 echo "rootless: $passed passed, $left_out left out"

@@ -24,11 +24,11 @@ static int fails(const char *what)
 }
 
 /* The namespace's user namespace is entered by who isn't root: there this program may make a namespace of mounts. */
-static int enter_users(const struct words *options)
+static int enter_users(const struct words *told)
 {
     char name[64];
-    snprintf(name, sizeof name, "/proc/%d/ns/user", (int)options->device.pid);
-    int users = open(options->device.users ? options->device.users : name, O_RDONLY | O_CLOEXEC);
+    snprintf(name, sizeof name, "/proc/%d/ns/user", (int)told->device.pid);
+    int users = open(told->device.users ? told->device.users : name, O_RDONLY | O_CLOEXEC);
     int is_there = users >= 0 && setns(users, CLONE_NEWUSER) == 0;
     if (users >= 0)
         close(users);
@@ -55,24 +55,27 @@ static int change_root(void)
            mount(NULL, "/", NULL, MS_REMOUNT | MS_BIND | MS_RDONLY | MS_NOSUID | MS_NODEV | MS_NOEXEC, NULL) == 0;
 }
 
-/* No capability is left, and none can be had again. */
-static int drop_capabilities(void)
+/* No capability is left, and none can be had again; but where ports may be published later, that to have one below 1024. */
+static int drop_capabilities(int publishes)
 {
     struct __user_cap_header_struct head = {.version = _LINUX_CAPABILITY_VERSION_3};
-    struct __user_cap_data_struct none[2] = {{0}};
+    struct __user_cap_data_struct kept[2] = {{0}};
+    if (publishes)
+        kept[0].effective = kept[0].permitted = 1u << CAP_NET_BIND_SERVICE;
     for (int number = 0; prctl(PR_CAPBSET_READ, number, 0, 0, 0) >= 0; number++)
-        if (prctl(PR_CAPBSET_DROP, number, 0, 0, 0) != 0)
+        if (!(publishes && number == CAP_NET_BIND_SERVICE) && prctl(PR_CAPBSET_DROP, number, 0, 0, 0) != 0)
             return 0;
-    return syscall(SYS_capset, &head, none) == 0 && prctl(PR_SET_NO_NEW_PRIVS, 1, 0, 0, 0) == 0;
+    return syscall(SYS_capset, &head, kept) == 0 && prctl(PR_SET_NO_NEW_PRIVS, 1, 0, 0, 0) == 0;
 }
 
-int sandbox_enter(const struct words *options)
+int sandbox_enter(const struct words *told)
 {
-    if (geteuid() != 0 && !enter_users(options))
+    int is_root = geteuid() == 0;
+    if (!is_root && !enter_users(told))
         return fails("--enable-sandbox: the user namespace");
     if (!change_root())
         return fails("--enable-sandbox: the root");
-    return drop_capabilities() ? 1 : fails("--enable-sandbox: the capabilities");
+    return drop_capabilities(is_root && told->api) ? 1 : fails("--enable-sandbox: the capabilities");
 }
 
 #ifdef HAS_SECCOMP
@@ -80,27 +83,29 @@ int sandbox_enter(const struct words *options)
 static const int CALLS[] = {
     SCMP_SYS(epoll_wait), SCMP_SYS(epoll_pwait), SCMP_SYS(epoll_pwait2), SCMP_SYS(epoll_ctl), SCMP_SYS(read), SCMP_SYS(write), SCMP_SYS(close),
     SCMP_SYS(recvfrom), SCMP_SYS(recvmsg), SCMP_SYS(sendto), SCMP_SYS(sendmsg), SCMP_SYS(accept4), SCMP_SYS(connect), SCMP_SYS(bind),
-    SCMP_SYS(shutdown), SCMP_SYS(getsockopt), SCMP_SYS(setsockopt), SCMP_SYS(clock_gettime), SCMP_SYS(futex), SCMP_SYS(brk), SCMP_SYS(mmap),
+    SCMP_SYS(listen), SCMP_SYS(shutdown), SCMP_SYS(getsockopt), SCMP_SYS(setsockopt), SCMP_SYS(clock_gettime), SCMP_SYS(futex), SCMP_SYS(brk), SCMP_SYS(mmap),
     SCMP_SYS(munmap), SCMP_SYS(mremap), SCMP_SYS(mprotect), SCMP_SYS(madvise), SCMP_SYS(fstat), SCMP_SYS(newfstatat), SCMP_SYS(lseek),
     SCMP_SYS(rt_sigprocmask), SCMP_SYS(rt_sigreturn), SCMP_SYS(restart_syscall), SCMP_SYS(sched_yield), SCMP_SYS(sched_getaffinity), SCMP_SYS(set_robust_list),
     SCMP_SYS(rseq), SCMP_SYS(exit), SCMP_SYS(exit_group)};
 
-/* Beside them sockets of IPv4 alone, and files that are only read. Whatever else is called ends the program. */
-int sandbox_filter(void)
+/* Beside them sockets of IPv4, and of IPv6 where that is there, and files that are only read. Whatever else is called ends the program. */
+int sandbox_filter(int has_ipv6)
 {
     scmp_filter_ctx filter = seccomp_init(SCMP_ACT_KILL_PROCESS);
     int fault = !filter || seccomp_attr_set(filter, SCMP_FLTATR_CTL_TSYNC, 1) != 0;
     for (size_t at = 0; !fault && at < sizeof CALLS / sizeof CALLS[0]; at++)
         fault = seccomp_rule_add(filter, SCMP_ACT_ALLOW, CALLS[at], 0) != 0;
     fault = fault || seccomp_rule_add(filter, SCMP_ACT_ALLOW, SCMP_SYS(socket), 1, SCMP_A0(SCMP_CMP_EQ, AF_INET)) != 0 ||
+            (has_ipv6 && seccomp_rule_add(filter, SCMP_ACT_ALLOW, SCMP_SYS(socket), 1, SCMP_A0(SCMP_CMP_EQ, AF_INET6)) != 0) ||
             seccomp_rule_add(filter, SCMP_ACT_ALLOW, SCMP_SYS(openat), 1, SCMP_A2(SCMP_CMP_MASKED_EQ, O_ACCMODE | O_CREAT, O_RDONLY)) != 0 ||
             seccomp_load(filter) != 0;
     seccomp_release(filter);
     return !fault || fails("--enable-seccomp");
 }
 #else
-int sandbox_filter(void)
+int sandbox_filter(int has_ipv6)
 {
+    (void)has_ipv6;
     fputs("usernet: --enable-seccomp: built without libseccomp\n", stderr);
     return 0;
 }

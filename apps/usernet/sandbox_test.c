@@ -43,7 +43,7 @@ int main(void)
         int status;
         pid_t child = fork();
         if (child == 0)
-            exit(sandbox_filter() ? CALLS[at].make() < 0 : 2);
+            exit(sandbox_filter(0) ? CALLS[at].make() < 0 : 2);
         waitpid(child, &status, 0);
         int is_ended = WIFSIGNALED(status) && WTERMSIG(status) == SIGSYS, is_well = WIFEXITED(status) && WEXITSTATUS(status) == 0;
         if (CALLS[at].is_forbidden ? !is_ended : !is_well)

@@ -94,7 +94,8 @@ def refused_words(place):
     cidr = ["10.0.2.0/24x", "10.0.2.0/26", "10.0.2.0/0", "10.0.2.0", "10.0.2/24", ""]
     words = [["--ready-fd", "99"], ["-r", "3"], ["-e", "99"], ["-r", "4294967297"], ["-r", "-1"], ["--netns", path], ["--netns-type=path", path],
              *(["--publish", word] for word in publish), *(["--cidr", word] for word in cidr), ["--publish", "127.0.0.1:7006:80", "-r", "3"],
-             ["--outbound-addr", ""], ["-m", "575"], ["--threads", "65"], ["sixteen_is_a_lot"]]
+             *([f"--{name}", "3", "--threads", "4"] for name in ("ports", "connections", "half-open", "half-open-each", "flows")),
+             ["--outbound-addr", ""], ["--outbound-addr6", "10.0.0.1"], ["-m", "575"], ["-6", "-m", "1279"], ["--api-socket", ""], ["--threads", "65"], ["sixteen_is_a_lot"]]
     for call in words:
         space = [] if path in call else ["--netns", world.CLIENTS]
         done = subprocess.run(place.words(world.SERVERS, ["timeout", 5, world.HERE / "out" / place.program_name, *space, *call]), stdout=subprocess.PIPE,
@@ -130,7 +131,7 @@ def descriptors_told(place):
     watched, held = os.pipe()
     space = "--netns-type=path", f"/run/netns/{world.CLIENTS}"
     boxes = [] if "WITHOUT_SECCOMP" in os.environ else ["--enable-sandbox", "--enable-seccomp"]
-    words = ["--disable-host-loopback", "--mtu=65520", *boxes, "-c", "-e", watched, "-r", tells, *space, "tap0"]
+    words = ["--disable-host-loopback", "--mtu=65520", *boxes, "--enable-ipv6", "-c", "-e", watched, "-r", tells, *space, "tap0"]
     words.insert(0, world.HERE / "out" / place.program_name)
     with world.Child(place.words(world.SERVERS, words), stdout=subprocess.DEVNULL, pass_fds=(tells, watched)) as child:
         need("ready", os.read(ready, 9), b"1")

@@ -11,6 +11,9 @@ import time
 
 import world
 from clients import CLIENTS, MIB, download_past_all_numbers, flows_go, killed_program, many, sent_to_many
+from paths import PATHS
+from publishing import PUBLISHING
+from ipv6 import IPV6
 from starts import STARTS
 from world import need
 
@@ -50,7 +53,7 @@ def main():
                         name = call.__name__ + (", faults" if fault else "") + (f", {threads} threads" if threads > 1 else "")
                         run(place, name, call, *rest)
                         count += 1
-        for call in STARTS:
+        for call in STARTS + PUBLISHING + PATHS + IPV6:
             if not words.only or words.only in call.__name__:
                 run(place, call.__name__, call)
                 count += 1

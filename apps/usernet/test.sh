@@ -23,6 +23,8 @@ redis-benchmark redis-tools
 psql postgresql
 sshd openssh-server
 scp openssh-client
+nc netcat-openbsd
+socat socat
 LIST
 has libseccomp-dev test -e /usr/include/seccomp.h || export WITHOUT_SECCOMP=1
 [[ -e $library ]] || { echo "usernet: no $library: run 'rt lib' in crates/tcp_c"; exit 1; }
@@ -32,6 +34,7 @@ if [[ ${1-} == --hostile ]]; then
     exec python3 hostile.py "${@:2}"
 fi
 [[ -n ${WITHOUT_SECCOMP-} ]] || out/sandbox_test
+./install_test.sh "$library"
 python3 test.py "$@"
 case " $* " in
 *" --only "*) ;;

@@ -3,10 +3,11 @@
  *     usernet [OPTION ..] PID|PATH [DEVICE]
  * Each connection of the namespace ends in an end of ours (../../c/tcpcore/tcpcore.h), behind which a socket of the host goes
  * on to the same address and port; datagrams and echoes go through sockets of the host's, too. 10.0.2.2 is the host's loopback,
- * 10.0.2.3 its name server, 10.0.2.100 the namespace. IPv4 alone. It prints "ready", ends on SIGTERM or SIGINT with every connection reset, and reports counts
- * and bytes held with --stats, at its end and on SIGUSR1. --threads runs so many, each with a queue of the device and the
- * connections that a hash deals to it. --fault loses, doubles and delays so many percent, for tests. What the namespace can hold
- * is limited: --help tells how, and all other words. Where the device is deleted it ends with status 1.
+ * 10.0.2.3 its name server, 10.0.2.100 the namespace; with -6 fd00::2, fd00::3 and fd00::100 are, too. It prints "ready", ends on
+ * SIGTERM or SIGINT with every connection reset, and reports counts and bytes held with --stats, at its end and on SIGUSR1.
+ * --threads runs so many, each with a queue of the device and the connections that a hash deals to it. --fault loses, doubles and
+ * delays so many percent, for tests. What the namespace can hold is limited: --help tells how, and all other words. Where the
+ * device is deleted it ends with status 1.
  */
 #define _GNU_SOURCE
 #include "usernet.h"
@@ -22,18 +23,19 @@
 #include <unistd.h>
 #include <wchar.h>
 
-/* The bytes of both headers, and the descriptors that are for no connection: of the program, and of each thread. */
-enum { HEADERS = 40, SPARE = 32, SPARE_EACH = 8, MIB = 1 << 20 };
+/* The descriptors that are for no connection: of the program, and of each thread. */
+enum { SPARE = 32, SPARE_EACH = 8, MIB = 1 << 20 };
 
-static struct shared shared;
-static struct words options;
+static struct shared shared = {.lock = PTHREAD_MUTEX_INITIALIZER, .api = -1};
+static struct words told;
 static int signals;
 
-static void report(void)
+static void tell(void)
 {
     static const char *const names[COUNTERS] = {
-        "opened", "refused", "published", "strays", "abandoned", "malformed", "arrived", "emitted", "up", "down", "full", "recycled",
-        "exhausted", "withheld", "unsaid", "now", "most", "half_open", "reserved", "flows", "flows_now", "datagrams", "unreachable"};
+        "opened", "refused", "published", "strays", "gave_up", "malformed", "arrived", "emitted", "up", "down", "full", "recycled",
+        "exhausted", "withheld", "unsaid", "now", "most", "half_open", "reserved", "flows", "flows_now", "datagrams", "unreachable",
+        "pieces", "joined", "errors", "narrowed"};
     struct mallinfo2 held = mallinfo2();
     unsigned long long sums[COUNTERS] = {0};
     for (uint32_t net = 0; net < shared.threads; net++)
@@ -51,49 +53,60 @@ static void read_signal(void)
     struct signalfd_siginfo found = {0};
     if (read(signals, &found, sizeof found) < 0 || found.ssi_signo != SIGUSR1)
         stop_all(&shared, 0);
-    else if (options.shows)
-        report();
+    else if (told.shows)
+        tell();
 }
 
 /* The host with this number in the namespace's network. */
 static tcpcore_addr host_of(uint8_t number)
 {
-    uint32_t addr = options.network + number;
+    uint32_t addr = told.network + number;
     return (tcpcore_addr){{(uint8_t)(addr >> 24), (uint8_t)(addr >> 16), (uint8_t)(addr >> 8), (uint8_t)addr}};
 }
 
-static struct usernet *make(uint32_t index, int queue, const uint8_t secret[16])
+/* A thread's share of a number: all shares together are this number, and where there are as many as threads none is 0. */
+static uint64_t share(uint64_t number, uint32_t index) { return number / shared.threads + (index < number % shared.threads); }
+
+/* A thread's share of what all may hold together. Its ports are those of which it is the owner. */
+static struct limits share_of(const struct limits *all, uint32_t index)
+{
+    return (struct limits){.connections = share(all->connections, index), .half_open = share(all->half_open, index),
+                           .each = share(all->each, index), .memory = share(all->memory * MIB, index), .ports = all->ports,
+                           .flows = share(all->flows, index), .strays = share(all->strays, index), .quiet = all->quiet};
+}
+
+/* As many descriptors as there may be, and no more connections and flows than these are for. */
+static struct limits limits_of_all(void)
+{
+    struct rlimit files;
+    struct limits limits = told.limits;
+    uint64_t threads = shared.threads, spare = SPARE + SPARE_EACH * threads, least = 2 * threads;
+    getrlimit(RLIMIT_NOFILE, &files);
+    files.rlim_cur = files.rlim_max;
+    setrlimit(RLIMIT_NOFILE, &files);
+    uint64_t all = files.rlim_max > spare + least ? files.rlim_max - spare : least;
+    limits.flows = limits.flows < all / 2 ? limits.flows : all / 2;
+    limits.connections = limits.connections < all - limits.flows ? limits.connections : all - limits.flows;
+    return limits;
+}
+
+static struct usernet *make(uint32_t index, int queue, const struct limits *all, const uint8_t secret[16])
 {
     struct usernet *net = calloc(1, sizeof *net);
     if (!net)
         return NULL;
     net->index = index, net->shared = &shared;
-    net->device = queue, net->offloads = options.device.offloads;
+    net->limits = share_of(all, index);
+    net->device = queue, net->offloads = told.device.offloads;
     net->is_tap = tun_is_tap(queue, net->host.byte);
-    net->mss = (uint16_t)(options.device.mtu < 1500 ? options.device.mtu - HEADERS : 1460);
+    net->mtu = told.device.mtu;
+    if (told.has_ipv6 && !(net->v6 = calloc((size_t)V6_SETS * V6_WAYS, sizeof *net->v6)))
+        return NULL;
+    net->mss = (uint16_t)(told.device.mtu < 1500 ? told.device.mtu - HEADERS : 1460);
     net->own = host_of(100), net->gateway = host_of(2), net->resolver = host_of(3);
-    net->up.percent = net->down.percent = (uint32_t)options.fault;
+    net->up.percent = net->down.percent = (uint32_t)told.fault;
     net->up.state = 2 * index, net->down.state = 2 * index + 1;
     return loop_init(net, secret) ? net : NULL;
-}
-
-/* Each thread's share of a number, which is the same for all. */
-static uint64_t share(uint64_t number) { return (number + shared.threads - 1) / shared.threads; }
-
-/* As many descriptors as there may be, and no more connections than these are for. */
-static void share_limits(void)
-{
-    struct rlimit files;
-    struct limits limits = options.limits;
-    uint64_t spare = SPARE + SPARE_EACH * shared.threads;
-    getrlimit(RLIMIT_NOFILE, &files);
-    files.rlim_cur = files.rlim_max;
-    setrlimit(RLIMIT_NOFILE, &files);
-    uint64_t all = files.rlim_max > spare + 2 ? files.rlim_max - spare : 2, flows = limits.flows < all / 2 ? limits.flows : all / 2, most = all - flows;
-    shared.limits = (struct limits){.connections = share(limits.connections < most ? limits.connections : most),
-                                    .half_open = share(limits.half_open), .each = share(limits.each),
-                                    .memory = share(limits.memory * MIB), .ports = limits.ports, .flows = share(flows),
-                                    .strays = share(limits.strays), .quiet = limits.quiet};
 }
 
 /* Makes all threads' structs; whether it could. */
@@ -102,32 +115,34 @@ static int set_up(void)
     uint8_t secret[16];
     int queues[THREADS];
     sigset_t taken;
-    share_limits();
-    if (options.shows)
+    struct limits limits = limits_of_all();
+    if (told.shows)
         mallopt(M_ARENA_MAX, 1); /* so that what is held is told of all threads */
     sigemptyset(&taken);
     sigaddset(&taken, SIGTERM), sigaddset(&taken, SIGINT), sigaddset(&taken, SIGUSR1);
     sigprocmask(SIG_BLOCK, &taken, NULL);
     signals = signalfd(-1, &taken, SFD_NONBLOCK | SFD_CLOEXEC);
-    if (signals < 0 || getentropy(secret, sizeof secret) || !tun_open(&options.device, queues, shared.threads))
+    if (told.api && (shared.api = api_open(told.api)) < 0)
+        return perror(told.api), 0;
+    if (signals < 0 || getentropy(secret, sizeof secret) || !tun_open(&told.device, queues, shared.threads))
         return 0;
     for (uint32_t net = 0; net < shared.threads; net++)
-        if (!(shared.all[net] = make(net, queues[net], secret)))
+        if (!(shared.all[net] = make(net, queues[net], &limits, secret)))
             return 0;
     return 1;
 }
 
 /* The network is there: who started the program is told. */
-static void report_ready(void)
+static void tell_ready(void)
 {
     puts("ready");
     fflush(stdout);
-    if (options.ready == NO_DESCRIPTOR)
+    if (told.ready == NO_DESCRIPTOR)
         return;
-    if (write((int)options.ready, "1", 1) != 1)
+    if (write((int)told.ready, "1", 1) != 1)
         perror("--ready-fd");
-    if (options.ready > STDERR_FILENO) /* else a socket would have its number, and get what is said */
-        close((int)options.ready);
+    if (told.ready > STDERR_FILENO) /* else a socket would have its number, and get what is said */
+        close((int)told.ready);
 }
 
 static void *run(void *net)
@@ -150,21 +165,21 @@ int main(int number, char **words)
 {
     pthread_t others[THREADS] = {0};
     prepare_streams();
-    int status = number == 0 ? 1 : words_read(number, words, &options, &shared);
+    int status = number == 0 ? 1 : words_read(number, words, &told, &shared);
     if (status >= 0)
         return status;
-    if (!set_up() || (options.is_boxed && !sandbox_enter(&options)))
+    if (!set_up() || (told.is_boxed && !sandbox_enter(&told)))
         return 1;
     for (uint32_t net = 1; net < shared.threads; net++)
         if (pthread_create(&others[net], NULL, run, shared.all[net]) != 0)
             return perror("threads"), 1;
-    if (options.is_filtered && !sandbox_filter())
+    if (told.is_filtered && !sandbox_filter(told.has_ipv6))
         return 1;
-    report_ready();
-    loop_run(shared.all[0], signals, options.exits == NO_DESCRIPTOR ? -1 : (int)options.exits, read_signal);
+    tell_ready();
+    loop_run(shared.all[0], signals, told.exits == NO_DESCRIPTOR ? -1 : (int)told.exits, read_signal);
     for (uint32_t net = 1; net < shared.threads; net++)
         pthread_join(others[net], NULL);
-    if (options.shows)
-        report();
+    if (told.shows)
+        tell();
     return shared.status;
 }

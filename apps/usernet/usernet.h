@@ -12,15 +12,20 @@
 #include "companions/answers.h"
 #include "companions/ethernet.h"
 #include "companions/faults.h"
+#include "companions/fragments.h"
 #include "companions/icmp.h"
+#include "companions/icmp6.h"
 #include "companions/ip.h"
+#include "companions/ip6.h"
 #include "companions/pairs.h"
+#include "companions/path.h"
 #include "companions/timers.h"
 #include "companions/trains.h"
 #include "companions/udp.h"
 #include "companions/wheel.h"
 
 #include <netinet/in.h>
+#include <pthread.h>
 #include <stdatomic.h>
 #include <time.h>
 
@@ -28,10 +33,25 @@
 enum { CAPACITY = 262144, LEAST_CAPACITY = 8192, SHIFT = 3, BUCKETS = 65536, FLOW_BUCKETS = 4096 };
 
 /* The most threads, and ports that are published; the queues of half-open connections by their destination. */
-enum { THREADS = 64, LISTENERS = 16, PLACES = 4096 };
+enum { THREADS = 64, LISTENERS = 256, PLACES = 4096 };
 
-/* The longest header of a segment. */
-enum { MOST_HEADER = 60 };
+/* The IPv6 addresses that a thread knows at once: in so many sets, of so many each. */
+enum { V6_SETS = 16384, V6_WAYS = 4 };
+
+/* The packets that a thread puts together from their pieces at once. */
+enum { CUT = 8 };
+
+/* The most clients of the API's socket at once. */
+enum { CALLERS = 8 };
+
+/* What an event of epoll is about: a published port by its place, one of these, or else a connection or relay by its address. */
+enum { DEVICE = LISTENERS, SIGNALS, INBOX, EXITS, API, CALLER, NAMED = CALLER + CALLERS };
+
+/* The first of the gateway's ports from which connections and datagrams are carried in. */
+enum { FIRST_PORT = 32768 };
+
+/* The longest header of a segment; the bytes of the shortest IPv4 and TCP headers together. */
+enum { MOST_HEADER = 60, HEADERS = 40 };
 
 /* The connections of one kind, the oldest first, and a connection's place among them; all zero where it is in none. */
 struct link { struct link *older, *newer; struct queue *queue; };
@@ -46,6 +66,7 @@ struct conn {
     tcpcore_end end;                /* the namespace's peer; none before the host's socket is connected */
     struct timers timers;
     struct answers answers;
+    struct path path;
     void *block;                    /* the memory of the end, for as long as there is one */
     uint32_t capacity;              /* bytes kept for each direction */
     int socket;                     /* the host's, or -1 once both directions are done */
@@ -59,21 +80,32 @@ struct conn {
     uint8_t syn_length;
 };
 
-/* Datagrams between two ports, or echoes with one identifier: a socket of the host that is connected to the other side. */
+/* Datagrams between two ports, or echoes with one identifier: a socket of the host that is connected to the other side. Or datagrams that
+   a client of the host's sends to a published port, whose socket serves all of its clients. */
 struct relay {
     struct pair pair;   /* as the namespace has it; of echoes the client's port is the identifier, and the server's 0 */
+    struct pair outer;  /* of a published port: the host's client, and as the server's port the published port's place */
     struct link order;  /* among all, by when a packet went through last */
     struct relay *next;  /* of those that were dropped */
     uint64_t since;     /* when one went through last */
     int socket;
-    uint8_t protocol;   /* IP_UDP or IP_ICMP */
+    uint8_t protocol;   /* IP_UDP, IP_ICMP or IP6_ICMP */
+    uint8_t is_inward;  /* whether its socket is a published port's */
     uint8_t is_dropped; /* whether it waits to be freed */
+};
+
+/* An IPv6 address, and the address that stands for it. */
+struct v6_entry {
+    struct ip6_addr addr;
+    tcpcore_addr surrogate;
+    uint32_t uses;    /* by connections and relays */
+    uint64_t entered; /* when it came, before others or behind them; 0 where there is none */
 };
 
 /* What is counted. */
 enum counter {
     OPENED, REFUSED, PUBLISHED, /* connections of the namespace: done at the host, refused by it; carried in */
-    STRAYS, ABANDONED, MALFORMED, /* resets for what no connection takes; connections that timers gave up; what was no segment */
+    STRAYS, GAVE_UP, MALFORMED, /* resets for what no connection takes; connections that timers gave up; what was no segment */
     ARRIVED, EMITTED, UP, DOWN, /* packets; bytes of text */
     FULL, RECYCLED,             /* connections that a limit kept out; half-open or silent ones that made way for another */
     EXHAUSTED,                  /* connections that found no descriptor, memory or port of the host */
@@ -81,7 +113,9 @@ enum counter {
     NOW, MOST, HALF_OPEN,       /* connections now, the most at once, and those half-open now */
     RESERVED,                   /* bytes of all ends now, as limits.memory counts them */
     FLOWS, FLOWS_NOW,           /* flows of datagrams and echoes so far, and now */
-    DATAGRAMS, UNREACHABLE,     /* datagrams and echoes that went through, either way; those that ICMP said couldn't */
+    DATAGRAMS, UNREACHABLE,     /* datagrams and echoes that went through, either way; what ICMP said couldn't */
+    PIECES, JOINED,             /* pieces of packets that came; packets that were put together from them */
+    ERRORS, NARROWED,           /* the namespace's ICMP errors that were about a connection's flight; those that shortened its packets */
     COUNTERS
 };
 
@@ -97,32 +131,56 @@ struct limits {
     uint64_t quiet;        /* milliseconds for which a connection repeats no answer (companions/answers.h) */
 };
 
-/* A socket that listens, and the port of the namespace behind it. */
-struct published { int socket; uint16_t port; };
+/* A port of the host's, and the place in the namespace that it leads to. */
+struct published {
+    uint32_t id;               /* its number, never used again; 0 where there is none here */
+    int socket;                /* it listens, or takes datagrams */
+    uint8_t protocol;          /* IP_TCP or IP_UDP */
+    uint16_t port, guest_port; /* the host's port, and the namespace's */
+    struct in_addr addr;       /* the host's address */
+    tcpcore_addr guest;        /* the namespace's address */
+};
+
+/* A connection that came to a published port: any thread may take it, that has a port of the gateway's left for it. */
+struct inward {
+    int socket;
+    uint32_t turn; /* the threads that had none */
+    tcpcore_addr guest;
+    uint16_t guest_port;
+};
 
 /* What all threads have in common. */
 struct shared {
     struct usernet *all[THREADS];
     uint32_t threads;
-    struct limits limits;                      /* of each thread: its share of what the program was told */
     struct in_addr outbound;                   /* the address from which the host's sockets connect; all zero: the system's choice */
+    struct in6_addr outbound6;                 /* the same of IPv6 */
     int has_loopback, has_dns;                 /* whether the host's loopback and its name server are reached */
-    struct published published[LISTENERS + 1]; /* the last one's socket is below 0 */
+    pthread_mutex_t lock;                      /* of what is published */
+    struct published published[LISTENERS];
+    uint32_t last_id;                          /* of what was published */
+    int api;                                   /* the API's socket, or below 0 */
     _Atomic int stops, status;                 /* whether all end, and the program's status then */
 };
 
 struct usernet {
     uint32_t index;            /* this thread's place */
     struct shared *shared;
+    struct limits limits;      /* its share of what the program was told: all shares together are that */
     int device, events;        /* its queue of the TUN device, and epoll's descriptor */
     int inbox, to_inbox;       /* packets of its connections that another thread has read */
     int is_gone;               /* whether the device is */
     int offloads;              /* whether trains of segments are exchanged with the device */
     int is_tap;                /* whether packets lie behind Ethernet headers */
     struct ethernet_addr host; /* then: the namespace's address, as its last frame has it */
+    uint32_t mtu;              /* of the device */
     uint16_t mss, next_port;   /* the maximum segment size; the last of the gateway's ports that was tried */
+    uint16_t next_id;          /* the identification of the last packet that may be cut */
     tcpcore_addr own, gateway; /* the namespace's address, and that which means the host's loopback */
     tcpcore_addr resolver;     /* that which means the host's name server */
+    struct v6_entry *v6;           /* NULL where there is no IPv6 */
+    uint64_t v6_entered;      /* how many were entered */
+    struct ip6_packet v6_packet; /* the last one that came */
     struct timespec read_at;   /* the age of the file of name servers when it was read */
     struct in_addr nameserver; /* the first one in it */
     uint64_t now;              /* milliseconds */
@@ -135,16 +193,20 @@ struct usernet {
     struct queue half_open, active, resting; /* the connections by their phase: active ones by when something came last */
     struct queue places[PLACES];
     struct pairs datagrams, echoes; /* the relays, by their protocols */
-    struct pair *datagram_buckets[FLOW_BUCKETS], *echo_buckets[FLOW_BUCKETS];
+    struct pairs inward;            /* those of published ports, by the host's clients */
+    struct pair *datagram_buckets[FLOW_BUCKETS], *echo_buckets[FLOW_BUCKETS], *inward_buckets[FLOW_BUCKETS];
     struct queue relays, brief; /* all of them, by when a packet went through last: those that are soon over are in `brief` */
+    struct fragments fragments; /* pieces of the namespace's packets */
+    struct fragments_packet cut[CUT];
     struct relay *gone;        /* relays that are freed behind these events */
     uint64_t reserved;         /* bytes of all ends */
     uint64_t second, answered; /* the second in which the last stray came, and resets in it */
     tcpcore_end reader;        /* an end that is never opened: it reads what comes for no other */
     uint8_t reader_block[TCPCORE_MEMORY(1, 1)];
     struct faults up, down;    /* the path between device and ends */
-    uint8_t frame[TUN_HEADER + 65535]; /* what the device gave */
-    uint8_t packet[ETHERNET_HEADER + TRAINS_ROOM]; /* what the device is given */
+    uint8_t frame[TUN_HEADER + ETHERNET_HEADER + 65535]; /* what the device gave */
+    uint8_t front[TUN_HEADER + ETHERNET_HEADER];         /* what a packet that was put together has in front */
+    uint8_t packet[ETHERNET_HEADER + IP6_MORE + TRAINS_ROOM]; /* what the device is given */
     uint8_t text[CAPACITY];    /* what a socket gave */
 };
 
@@ -159,10 +221,35 @@ static inline void count(struct usernet *net, enum counter which, uint64_t numbe
 uint32_t owner_of(struct usernet *net, const struct pair *pair);
 
 /* A segment for the namespace is written to segment_place, then sent: summed and of `length` bytes, or what tcpcore_emit_train wrote. */
-static inline uint8_t *segment_place(struct usernet *net) { return net->packet + ETHERNET_HEADER + TRAINS_FRONT; }
-void send_segment(struct usernet *net, size_t length, tcpcore_addr from, tcpcore_addr to);
+static inline uint8_t *segment_place(struct usernet *net) { return net->packet + ETHERNET_HEADER + IP6_MORE + TRAINS_FRONT; }
+void send_segment(struct usernet *net, size_t length, tcpcore_addr from, tcpcore_addr to, int may_be_cut);
 void send_packet(struct usernet *net, size_t length, tcpcore_addr from, tcpcore_addr to, uint8_t protocol);
 void send_train(struct usernet *net, tcpcore_addr from, const struct tcpcore_train *train);
+
+/* A packet behind the device's header, with room for an Ethernet header before both, goes to the device. */
+void pass_on_wire(struct usernet *net, uint8_t *frame, size_t length);
+
+/* The gateway's address on Ethernet, and the name server's. */
+extern const struct ethernet_addr GATEWAY_ETHERNET;
+
+/* ipv6.c: addresses that mean the host's loopback and its name server. */
+extern const struct ip6_addr V6_GATEWAY, V6_RESOLVER;
+
+/* The address of a surrogate, or NULL. A pair holds its two (1), or lets go of them (-1). */
+const struct ip6_addr *v6_find(struct usernet *net, tcpcore_addr surrogate);
+void v6_hold(struct usernet *net, const struct pair *pair, int change);
+
+/* Reads a packet, whose checksum needs no look where `vouched` and afterwards; its addresses are surrogates. Whether there is one. */
+int v6_read(struct usernet *net, const uint8_t *bytes, size_t length, int vouched, struct ip_packet *found, uint8_t *protocol);
+
+/* Of the packet that v6_read found last: whether it is an error, of which the addresses are surrogates. */
+int v6_read_error(struct usernet *net, struct icmp_error *error);
+
+/* As icmp_unreachable, at segment_place and without its checksum: of a packet with these surrogates. Its length, or 0. */
+size_t v6_unreachable(struct usernet *net, const struct pair *key, uint8_t protocol, const uint8_t *front, uint8_t code);
+
+/* A frame with an IPv4 packet between surrogates becomes one between their addresses, which begins before it; NULL where one isn't known. */
+uint8_t *v6_write(struct usernet *net, uint8_t *frame, size_t *length);
 
 /* Makes what a thread has; whether it could. */
 int loop_init(struct usernet *net, const uint8_t secret[16]);
@@ -175,9 +262,39 @@ void loop_run(struct usernet *net, int signals, int exits, void (*signalled)(voi
 int stop_all(struct shared *shared, int status);
 
 /* conn.c: a packet came from the namespace, whose checksum needs no look where `vouched`; a connection came from the host, to be
-   carried in to `port` of the namespace. */
+   carried in. */
 void arrive(struct usernet *net, const struct ip_packet *packet, int vouched);
-void conn_publish(struct usernet *net, int socket, uint16_t port);
+void conn_publish(struct usernet *net, struct inward inward);
+
+/* An ICMP error came from the namespace about a packet that it was sent. */
+void conn_error(struct usernet *net, const struct icmp_error *error);
+
+/* ports.c: publishes a port, whose `id` and `socket` aren't looked at; answers its number, or 0 with errno. What has this number is no
+   longer published; whether there was any. */
+uint32_t ports_publish(struct shared *shared, struct published wanted);
+int ports_remove(struct shared *shared, uint32_t id);
+
+/* This thread waits for what comes to published ports, again and again; something has come to the one at this place. */
+int ports_listen(struct usernet *net);
+void ports_take(struct usernet *net, uint64_t place);
+
+/* A port of the gateway's that is this thread's and not in use towards the key's client, as the key's server; whether there was one. */
+int ports_deal(struct usernet *net, struct pairs *used, struct pair *key);
+
+/* api.c, of the first thread alone: makes the API's socket at this path, below 0 where it can't; waits for its clients; one has come, or
+   the one at this place has sent something; those that were silent for long go; the milliseconds until then, or `wait` where that is
+   sooner; all go. */
+int api_open(const char *path);
+int api_watch(struct usernet *net);
+void api_accept(struct usernet *net);
+void api_take(struct usernet *net, uint64_t place);
+void api_expire(struct usernet *net);
+int api_wait(int wait);
+void api_end(void);
+
+/* What the API answers to a request of so many bytes, written to `out`, of API_ROOM bytes; answers its length. */
+enum { API_REQUEST = 4095, API_ROOM = 64 + 160 * LISTENERS };
+size_t api_answer(struct shared *shared, const char *request, size_t length, char *out);
 
 /* Drops a connection: it has no socket, no end and no place any more, and is freed by free_dropped. Where `resets`, the host gets a
    reset; where it is cut, the client does, too. */
@@ -193,11 +310,18 @@ void end_all(struct usernet *net);
    EACCES where the program was told to leave that place alone. `kind` is SOCK_STREAM or SOCK_DGRAM. */
 int host_socket(struct usernet *net, tcpcore_addr to, uint16_t port, int kind, int protocol);
 
-/* relays.c: a datagram or an ICMP message came from the namespace; a socket of a relay has something; relays that were silent for long go;
-   those that were dropped are freed; all go. */
+/* relays.c: the namespace is told that what it sent with these addresses and ports couldn't be delivered, as often as strays are answered. `front` is
+   what its packet has behind the IPv4 header. */
+enum { UNREACHABLE_FRONT = 8 };
+void tell_unreachable(struct usernet *net, const struct pair *key, uint8_t protocol, const uint8_t *front, int fault);
+
+/* A datagram or an ICMP message came from the namespace; a socket of a relay has something, or that of the published port at this
+   place; all relays of that one go; those that were silent for long go; those that were dropped are freed; all go. */
 void relays_datagram(struct usernet *net, const struct ip_packet *packet, int vouched);
-void relays_message(struct usernet *net, const struct ip_packet *packet);
+void relays_message(struct usernet *net, const struct ip_packet *packet, uint8_t protocol);
 void relays_readable(struct usernet *net, struct relay *relay);
+void relays_inward(struct usernet *net, const struct published *published, uint64_t place);
+void relays_remove(struct usernet *net, uint64_t place);
 void relays_expire(struct usernet *net);
 void relays_free(struct usernet *net);
 void relays_end(struct usernet *net);
@@ -238,6 +362,8 @@ struct words {
     uint64_t mtu, fault, threads;
     uint64_t ready, exits; /* descriptors, or NO_DESCRIPTOR: one is written to once all is there, the other's end ends the program */
     uint32_t network;      /* its number, without the host's */
+    const char *api;       /* the path of the API's socket, or NULL */
+    int has_ipv6;           /* whether there is IPv6 */
     int is_path;           /* whether the namespace is named by its file */
     int shows;             /* whether counts are reported */
     int is_boxed, is_filtered; /* whether what isn't needed is given up: files and rights; calls of the system */
@@ -246,11 +372,11 @@ struct words {
 #define NO_DESCRIPTOR UINT64_MAX
 
 /* sandbox.c: with one thread, before the others are made: nothing of the file system is left but /etc and /run to be read, and no right. Then,
-   of all threads: no call of the system is left but those that the loop makes. Whether it could be done. */
-int sandbox_enter(const struct words *options);
-int sandbox_filter(void);
+   of all threads: no call of the system is left but those that the loop makes, with sockets of IPv6 or without. Whether it could be done. */
+int sandbox_enter(const struct words *told);
+int sandbox_filter(int has_ipv6);
 
 /* Reads the program's words, which may publish ports. Answers below 0 where it goes on, else the status to end with. */
-int words_read(int number, char **words, struct words *options, struct shared *shared);
+int words_read(int number, char **words, struct words *told, struct shared *shared);
 
 #endif

@@ -12,16 +12,21 @@
 
 static const char USAGE[] =
     "usernet [OPTION ..] PID|PATH [DEVICE]\n"
-    "The network of a namespace, in user space: TCP, UDP and echoes over IPv4. PID is a process in the namespace, or with --netns-type=path PATH\n"
+    "The network of a namespace, in user space: TCP, UDP and echoes over IPv4 and IPv6. PID is a process in the namespace, or with --netns-type=path PATH\n"
     "is its file. The namespace is 10.0.2.100; 10.0.2.2 leads to the host's loopback, and 10.0.2.3 to its name server. DEVICE is the name that\n"
     "the namespace's TUN device gets (tun0), or of a TAP device that is there.\n"
     "\n"
-    "  --publish HOST:PORT:INNER  carries connections to this address and port of the host to a port of the namespace\n"
+    "  --publish HOST:PORT:INNER[/udp]\n"
+    "                             carries connections (or datagrams) to this address and port of the host to a port of the namespace\n"
+    "  -a, --api-socket PATH      publishes ports, lists them and removes them for who writes slirp4netns's requests to this socket: add_hostfwd,\n"
+    "                             list_hostfwd, remove_hostfwd\n"
     "  --disable-host-loopback    10.0.2.2 leads nowhere\n"
     "  --disable-dns              10.0.2.3 leads nowhere\n"
-    "  --outbound-addr ADDRESS    connects from this address of the host\n"
+    "  --outbound-addr ADDRESS, --outbound-addr6 ADDRESS\n"
+    "                             connects from this address of the host\n"
+    "  -6, --enable-ipv6          IPv6, too: the namespace is fd00::100, fd00::2 leads to the host's loopback, fd00::3 to its name server\n"
     "  --cidr ADDRESS/PREFIX      the network, of at most 25 bits, in place of 10.0.2.0/24; its hosts keep their last numbers\n"
-    "  -m, --mtu N                of the device, 576 to 65535 (1500)\n"
+    "  -m, --mtu N                of the device, 576 to 65535 (1500), with IPv6 from 1280 on\n"
     "  -r, --ready-fd FD          writes 1 to this descriptor once the network is there\n"
     "  -e, --exit-fd FD           ends when the other side of this descriptor is closed\n"
     "  --netns-type pid|path, --userns-path PATH, --netns NAME\n"
@@ -35,7 +40,7 @@ static const char USAGE[] =
     "  --fault PERCENT            loses, doubles and delays so many percent of the packets, 0 to 20 (0), for tests\n"
     "  -h, --help, -v, --version  says this, or the version of its library, and ends\n"
     "\n"
-    "Limits of what the namespace can hold and is answered:\n"
+    "Limits of what the namespace can hold and is answered. Each thread takes a share, so that none of what is held is less than --threads:\n"
     "  --connections N     so many connections (4096), and no more than there may be descriptors: one whose client was silent for ten\n"
     "                      seconds makes way for another\n"
     "  --half-open N       of them so many whose handshake isn't done (1024): after a second one makes way for another\n"
@@ -46,7 +51,7 @@ static const char USAGE[] =
     "  --strays N          so many resets and ICMP messages a second for what leads nowhere, refusals among them (1000)\n"
     "  --quiet MS          a connection repeats no answer to what it doesn't take for so many milliseconds (500); 0: it always does\n"
     "\n"
-    "An echo to a host needs the host's leave (net.ipv4.ping_group_range). Datagrams that the namespace cut into pieces are lost.\n";
+    "An echo to a host needs the host's leave (net.ipv4.ping_group_range).\n";
 
 /* A number from `least` to `most`; whether the word is one. */
 static int read_number(const char *word, uint64_t least, uint64_t most, uint64_t *number)
@@ -56,41 +61,59 @@ static int read_number(const char *word, uint64_t least, uint64_t most, uint64_t
     return *word >= '0' && *word <= '9' && *end == 0 && *number >= least && *number <= most;
 }
 
-/* Listens for HOST:PORT:INNER; whether it could. */
+/* Publishes HOST:PORT:INNER, or HOST:PORT:INNER/udp; whether it could. */
 static int publish(const char *word, struct shared *shared)
 {
-    struct sockaddr_in at = {.sin_family = AF_INET};
+    struct published wanted = {.protocol = IP_TCP};
     char host[16], ports[2][6];
     uint64_t port, inner;
-    int number = 0, end = 0, listener = socket(AF_INET, SOCK_STREAM | SOCK_NONBLOCK | SOCK_CLOEXEC, 0);
-    while (shared->published[number].socket >= 0)
-        number++;
-    if (number == LISTENERS || sscanf(word, "%15[0-9.]:%5[0-9]:%5[0-9]%n", host, ports[0], ports[1], &end) != 3 || word[end] ||
+    int end = 0;
+    if (sscanf(word, "%15[0-9.]:%5[0-9]:%5[0-9]%n", host, ports[0], ports[1], &end) != 3 ||
         !read_number(ports[0], 1, UINT16_MAX, &port) || !read_number(ports[1], 1, UINT16_MAX, &inner) ||
-        inet_pton(AF_INET, host, &at.sin_addr) != 1)
+        inet_pton(AF_INET, host, &wanted.addr) != 1)
         return 0;
-    at.sin_port = htons((uint16_t)port);
-    shared->published[number] = (struct published){listener, (uint16_t)inner};
-    setsockopt(listener, SOL_SOCKET, SO_REUSEADDR, &(int){1}, sizeof(int));
-    if (bind(listener, (struct sockaddr *)&at, sizeof at) == 0 && listen(listener, 1024) == 0)
+    if (strcmp(word + end, "/udp") == 0)
+        wanted.protocol = IP_UDP;
+    else if (word[end] && strcmp(word + end, "/tcp") != 0)
+        return 0;
+    wanted.port = (uint16_t)port, wanted.guest_port = (uint16_t)inner;
+    if (ports_publish(shared, wanted))
         return 1;
     perror(word);
     return 0;
+}
+
+/* What is published leads to the namespace's own address, which other words may say later. */
+static void aim_published(struct shared *shared, uint32_t addr)
+{
+    for (int at = 0; at < LISTENERS; at++)
+        shared->published[at].guest = (tcpcore_addr){{(uint8_t)(addr >> 24), (uint8_t)(addr >> 16), (uint8_t)(addr >> 8), (uint8_t)addr}};
+}
+
+/* Whether each thread has a share of all limits. */
+static int has_shares(const struct words *told)
+{
+    const struct limits *limits = &told->limits;
+    const uint64_t numbers[] = {limits->connections, limits->half_open, limits->each, limits->flows, limits->ports};
+    for (size_t at = 0; at < sizeof numbers / sizeof numbers[0]; at++)
+        if (numbers[at] < told->threads)
+            return fputs("usernet: a limit is less than --threads: each thread takes a share of it (see usernet --help)\n", stderr), 0;
+    return 1;
 }
 
 /* Whether a descriptor is one that the program was started with: its own are all closed where another one is started. */
 static int is_given(uint64_t descriptor) { return fcntl((int)descriptor, F_GETFD) == 0; }
 
 /* Words that a number follows. */
-static int read_limit(const char *name, const char *word, struct words *options)
+static int read_limit(const char *name, const char *word, struct words *told)
 {
-    struct limits *limits = &options->limits;
+    struct limits *limits = &told->limits;
     const struct { const char *name; uint64_t *number, least, most; } NAMES[] = {
-        {"mtu", &options->mtu, 576, 65535}, {"fault", &options->fault, 0, 20}, {"threads", &options->threads, 1, THREADS},
+        {"mtu", &told->mtu, 576, 65535}, {"fault", &told->fault, 0, 20}, {"threads", &told->threads, 1, THREADS},
         {"connections", &limits->connections, 1, 1 << 20}, {"half-open", &limits->half_open, 1, 1 << 20},
         {"half-open-each", &limits->each, 1, 1 << 20}, {"memory", &limits->memory, 4, 1 << 20}, {"flows", &limits->flows, 1, 1 << 20},
         {"ports", &limits->ports, 1, 32768}, {"strays", &limits->strays, 0, UINT32_MAX}, {"quiet", &limits->quiet, 0, 60000},
-        {"ready-fd", &options->ready, 0, INT32_MAX}, {"exit-fd", &options->exits, 0, INT32_MAX}};
+        {"ready-fd", &told->ready, 0, INT32_MAX}, {"exit-fd", &told->exits, 0, INT32_MAX}};
     for (size_t at = 0; at < sizeof NAMES / sizeof NAMES[0]; at++)
         if (strcmp(name, NAMES[at].name) == 0)
             return read_number(word, NAMES[at].least, NAMES[at].most, NAMES[at].number) &&
@@ -99,7 +122,7 @@ static int read_limit(const char *name, const char *word, struct words *options)
 }
 
 /* A network, of which the hosts 2, 3 and 100 are used. */
-static int read_network(const char *word, struct words *options)
+static int read_network(const char *word, struct words *told)
 {
     char address[16];
     struct in_addr found;
@@ -107,62 +130,66 @@ static int read_network(const char *word, struct words *options)
     int end = 0;
     if (sscanf(word, "%15[0-9.]/%2u%n", address, &prefix, &end) != 2 || word[end] || inet_pton(AF_INET, address, &found) != 1 || prefix < 1 || prefix > 25)
         return 0;
-    options->network = ntohl(found.s_addr) & ~(UINT32_MAX >> prefix);
-    options->device.prefix = prefix;
+    told->network = ntohl(found.s_addr) & ~(UINT32_MAX >> prefix);
+    told->device.prefix = prefix;
     return 1;
 }
 
 /* A word with its value, or without one; whether it could be read. */
-static int read_option(const char *name, const char *value, struct words *options, struct shared *shared)
+static int read_option(const char *name, const char *value, struct words *told, struct shared *shared)
 {
     const struct { const char *name; int *flag, value; } FLAGS[] = {
-        {"stats", &options->shows, 1}, {"no-offloads", &options->device.offloads, 0}, {"configure", &options->device.configures, 1},
-        {"enable-sandbox", &options->is_boxed, 1}, {"enable-seccomp", &options->is_filtered, 1}, {"disable-host-loopback", &shared->has_loopback, 0},
+        {"stats", &told->shows, 1}, {"no-offloads", &told->device.offloads, 0}, {"configure", &told->device.configures, 1},
+        {"enable-sandbox", &told->is_boxed, 1}, {"enable-seccomp", &told->is_filtered, 1}, {"enable-ipv6", &told->has_ipv6, 1}, {"disable-host-loopback", &shared->has_loopback, 0},
         {"disable-dns", &shared->has_dns, 0}};
     for (size_t at = 0; at < sizeof FLAGS / sizeof FLAGS[0]; at++)
         if (strcmp(name, FLAGS[at].name) == 0)
             return *FLAGS[at].flag = FLAGS[at].value, 1;
     if (strcmp(name, "netns") == 0)
-        return snprintf(options->space, sizeof options->space, "/run/netns/%s", value) < (int)sizeof options->space;
+        return snprintf(told->space, sizeof told->space, "/run/netns/%s", value) < (int)sizeof told->space;
     if (strcmp(name, "netns-type") == 0)
-        return options->is_path = strcmp(value, "path") == 0, options->is_path || strcmp(value, "pid") == 0;
+        return told->is_path = strcmp(value, "path") == 0, told->is_path || strcmp(value, "pid") == 0;
     if (strcmp(name, "userns-path") == 0)
-        return options->device.users = value, 1;
+        return told->device.users = value, 1;
+    if (strcmp(name, "api-socket") == 0)
+        return told->api = value, *value != 0;
     if (strcmp(name, "outbound-addr") == 0)
         return inet_pton(AF_INET, value, &shared->outbound) == 1;
+    if (strcmp(name, "outbound-addr6") == 0)
+        return inet_pton(AF_INET6, value, &shared->outbound6) == 1;
     if (strcmp(name, "publish") == 0)
         return publish(value, shared);
     if (strcmp(name, "cidr") == 0)
-        return read_network(value, options);
-    return read_limit(name, value, options);
+        return read_network(value, told);
+    return read_limit(name, value, told);
 }
 
 /* What the namespace is named by; whether it could be read. */
-static int read_space(const char *word, struct words *options)
+static int read_space(const char *word, struct words *told)
 {
     uint64_t pid;
-    if (options->is_path)
-        return snprintf(options->space, sizeof options->space, "%s", word) < (int)sizeof options->space;
+    if (told->is_path)
+        return snprintf(told->space, sizeof told->space, "%s", word) < (int)sizeof told->space;
     if (!read_number(word, 1, INT32_MAX, &pid))
         return 0;
-    options->device.pid = (pid_t)pid;
-    return snprintf(options->space, sizeof options->space, "/proc/%d/ns/net", (int)pid) > 0;
+    told->device.pid = (pid_t)pid;
+    return snprintf(told->space, sizeof told->space, "/proc/%d/ns/net", (int)pid) > 0;
 }
 
 /* The words that aren't options: the namespace, and the device's name. */
-static int read_rest(char **words, struct words *options)
+static int read_rest(char **words, struct words *told)
 {
-    if (*words && !*options->space && !read_space(*words++, options))
+    if (*words && !*told->space && !read_space(*words++, told))
         return 0;
     if (*words)
-        options->device.name = *words++;
-    return !*words && strlen(options->device.name) < 16;
+        told->device.name = *words++;
+    return !*words && strlen(told->device.name) < 16;
 }
 
 static const struct option OPTIONS[] = {
     {"configure", 0, 0, 'c'}, {"mtu", 1, 0, 'm'}, {"ready-fd", 1, 0, 'r'}, {"exit-fd", 1, 0, 'e'}, {"help", 0, 0, 'h'}, {"version", 0, 0, 'v'},
     {"publish", 1, 0, 0}, {"disable-host-loopback", 0, 0, 0}, {"disable-dns", 0, 0, 0}, {"enable-sandbox", 0, 0, 0}, {"enable-seccomp", 0, 0, 0},
-    {"outbound-addr", 1, 0, 0}, {"cidr", 1, 0, 0},
+    {"outbound-addr", 1, 0, 0}, {"cidr", 1, 0, 0}, {"api-socket", 1, 0, 'a'}, {"enable-ipv6", 0, 0, '6'}, {"outbound-addr6", 1, 0, 0},
     {"netns-type", 1, 0, 0}, {"userns-path", 1, 0, 0}, {"netns", 1, 0, 0}, {"threads", 1, 0, 0}, {"no-offloads", 0, 0, 0}, {"stats", 0, 0, 0},
     {"fault", 1, 0, 0}, {"connections", 1, 0, 0}, {"half-open", 1, 0, 0}, {"half-open-each", 1, 0, 0}, {"memory", 1, 0, 0}, {"flows", 1, 0, 0},
     {"ports", 1, 0, 0}, {"strays", 1, 0, 0}, {"quiet", 1, 0, 0}, {0}};
@@ -182,11 +209,11 @@ static int fault(const char *before, const char *word, const char *value)
 }
 
 /* Reads all options; answers below 0 where it goes on. */
-static int read_options(int number, char **words, struct words *options, struct shared *shared)
+static int read_options(int number, char **words, struct words *told, struct shared *shared)
 {
     int letter, place = 0;
     opterr = 0;
-    while ((letter = getopt_long(number, words, "cm:r:e:hv", OPTIONS, &place)) != -1) {
+    while ((letter = getopt_long(number, words, "cm:r:e:a:6hv", OPTIONS, &place)) != -1) {
         if (letter == 'h')
             return fputs(USAGE, stdout), 0;
         if (letter == 'v')
@@ -194,30 +221,32 @@ static int read_options(int number, char **words, struct words *options, struct 
         if (letter == '?')
             return fault("", words[optind - 1], "");
         const char *name = name_of(letter, place);
-        if (!read_option(name, optarg, options, shared))
+        if (!read_option(name, optarg, told, shared))
             return fault("--", name, optarg ? optarg : "");
     }
     return -1;
 }
 
-int words_read(int number, char **words, struct words *options, struct shared *shared)
+int words_read(int number, char **words, struct words *told, struct shared *shared)
 {
-    *options = (struct words){.device = {.name = "tun0", .prefix = 24, .offloads = 1}, .network = 0x0a000200, .mtu = 1500, .threads = 1,
+    *told = (struct words){.device = {.name = "tun0", .prefix = 24, .offloads = 1}, .network = 0x0a000200, .mtu = 1500, .threads = 1,
                            .ready = NO_DESCRIPTOR, .exits = NO_DESCRIPTOR,
                            .limits = {.connections = 4096, .half_open = 1024, .each = 256, .memory = 1024, .ports = 32768, .flows = 1024,
                                       .strays = 1000, .quiet = ANSWERS_QUIET}};
     shared->has_loopback = shared->has_dns = 1;
-    for (int at = 0; at <= LISTENERS; at++)
-        shared->published[at].socket = -1;
-    int status = read_options(number, words, options, shared);
+    int status = read_options(number, words, told, shared);
     if (status >= 0)
         return status;
-    if (!read_rest(words + optind, options) || !*options->space)
+    if (!read_rest(words + optind, told) || !*told->space)
         return fputs("usernet: no namespace, or more words than it and a device: see usernet --help\n", stderr), 1;
-    options->device.space = options->space;
-    options->device.mtu = (uint32_t)options->mtu;
-    options->device.addr = options->network + 100;
-    options->device.gateway = options->network + 2;
-    shared->threads = (uint32_t)options->threads;
-    return -1;
+    told->device.space = told->space;
+    told->device.mtu = (uint32_t)told->mtu;
+    told->device.addr = told->network + 100;
+    told->device.gateway = told->network + 2;
+    told->device.has_ipv6 = told->has_ipv6;
+    shared->threads = (uint32_t)told->threads;
+    aim_published(shared, told->device.addr);
+    if (told->has_ipv6 && told->mtu < IP6_LEAST_MTU)
+        return fputs("usernet: IPv6 wants an MTU of 1280 or more\n", stderr), 1;
+    return has_shares(told) ? -1 : 1;
 }

@@ -11,8 +11,8 @@
 /* The bytes of a header, and of an answer of ethernet_answer. */
 enum { ETHERNET_HEADER = 14, ETHERNET_ANSWER = 42 };
 
-/* What a frame carries (RFC 894; RFC 826). */
-enum { ETHERNET_IPV4 = 0x0800, ETHERNET_ARP = 0x0806 };
+/* What a frame carries (RFC 894; RFC 826; RFC 2464, 3). */
+enum { ETHERNET_IPV4 = 0x0800, ETHERNET_ARP = 0x0806, ETHERNET_IPV6 = 0x86dd };
 
 struct ethernet_addr {
     uint8_t byte[6];

@@ -68,15 +68,21 @@ size_t ip_write(void *out, tcpcore_addr src, tcpcore_addr dst, size_t length)
 
 size_t ip_write_any(void *out, tcpcore_addr src, tcpcore_addr dst, size_t length, uint8_t protocol)
 {
+    return ip_write_chosen(out, src, dst, length, protocol, &(struct ip_choices){0});
+}
+
+size_t ip_write_chosen(void *out, tcpcore_addr src, tcpcore_addr dst, size_t length, uint8_t protocol, const struct ip_choices *choices)
+{
     uint8_t *at = out;
     if (length > MOST - IP_HEADER)
         return 0;
     memset(at, 0, IP_HEADER);
     at[0] = 4 << 4 | IP_HEADER / 4;
+    at[1] = choices->services;
     write16(at + 2, (uint16_t)(length + IP_HEADER));
-    /* What is never fragmented needs no identification (RFC 6864, 4.1). */
-    write16(at + 6, DONT_FRAGMENT);
-    at[8] = TIME_TO_LIVE;
+    write16(at + 4, choices->may_be_cut ? choices->id : 0);
+    write16(at + 6, choices->may_be_cut ? 0 : DONT_FRAGMENT);
+    at[8] = choices->ttl ? choices->ttl : TIME_TO_LIVE;
     at[9] = protocol;
     memcpy(at + 12, &src, 4);
     memcpy(at + 16, &dst, 4);

@@ -66,4 +66,16 @@ size_t ip_write(void *out, tcpcore_addr src, tcpcore_addr dst, size_t length);
 /* The same around what another protocol sends. */
 size_t ip_write_any(void *out, tcpcore_addr src, tcpcore_addr dst, size_t length, uint8_t protocol);
 
+/* What a header has that the user may choose (RFC 9293, 3.9.1: MUST-48, MUST-49). All zero is what ip_write writes. */
+struct ip_choices {
+    uint8_t ttl;        /* how many routers a packet may pass; 0 means 64, the default (RFC 1700) */
+    uint8_t services;   /* the byte with the DiffServ codepoint in its upper six bits (RFC 2474, 3) */
+    uint8_t may_be_cut; /* whether routers may fragment it: "don't fragment" isn't set then (RFC 791, 3.1) */
+    uint16_t id;        /* the identification of a packet that may be cut: none of these addresses and this protocol that are still
+                           under way has the same (RFC 6864, 4.3). What is never cut needs none, and has 0 */
+};
+
+/* The same with these choices. */
+size_t ip_write_chosen(void *out, tcpcore_addr src, tcpcore_addr dst, size_t length, uint8_t protocol, const struct ip_choices *choices);
+
 #endif

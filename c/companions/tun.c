@@ -66,6 +66,42 @@ static int bring_up(const struct tun_config *config, int is_tap)
     return bad ? fails(config->name) : 0;
 }
 
+/* As the ioctl SIOCSIFADDR takes it of IPv6 (struct in6_ifreq of linux/ipv6.h, which can't stand beside the C library's headers). */
+struct v6_request { struct in6_addr addr; uint32_t prefix; int index; };
+
+/* Nobody else can have the address: nothing waits until that was asked. */
+static void ask_nobody(const char *device)
+{
+    char name[64];
+    snprintf(name, sizeof name, "/proc/sys/net/ipv6/conf/%.15s/accept_dad", device);
+    int setting = open(name, O_WRONLY | O_CLOEXEC);
+    if (setting >= 0 && write(setting, "0", 1) != 1)
+        perror(name);
+    if (setting >= 0)
+        close(setting);
+}
+
+/* IPv6 address and default route. */
+static int bring_up_v6(const struct tun_config *config, int is_tap)
+{
+    int control = socket(AF_INET6, SOCK_DGRAM | SOCK_CLOEXEC, 0), index = (int)if_nametoindex(config->name);
+    struct v6_request request = {.addr = {.s6_addr = {0xfd, [14] = 1}}, .prefix = 64, .index = index};
+    struct in6_rtmsg route = {.rtmsg_flags = RTF_UP, .rtmsg_metric = 1, .rtmsg_ifindex = index};
+    if (is_tap)
+        route.rtmsg_gateway = (struct in6_addr){.s6_addr = {0xfd, [15] = 2}}, route.rtmsg_flags |= RTF_GATEWAY;
+    int bad = control < 0 || ioctl(control, SIOCSIFADDR, &request) != 0 || ioctl(control, SIOCADDRT, &route) != 0;
+    if (control >= 0)
+        close(control);
+    return bad ? fails(config->name) : 0;
+}
+
+static int bring_up_all(const struct tun_config *config, int is_tap)
+{
+    if (config->has_ipv6)
+        ask_nobody(config->name);
+    return bring_up(config, is_tap) != 0 || (config->has_ipv6 && bring_up_v6(config, is_tap) != 0);
+}
+
 /* Attaches to the device, and makes it where it isn't there. */
 static int attach(const struct tun_config *config, int device, short kind)
 {
@@ -81,7 +117,7 @@ static int queue(const struct tun_config *config, short kind)
     if (device < 0 || (attach(config, device, IFF_TUN | kind) != 0 && attach(config, device, IFF_TAP | kind) != 0))
         return fails("/dev/net/tun");
     if (config->offloads && (ioctl(device, TUNSETVNETHDRSZ, &header) != 0 ||
-                             ioctl(device, TUNSETOFFLOAD, TUN_F_CSUM | TUN_F_TSO4) != 0))
+                             ioctl(device, TUNSETOFFLOAD, TUN_F_CSUM | TUN_F_TSO4 | (config->has_ipv6 ? TUN_F_TSO6 : 0)) != 0))
         return fails("offloads");
     return device;
 }
@@ -113,7 +149,7 @@ static int make(const struct tun_config *config, int channel, uint32_t count)
     for (uint32_t at = 0; at < count; at++) {
         int device = queue(config, count > 1 ? IFF_MULTI_QUEUE : 0), is_tap = device >= 0 && tun_is_tap(device, (uint8_t[6]){0});
         int comes_up = at == 0 && (!is_tap || config->configures);
-        if (device < 0 || (comes_up && bring_up(config, is_tap) != 0) || pass(channel, device) != 0)
+        if (device < 0 || (comes_up && bring_up_all(config, is_tap) != 0) || pass(channel, device) != 0)
             return -1;
     }
     return 0;

@@ -21,6 +21,7 @@ struct tun_config {
     uint32_t gateway;   /* of a TAP device that configures: the address behind which all others are */
     uint32_t mtu;       /* of the device, 576 to 65,535 */
     int configures;     /* whether a TAP device that is there already is given its address, MTU and route */
+    int has_ipv6;        /* whether it has IPv6, too: then fd00::100 is the namespace's address, and fd00::2 a TAP device's gateway */
     int offloads;       /* whether packets of more than the MTU are exchanged, each behind a TUN_HEADER */
 };
 

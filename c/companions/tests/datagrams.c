@@ -115,6 +115,92 @@ static void unreachable(void)
         CHECK(icmp_unreachable(out, ICMP_TOO_BIG, packet, length), 8 + length);
 }
 
+/* That a packet of 60 bytes from 172.16.10.12:4660 to 172.16.10.99:53 was too long for 1,280 bytes, with sequence number 01020304. */
+static size_t make_error(uint8_t *message)
+{
+    static const uint8_t FRONT[8] = {0x12, 0x34, 0, 53, 1, 2, 3, 4};
+    uint8_t packet[28];
+    ip_write(packet, HERE, PEER, 40);
+    memcpy(packet + 20, FRONT, sizeof FRONT);
+    size_t length = icmp_unreachable(message, ICMP_TOO_BIG, packet, sizeof packet);
+    message[6] = 5, message[7] = 0;
+    return length;
+}
+
+/* Whether a message is an error once its checksum is right. */
+static int is_error(uint8_t *message, size_t length, struct icmp_error *found)
+{
+    struct ip_packet packet = packet_of(message, length);
+    memset(found, 0xee, sizeof *found);
+    if (length >= 4) {
+        uint32_t total = 0;
+        message[2] = message[3] = 0;
+        for (size_t at = 0; at < length; at++)
+            total += (uint32_t)message[at] << (at % 2 ? 0 : 8);
+        while (total >> 16)
+            total = (total & 0xffff) + (total >> 16);
+        message[2] = (uint8_t)(~total >> 8), message[3] = (uint8_t)~total;
+    }
+    int answer = icmp_read_error(&packet, found);
+    if (!answer)
+        CHECK(found->type, 0xee);
+    return answer;
+}
+
+static void errors(void)
+{
+    uint8_t message[ICMP_ROOM + 40] = {0};
+    struct icmp_error found;
+    size_t length = make_error(message);
+    CHECK(length, 36);
+    CHECK(is_error(message, length, &found), 1);
+    CHECK(found.type == ICMP_UNREACHABLE && found.code == ICMP_TOO_BIG && found.protocol == IP_TCP, 1);
+    CHECK(memcmp(&found.src, &HERE, 4) || memcmp(&found.dst, &PEER, 4), 0);
+    CHECK(found.src_port, 0x1234);
+    CHECK(found.dst_port, 53);
+    CHECK(found.seq, 0x01020304);
+    CHECK(found.length, 60);
+    CHECK(found.mtu, 1280);
+    /* With less than 8 bytes of what was sent it says nothing, and more don't harm. */
+    for (size_t less = 0; less < length; less++)
+        CHECK(is_error(message, less, &found), 0);
+    CHECK(is_error(message, sizeof message, &found), 1);
+    /* One whose checksum is wrong is none. */
+    message[7] ^= 1;
+    struct ip_packet packet = packet_of(message, length);
+    CHECK(icmp_read_error(&packet, &found), 0);
+    message[7] ^= 1;
+    /* Each type. An MTU is that of one code alone. */
+    for (unsigned type = 0; type < 256; type++) {
+        message[0] = (uint8_t)type;
+        CHECK(is_error(message, length, &found), type == ICMP_UNREACHABLE || type == ICMP_EXPIRED || type == ICMP_BAD_HEADER);
+    }
+    message[0] = ICMP_EXPIRED;
+    CHECK(is_error(message, length, &found), 1);
+    CHECK(found.mtu, 0);
+}
+
+static void quotations(void)
+{
+    uint8_t message[ICMP_ROOM + 40] = {0};
+    struct icmp_error found;
+    size_t length = make_error(message);
+    /* What is quoted: another version, a header that is too short or too long, a length that can't be, a piece but the first. */
+    static const struct { size_t at; uint8_t value; int wanted; } QUOTED[] = {
+        {8, 0x65, 0}, {8, 0x44, 0}, {8, 0x46, 0}, {8, 0x4f, 0}, {11, 27, 0}, {11, 28, 1}, {14, 0x20, 1}, {15, 1, 0}, {14, 0x1f, 0}};
+    for (size_t at = 0; at < sizeof QUOTED / sizeof QUOTED[0]; at++) {
+        make_error(message);
+        message[QUOTED[at].at] = QUOTED[at].value;
+        CHECK(is_error(message, length, &found), QUOTED[at].wanted);
+    }
+    /* Options of the packet that is quoted are passed over. */
+    make_error(message);
+    memmove(message + 32, message + 28, 8);
+    message[8] = 0x46;
+    CHECK(is_error(message, 40, &found), 1);
+    CHECK(found.seq, 0x01020304);
+}
+
 /* 10.0.2.2 at 02:00:00:00:00:aa asks for 10.0.2.15, and is told 02:00:00:00:00:0f (RFC 826). */
 static const uint8_t ASKS[42] = {255, 255, 255, 255, 255, 255, 2, 0, 0, 0, 0, 0xaa, 8, 6, 0, 1, 8, 0, 6, 4, 0, 1,
                                  2, 0, 0, 0, 0, 0xaa, 10, 0, 2, 2, 0, 0, 0, 0, 0, 0, 10, 0, 2, 15};
@@ -150,6 +236,8 @@ int main(void)
     writes();
     echoes();
     unreachable();
+    errors();
+    quotations();
     printf("datagrams: %d checks\n", checks);
     return 0;
 }

@@ -54,6 +54,29 @@ static void writes(void)
     CHECK(out[0], 0xee);
 }
 
+/* DiffServ 46 (RFC 3246), a time to live of 255, and whether it may be cut: what is written is read, and differs from the header above in
+   these fields and the checksum alone. By hand: 45b8 + 0028 + 1234 + 0000 + ff06 + ac10 + 0a63 + ac10 + 0a0c = 2c3a9, folded c3ab, inverted
+   3c54. */
+static void chooses(void)
+{
+    static const uint8_t CHOSEN[20] = {0x45, 0xb8, 0, 40, 0x12, 0x34, 0, 0, 255, 6, 0x3c, 0x54, 172, 16, 10, 99, 172, 16, 10, 12};
+    struct ip_choices choices = {.ttl = 255, .services = 46 << 2, .may_be_cut = 1, .id = 0x1234};
+    uint8_t out[40] = {0};
+    struct ip_packet found;
+    CHECK(ip_write_chosen(out, PEER, OWN.addr, 20, IP_TCP, &choices), 40);
+    CHECK(memcmp(out, CHOSEN, 20), 0);
+    CHECK(ip_read(OWN, out, 40, &found), IP_DONE);
+    /* Where it may not be cut the identification is 0 (RFC 6864, 4.1). */
+    choices.may_be_cut = 0;
+    CHECK(ip_write_chosen(out, PEER, OWN.addr, 20, IP_TCP, &choices), 40);
+    CHECK(out[4] << 8 | out[5], 0);
+    CHECK(out[6] << 8 | out[7], 0x4000);
+    CHECK(ip_read(OWN, out, 40, &found), IP_DONE);
+    CHECK(ip_write_chosen(out, PEER, OWN.addr, 20, IP_TCP, &(struct ip_choices){0}), 40);
+    CHECK(memcmp(out, HEADER, 20), 0);
+    CHECK(ip_write_chosen(out, PEER, OWN.addr, 65516, IP_UDP, &choices), 0);
+}
+
 static void reads(void)
 {
     struct ip_packet found;
@@ -161,6 +184,7 @@ static void sources(void)
 int main(void)
 {
     writes();
+    chooses();
     reads();
     faults();
     sources();
