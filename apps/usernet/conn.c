@@ -77,7 +77,7 @@ void free_dropped(struct usernet *net)
 
 uint64_t edge_of(const struct conn *conn, const struct tcpcore_status *status)
 {
-    return status->next + conn->capacity - status->unread;
+    return status->rcv_position + conn->capacity - status->unread;
 }
 
 uint64_t step_of(const struct usernet *net, const struct conn *conn)
@@ -97,7 +97,7 @@ static int goes(struct usernet *net, struct conn *conn, const struct tcpcore_tra
     }
     timers_sent(&conn->timers, sent, net->now);
     if (bits_of(segment, ACK))
-        answers_told(&conn->answers, segment, edge);
+        answers_sent(&conn->answers, segment, edge);
     return 1;
 }
 
@@ -214,7 +214,7 @@ static void refuse(struct usernet *net, const struct ip_packet *syn, int vouched
     struct pair key = {.client = syn->src, .server = syn->dst};
     count(net, REFUSED, 1);
     if (fault == EHOSTUNREACH || fault == ENETUNREACH || fault == ETIMEDOUT || fault == EHOSTDOWN)
-        tell_unreachable(net, &key, IP_TCP, syn->segment, fault);
+        report_unreachable(net, &key, IP_TCP, syn->segment, fault);
     else
         stray(net, syn, vouched);
 }
@@ -309,13 +309,13 @@ void conn_publish(struct usernet *net, struct inward inward)
 static int reopens(const struct conn *conn, const uint8_t *bytes)
 {
     struct tcpcore_status status = status_of(conn);
-    uint32_t after = read32(bytes + AT_SEQ) - (conn->first + (uint32_t)status.next);
+    uint32_t after = read32(bytes + AT_SEQ) - (conn->first + (uint32_t)status.rcv_position);
     return status.phase == TCPCORE_PHASE_TIME_WAIT && after < UINT32_C(1) << 31;
 }
 
 /* Whether a segment is answered before the others of its batch are read. What the end refuses brought it nothing: with text or
    without, it is answered once in a while. */
-static int may_answer(struct usernet *net, struct conn *conn, const struct ip_packet *packet, const struct tcpcore_taken *taken)
+static int may_answer(struct usernet *net, struct conn *conn, const struct ip_packet *packet, const struct tcpcore_arrive_report *taken)
 {
     uint8_t bare[SEGMENT_HEADER];
     if (taken->rule < TCPCORE_RULE_UNACCEPTABLE || taken->rule >= TCPCORE_RULE_TAKEN)
@@ -330,17 +330,17 @@ static int may_answer(struct usernet *net, struct conn *conn, const struct ip_pa
 static void take(struct usernet *net, struct conn *conn, const struct ip_packet *packet, int vouched)
 {
     struct tcpcore_status before = status_of(conn);
-    struct tcpcore_taken taken;
+    struct tcpcore_arrive_report taken;
     if (withholds_reset(&before, packet->segment, packet->length))
         return; /* what the client has sent goes to the host first */
     uint32_t answer =
-        vouched ? tcpcore_taken_vouched(&conn->end, packet->src, packet->dst, packet->segment, packet->length, &taken)
-                : tcpcore_taken(&conn->end, packet->src, packet->dst, packet->segment, packet->length, &taken);
+        vouched ? tcpcore_arrive_vouched_with_report(&conn->end, packet->src, packet->dst, packet->segment, packet->length, &taken)
+                : tcpcore_arrive_with_report(&conn->end, packet->src, packet->dst, packet->segment, packet->length, &taken);
     if (taken.rule == TCPCORE_RULE_NONE) {
         count(net, MALFORMED, answer >= TCPCORE_TOO_SHORT && answer <= TCPCORE_BAD_PADDING);
         return;
     }
-    timers_taken(&conn->timers, &conn->end, &taken, net->now);
+    timers_arrived_with_report(&conn->timers, &conn->end, &taken, net->now);
     limits_touch(net, conn);
     if (may_answer(net, conn, packet, &taken))
         emit(net, conn); /* out of order, or a gap was filled (RFC 5681, 4.2) */
@@ -392,8 +392,8 @@ void conn_error(struct usernet *net, const struct icmp_error *error)
 static void run_times(struct usernet *net, struct conn *conn)
 {
     uint32_t found = timers_run(&conn->timers, &conn->end, net->now);
-    count(net, GAVE_UP, (found & TIMERS_GAVE_UP) != 0);
-    count(net, NARROWED, (uint64_t)path_run(&conn->path, conn->timers.una, (found & TIMERS_TIMED_OUT) != 0, net->now));
+    count(net, ABANDONED, (found & TIMERS_ABORTED) != 0);
+    count(net, NARROWED, (uint64_t)path_run(&conn->path, conn->timers.snd_una, (found & TIMERS_TIMED_OUT) != 0, net->now));
 }
 
 /* Looks at one connection: its timers, both ways, what is due, and whether it has ended. */

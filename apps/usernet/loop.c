@@ -307,19 +307,19 @@ static void take_event(struct usernet *net, const struct epoll_event *event, voi
         take_socket(net, event->data.ptr, event->events);
 }
 
-static void tell(struct usernet *net, enum counter which, uint64_t number)
+static void report(struct usernet *net, enum counter which, uint64_t number)
 {
     atomic_store_explicit(&net->counters[which], number, memory_order_relaxed);
 }
 
 /* What there is now, for whoever asks. */
-static void tell_of_now(struct usernet *net)
+static void report_now(struct usernet *net)
 {
-    tell(net, NOW, net->pairs.used);
-    tell(net, MOST, net->pairs.most);
-    tell(net, HALF_OPEN, net->half_open.count);
-    tell(net, RESERVED, net->reserved);
-    tell(net, FLOWS_NOW, net->relays.count + net->brief.count);
+    report(net, NOW, net->pairs.used);
+    report(net, MOST, net->pairs.most);
+    report(net, HALF_OPEN, net->half_open.count);
+    report(net, RESERVED, net->reserved);
+    report(net, FLOWS_NOW, net->relays.count + net->brief.count);
 }
 
 int loop_init(struct usernet *net, const uint8_t secret[16])
@@ -358,7 +358,7 @@ static void loop_turn(struct usernet *net, void (*signalled)(void))
     turn_all(net);
     free_dropped(net);
     relays_free(net);
-    tell_of_now(net);
+    report_now(net);
 }
 
 void loop_run(struct usernet *net, int signals, int exits, void (*signalled)(void))
@@ -376,5 +376,5 @@ void loop_run(struct usernet *net, int signals, int exits, void (*signalled)(voi
     relays_end(net);
     if (net->index == 0)
         api_end();
-    tell_of_now(net);
+    report_now(net);
 }

@@ -92,7 +92,7 @@ static uint8_t code_of(int fault)
 }
 
 /* The message has the front of such a packet, which is all that the namespace's kernel looks at (RFC 1122, 3.2.2). */
-void tell_unreachable(struct usernet *net, const struct pair *key, uint8_t protocol, const uint8_t *front, int fault)
+void report_unreachable(struct usernet *net, const struct pair *key, uint8_t protocol, const uint8_t *front, int fault)
 {
     uint8_t packet[IP_HEADER + UNREACHABLE_FRONT];
     if (!limits_answer(net))
@@ -125,7 +125,7 @@ static void tell_sender(struct usernet *net, const struct pair *key, uint8_t pro
         udp_write(front, key->client, key->client_port, key->server, key->server_port, 0);
     else
         icmp_make_echo(front, ICMP_HEADER, protocol == IP_ICMP ? ICMP_ECHO : ICMP6_ECHO, key->client_port);
-    tell_unreachable(net, key, protocol, front, fault);
+    report_unreachable(net, key, protocol, front, fault);
 }
 
 /* A relay that the namespace begins; NULL where there is none, with errno. */

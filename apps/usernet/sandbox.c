@@ -24,11 +24,11 @@ static int fails(const char *what)
 }
 
 /* The namespace's user namespace is entered by who isn't root: there this program may make a namespace of mounts. */
-static int enter_users(const struct words *told)
+static int enter_users(const struct words *options)
 {
     char name[64];
-    snprintf(name, sizeof name, "/proc/%d/ns/user", (int)told->device.pid);
-    int users = open(told->device.users ? told->device.users : name, O_RDONLY | O_CLOEXEC);
+    snprintf(name, sizeof name, "/proc/%d/ns/user", (int)options->device.pid);
+    int users = open(options->device.users ? options->device.users : name, O_RDONLY | O_CLOEXEC);
     int is_there = users >= 0 && setns(users, CLONE_NEWUSER) == 0;
     if (users >= 0)
         close(users);
@@ -68,14 +68,14 @@ static int drop_capabilities(int publishes)
     return syscall(SYS_capset, &head, kept) == 0 && prctl(PR_SET_NO_NEW_PRIVS, 1, 0, 0, 0) == 0;
 }
 
-int sandbox_enter(const struct words *told)
+int sandbox_enter(const struct words *options)
 {
     int is_root = geteuid() == 0;
-    if (!is_root && !enter_users(told))
+    if (!is_root && !enter_users(options))
         return fails("--enable-sandbox: the user namespace");
     if (!change_root())
         return fails("--enable-sandbox: the root");
-    return drop_capabilities(is_root && told->api) ? 1 : fails("--enable-sandbox: the capabilities");
+    return drop_capabilities(is_root && options->api) ? 1 : fails("--enable-sandbox: the capabilities");
 }
 
 #ifdef HAS_SECCOMP

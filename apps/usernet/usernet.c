@@ -27,13 +27,13 @@
 enum { SPARE = 32, SPARE_EACH = 8, MIB = 1 << 20 };
 
 static struct shared shared = {.lock = PTHREAD_MUTEX_INITIALIZER, .api = -1};
-static struct words told;
+static struct words options;
 static int signals;
 
-static void tell(void)
+static void report(void)
 {
     static const char *const names[COUNTERS] = {
-        "opened", "refused", "published", "strays", "gave_up", "malformed", "arrived", "emitted", "up", "down", "full", "recycled",
+        "opened", "refused", "published", "strays", "abandoned", "malformed", "arrived", "emitted", "up", "down", "full", "recycled",
         "exhausted", "withheld", "unsaid", "now", "most", "half_open", "reserved", "flows", "flows_now", "datagrams", "unreachable",
         "pieces", "joined", "errors", "narrowed"};
     struct mallinfo2 held = mallinfo2();
@@ -53,14 +53,14 @@ static void read_signal(void)
     struct signalfd_siginfo found = {0};
     if (read(signals, &found, sizeof found) < 0 || found.ssi_signo != SIGUSR1)
         stop_all(&shared, 0);
-    else if (told.shows)
-        tell();
+    else if (options.shows)
+        report();
 }
 
 /* The host with this number in the namespace's network. */
 static tcpcore_addr host_of(uint8_t number)
 {
-    uint32_t addr = told.network + number;
+    uint32_t addr = options.network + number;
     return (tcpcore_addr){{(uint8_t)(addr >> 24), (uint8_t)(addr >> 16), (uint8_t)(addr >> 8), (uint8_t)addr}};
 }
 
@@ -79,7 +79,7 @@ static struct limits share_of(const struct limits *all, uint32_t index)
 static struct limits limits_of_all(void)
 {
     struct rlimit files;
-    struct limits limits = told.limits;
+    struct limits limits = options.limits;
     uint64_t threads = shared.threads, spare = SPARE + SPARE_EACH * threads, least = 2 * threads;
     getrlimit(RLIMIT_NOFILE, &files);
     files.rlim_cur = files.rlim_max;
@@ -97,14 +97,14 @@ static struct usernet *make(uint32_t index, int queue, const struct limits *all,
         return NULL;
     net->index = index, net->shared = &shared;
     net->limits = share_of(all, index);
-    net->device = queue, net->offloads = told.device.offloads;
+    net->device = queue, net->offloads = options.device.offloads;
     net->is_tap = tun_is_tap(queue, net->host.byte);
-    net->mtu = told.device.mtu;
-    if (told.has_ipv6 && !(net->v6 = calloc((size_t)V6_SETS * V6_WAYS, sizeof *net->v6)))
+    net->mtu = options.device.mtu;
+    if (options.has_ipv6 && !(net->v6 = calloc((size_t)V6_SETS * V6_WAYS, sizeof *net->v6)))
         return NULL;
-    net->mss = (uint16_t)(told.device.mtu < 1500 ? told.device.mtu - HEADERS : 1460);
+    net->mss = (uint16_t)(options.device.mtu < 1500 ? options.device.mtu - HEADERS : 1460);
     net->own = host_of(100), net->gateway = host_of(2), net->resolver = host_of(3);
-    net->up.percent = net->down.percent = (uint32_t)told.fault;
+    net->up.percent = net->down.percent = (uint32_t)options.fault;
     net->up.state = 2 * index, net->down.state = 2 * index + 1;
     return loop_init(net, secret) ? net : NULL;
 }
@@ -116,15 +116,15 @@ static int set_up(void)
     int queues[THREADS];
     sigset_t taken;
     struct limits limits = limits_of_all();
-    if (told.shows)
+    if (options.shows)
         mallopt(M_ARENA_MAX, 1); /* so that what is held is told of all threads */
     sigemptyset(&taken);
     sigaddset(&taken, SIGTERM), sigaddset(&taken, SIGINT), sigaddset(&taken, SIGUSR1);
     sigprocmask(SIG_BLOCK, &taken, NULL);
     signals = signalfd(-1, &taken, SFD_NONBLOCK | SFD_CLOEXEC);
-    if (told.api && (shared.api = api_open(told.api)) < 0)
-        return perror(told.api), 0;
-    if (signals < 0 || getentropy(secret, sizeof secret) || !tun_open(&told.device, queues, shared.threads))
+    if (options.api && (shared.api = api_open(options.api)) < 0)
+        return perror(options.api), 0;
+    if (signals < 0 || getentropy(secret, sizeof secret) || !tun_open(&options.device, queues, shared.threads))
         return 0;
     for (uint32_t net = 0; net < shared.threads; net++)
         if (!(shared.all[net] = make(net, queues[net], &limits, secret)))
@@ -133,16 +133,16 @@ static int set_up(void)
 }
 
 /* The network is there: who started the program is told. */
-static void tell_ready(void)
+static void report_ready(void)
 {
     puts("ready");
     fflush(stdout);
-    if (told.ready == NO_DESCRIPTOR)
+    if (options.ready == NO_DESCRIPTOR)
         return;
-    if (write((int)told.ready, "1", 1) != 1)
+    if (write((int)options.ready, "1", 1) != 1)
         perror("--ready-fd");
-    if (told.ready > STDERR_FILENO) /* else a socket would have its number, and get what is said */
-        close((int)told.ready);
+    if (options.ready > STDERR_FILENO) /* else a socket would have its number, and get what is said */
+        close((int)options.ready);
 }
 
 static void *run(void *net)
@@ -165,21 +165,21 @@ int main(int number, char **words)
 {
     pthread_t others[THREADS] = {0};
     prepare_streams();
-    int status = number == 0 ? 1 : words_read(number, words, &told, &shared);
+    int status = number == 0 ? 1 : words_read(number, words, &options, &shared);
     if (status >= 0)
         return status;
-    if (!set_up() || (told.is_boxed && !sandbox_enter(&told)))
+    if (!set_up() || (options.is_boxed && !sandbox_enter(&options)))
         return 1;
     for (uint32_t net = 1; net < shared.threads; net++)
         if (pthread_create(&others[net], NULL, run, shared.all[net]) != 0)
             return perror("threads"), 1;
-    if (told.is_filtered && !sandbox_filter(told.has_ipv6))
+    if (options.is_filtered && !sandbox_filter(options.has_ipv6))
         return 1;
-    tell_ready();
-    loop_run(shared.all[0], signals, told.exits == NO_DESCRIPTOR ? -1 : (int)told.exits, read_signal);
+    report_ready();
+    loop_run(shared.all[0], signals, options.exits == NO_DESCRIPTOR ? -1 : (int)options.exits, read_signal);
     for (uint32_t net = 1; net < shared.threads; net++)
         pthread_join(others[net], NULL);
-    if (told.shows)
-        tell();
+    if (options.shows)
+        report();
     return shared.status;
 }

@@ -105,7 +105,7 @@ struct v6_entry {
 /* What is counted. */
 enum counter {
     OPENED, REFUSED, PUBLISHED, /* connections of the namespace: done at the host, refused by it; carried in */
-    STRAYS, GAVE_UP, MALFORMED, /* resets for what no connection takes; connections that timers gave up; what was no segment */
+    STRAYS, ABANDONED, MALFORMED, /* resets for what no connection takes; connections that timers gave up; what was no segment */
     ARRIVED, EMITTED, UP, DOWN, /* packets; bytes of text */
     FULL, RECYCLED,             /* connections that a limit kept out; half-open or silent ones that made way for another */
     EXHAUSTED,                  /* connections that found no descriptor, memory or port of the host */
@@ -313,7 +313,7 @@ int host_socket(struct usernet *net, tcpcore_addr to, uint16_t port, int kind, i
 /* relays.c: the namespace is told that what it sent with these addresses and ports couldn't be delivered, as often as strays are answered. `front` is
    what its packet has behind the IPv4 header. */
 enum { UNREACHABLE_FRONT = 8 };
-void tell_unreachable(struct usernet *net, const struct pair *key, uint8_t protocol, const uint8_t *front, int fault);
+void report_unreachable(struct usernet *net, const struct pair *key, uint8_t protocol, const uint8_t *front, int fault);
 
 /* A datagram or an ICMP message came from the namespace; a socket of a relay has something, or that of the published port at this
    place; all relays of that one go; those that were silent for long go; those that were dropped are freed; all go. */
@@ -373,10 +373,10 @@ struct words {
 
 /* sandbox.c: with one thread, before the others are made: nothing of the file system is left but /etc and /run to be read, and no right. Then,
    of all threads: no call of the system is left but those that the loop makes, with sockets of IPv6 or without. Whether it could be done. */
-int sandbox_enter(const struct words *told);
+int sandbox_enter(const struct words *options);
 int sandbox_filter(int has_ipv6);
 
 /* Reads the program's words, which may publish ports. Answers below 0 where it goes on, else the status to end with. */
-int words_read(int number, char **words, struct words *told, struct shared *shared);
+int words_read(int number, char **words, struct words *options, struct shared *shared);
 
 #endif

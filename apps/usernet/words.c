@@ -91,12 +91,12 @@ static void aim_published(struct shared *shared, uint32_t addr)
 }
 
 /* Whether each thread has a share of all limits. */
-static int has_shares(const struct words *told)
+static int has_shares(const struct words *options)
 {
-    const struct limits *limits = &told->limits;
+    const struct limits *limits = &options->limits;
     const uint64_t numbers[] = {limits->connections, limits->half_open, limits->each, limits->flows, limits->ports};
     for (size_t at = 0; at < sizeof numbers / sizeof numbers[0]; at++)
-        if (numbers[at] < told->threads)
+        if (numbers[at] < options->threads)
             return fputs("usernet: a limit is less than --threads: each thread takes a share of it (see usernet --help)\n", stderr), 0;
     return 1;
 }
@@ -105,15 +105,15 @@ static int has_shares(const struct words *told)
 static int is_given(uint64_t descriptor) { return fcntl((int)descriptor, F_GETFD) == 0; }
 
 /* Words that a number follows. */
-static int read_limit(const char *name, const char *word, struct words *told)
+static int read_limit(const char *name, const char *word, struct words *options)
 {
-    struct limits *limits = &told->limits;
+    struct limits *limits = &options->limits;
     const struct { const char *name; uint64_t *number, least, most; } NAMES[] = {
-        {"mtu", &told->mtu, 576, 65535}, {"fault", &told->fault, 0, 20}, {"threads", &told->threads, 1, THREADS},
+        {"mtu", &options->mtu, 576, 65535}, {"fault", &options->fault, 0, 20}, {"threads", &options->threads, 1, THREADS},
         {"connections", &limits->connections, 1, 1 << 20}, {"half-open", &limits->half_open, 1, 1 << 20},
         {"half-open-each", &limits->each, 1, 1 << 20}, {"memory", &limits->memory, 4, 1 << 20}, {"flows", &limits->flows, 1, 1 << 20},
         {"ports", &limits->ports, 1, 32768}, {"strays", &limits->strays, 0, UINT32_MAX}, {"quiet", &limits->quiet, 0, 60000},
-        {"ready-fd", &told->ready, 0, INT32_MAX}, {"exit-fd", &told->exits, 0, INT32_MAX}};
+        {"ready-fd", &options->ready, 0, INT32_MAX}, {"exit-fd", &options->exits, 0, INT32_MAX}};
     for (size_t at = 0; at < sizeof NAMES / sizeof NAMES[0]; at++)
         if (strcmp(name, NAMES[at].name) == 0)
             return read_number(word, NAMES[at].least, NAMES[at].most, NAMES[at].number) &&
@@ -122,7 +122,7 @@ static int read_limit(const char *name, const char *word, struct words *told)
 }
 
 /* A network, of which the hosts 2, 3 and 100 are used. */
-static int read_network(const char *word, struct words *told)
+static int read_network(const char *word, struct words *options)
 {
     char address[16];
     struct in_addr found;
@@ -130,29 +130,29 @@ static int read_network(const char *word, struct words *told)
     int end = 0;
     if (sscanf(word, "%15[0-9.]/%2u%n", address, &prefix, &end) != 2 || word[end] || inet_pton(AF_INET, address, &found) != 1 || prefix < 1 || prefix > 25)
         return 0;
-    told->network = ntohl(found.s_addr) & ~(UINT32_MAX >> prefix);
-    told->device.prefix = prefix;
+    options->network = ntohl(found.s_addr) & ~(UINT32_MAX >> prefix);
+    options->device.prefix = prefix;
     return 1;
 }
 
 /* A word with its value, or without one; whether it could be read. */
-static int read_option(const char *name, const char *value, struct words *told, struct shared *shared)
+static int read_option(const char *name, const char *value, struct words *options, struct shared *shared)
 {
     const struct { const char *name; int *flag, value; } FLAGS[] = {
-        {"stats", &told->shows, 1}, {"no-offloads", &told->device.offloads, 0}, {"configure", &told->device.configures, 1},
-        {"enable-sandbox", &told->is_boxed, 1}, {"enable-seccomp", &told->is_filtered, 1}, {"enable-ipv6", &told->has_ipv6, 1}, {"disable-host-loopback", &shared->has_loopback, 0},
+        {"stats", &options->shows, 1}, {"no-offloads", &options->device.offloads, 0}, {"configure", &options->device.configures, 1},
+        {"enable-sandbox", &options->is_boxed, 1}, {"enable-seccomp", &options->is_filtered, 1}, {"enable-ipv6", &options->has_ipv6, 1}, {"disable-host-loopback", &shared->has_loopback, 0},
         {"disable-dns", &shared->has_dns, 0}};
     for (size_t at = 0; at < sizeof FLAGS / sizeof FLAGS[0]; at++)
         if (strcmp(name, FLAGS[at].name) == 0)
             return *FLAGS[at].flag = FLAGS[at].value, 1;
     if (strcmp(name, "netns") == 0)
-        return snprintf(told->space, sizeof told->space, "/run/netns/%s", value) < (int)sizeof told->space;
+        return snprintf(options->space, sizeof options->space, "/run/netns/%s", value) < (int)sizeof options->space;
     if (strcmp(name, "netns-type") == 0)
-        return told->is_path = strcmp(value, "path") == 0, told->is_path || strcmp(value, "pid") == 0;
+        return options->is_path = strcmp(value, "path") == 0, options->is_path || strcmp(value, "pid") == 0;
     if (strcmp(name, "userns-path") == 0)
-        return told->device.users = value, 1;
+        return options->device.users = value, 1;
     if (strcmp(name, "api-socket") == 0)
-        return told->api = value, *value != 0;
+        return options->api = value, *value != 0;
     if (strcmp(name, "outbound-addr") == 0)
         return inet_pton(AF_INET, value, &shared->outbound) == 1;
     if (strcmp(name, "outbound-addr6") == 0)
@@ -160,30 +160,30 @@ static int read_option(const char *name, const char *value, struct words *told, 
     if (strcmp(name, "publish") == 0)
         return publish(value, shared);
     if (strcmp(name, "cidr") == 0)
-        return read_network(value, told);
-    return read_limit(name, value, told);
+        return read_network(value, options);
+    return read_limit(name, value, options);
 }
 
 /* What the namespace is named by; whether it could be read. */
-static int read_space(const char *word, struct words *told)
+static int read_space(const char *word, struct words *options)
 {
     uint64_t pid;
-    if (told->is_path)
-        return snprintf(told->space, sizeof told->space, "%s", word) < (int)sizeof told->space;
+    if (options->is_path)
+        return snprintf(options->space, sizeof options->space, "%s", word) < (int)sizeof options->space;
     if (!read_number(word, 1, INT32_MAX, &pid))
         return 0;
-    told->device.pid = (pid_t)pid;
-    return snprintf(told->space, sizeof told->space, "/proc/%d/ns/net", (int)pid) > 0;
+    options->device.pid = (pid_t)pid;
+    return snprintf(options->space, sizeof options->space, "/proc/%d/ns/net", (int)pid) > 0;
 }
 
 /* The words that aren't options: the namespace, and the device's name. */
-static int read_rest(char **words, struct words *told)
+static int read_rest(char **words, struct words *options)
 {
-    if (*words && !*told->space && !read_space(*words++, told))
+    if (*words && !*options->space && !read_space(*words++, options))
         return 0;
     if (*words)
-        told->device.name = *words++;
-    return !*words && strlen(told->device.name) < 16;
+        options->device.name = *words++;
+    return !*words && strlen(options->device.name) < 16;
 }
 
 static const struct option OPTIONS[] = {
@@ -209,7 +209,7 @@ static int fault(const char *before, const char *word, const char *value)
 }
 
 /* Reads all options; answers below 0 where it goes on. */
-static int read_options(int number, char **words, struct words *told, struct shared *shared)
+static int read_options(int number, char **words, struct words *options, struct shared *shared)
 {
     int letter, place = 0;
     opterr = 0;
@@ -221,32 +221,32 @@ static int read_options(int number, char **words, struct words *told, struct sha
         if (letter == '?')
             return fault("", words[optind - 1], "");
         const char *name = name_of(letter, place);
-        if (!read_option(name, optarg, told, shared))
+        if (!read_option(name, optarg, options, shared))
             return fault("--", name, optarg ? optarg : "");
     }
     return -1;
 }
 
-int words_read(int number, char **words, struct words *told, struct shared *shared)
+int words_read(int number, char **words, struct words *options, struct shared *shared)
 {
-    *told = (struct words){.device = {.name = "tun0", .prefix = 24, .offloads = 1}, .network = 0x0a000200, .mtu = 1500, .threads = 1,
+    *options = (struct words){.device = {.name = "tun0", .prefix = 24, .offloads = 1}, .network = 0x0a000200, .mtu = 1500, .threads = 1,
                            .ready = NO_DESCRIPTOR, .exits = NO_DESCRIPTOR,
                            .limits = {.connections = 4096, .half_open = 1024, .each = 256, .memory = 1024, .ports = 32768, .flows = 1024,
                                       .strays = 1000, .quiet = ANSWERS_QUIET}};
     shared->has_loopback = shared->has_dns = 1;
-    int status = read_options(number, words, told, shared);
+    int status = read_options(number, words, options, shared);
     if (status >= 0)
         return status;
-    if (!read_rest(words + optind, told) || !*told->space)
+    if (!read_rest(words + optind, options) || !*options->space)
         return fputs("usernet: no namespace, or more words than it and a device: see usernet --help\n", stderr), 1;
-    told->device.space = told->space;
-    told->device.mtu = (uint32_t)told->mtu;
-    told->device.addr = told->network + 100;
-    told->device.gateway = told->network + 2;
-    told->device.has_ipv6 = told->has_ipv6;
-    shared->threads = (uint32_t)told->threads;
-    aim_published(shared, told->device.addr);
-    if (told->has_ipv6 && told->mtu < IP6_LEAST_MTU)
+    options->device.space = options->space;
+    options->device.mtu = (uint32_t)options->mtu;
+    options->device.addr = options->network + 100;
+    options->device.gateway = options->network + 2;
+    options->device.has_ipv6 = options->has_ipv6;
+    shared->threads = (uint32_t)options->threads;
+    aim_published(shared, options->device.addr);
+    if (options->has_ipv6 && options->mtu < IP6_LEAST_MTU)
         return fputs("usernet: IPv6 wants an MTU of 1280 or more\n", stderr), 1;
-    return has_shares(told) ? -1 : 1;
+    return has_shares(options) ? -1 : 1;
 }

@@ -12,7 +12,7 @@ void path_init(struct path *path, uint32_t isn, uint32_t mtu) { *path = (struct 
 /* Whether a sequence number is in flight (RFC 5927, 4.1). */
 static int is_in_flight(const struct path *path, const struct tcpcore_status *status, uint32_t seq)
 {
-    return seq - path->isn - (uint32_t)status->una < (uint32_t)(status->nxt - status->una);
+    return seq - path->isn - (uint32_t)status->snd_una < (uint32_t)(status->snd_nxt - status->snd_una);
 }
 
 static uint32_t mtu_of(const struct icmp_error *error)
@@ -51,7 +51,7 @@ static int too_big(struct path *path, const struct tcpcore_status *status, const
     if (path->longest <= mtu)
         return lower(path, mtu, now) ? PATH_NARROWER : PATH_NOTHING;
     path->claimed = mtu;
-    path->claimed_at = status->una;
+    path->claimed_at = status->snd_una;
     return PATH_NOTHING;
 }
 

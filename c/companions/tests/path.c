@@ -208,7 +208,7 @@ static void pieces(size_t length, uint32_t mtu)
     CHECK(memcmp(found, text, length), 0);
     CHECK(status_of(&peer).finished, 1);
     CHECK(carry(&peer, &own, PEER, OWN) > 0, 1);
-    CHECK(status_of(&own).una, length + 2);
+    CHECK(status_of(&own).snd_una, length + 2);
     free_both();
 }
 
