@@ -23,7 +23,12 @@ mode=$(stat -c %a /dev/net/tun)
 cleanup() {
     kill "$server" 2>/dev/null || true
     chmod "$mode" /dev/net/tun
-    userdel -r "$user" 2>/dev/null || true
+    # As long as a process of the user's is about to end, it can't go.
+    for _ in {1..40}; do
+        userdel -r "$user" 2>/dev/null || true
+        id "$user" >/dev/null 2>&1 || break
+        sleep 1
+    done
     sed -i "/^$user:/d" /etc/subuid /etc/subgid
     rm -rf "$folder"
 }
