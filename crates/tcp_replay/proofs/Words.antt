@@ -21,7 +21,7 @@ pub use Rattle.std.specs.Int.Bits.{xor_assoc, xor_self, xor_zero_l}
 pub use Rattle.std.specs.List.{AllByRecursion}
 pub use Rattle.std.specs.Option.{option_or}
 pub use Rattle.std.specs.declared.ops.Range.{Range}
-pub use Rattle.tcp_conn.proofs.Segments.{plain_segment_valid, report_options_short, reset_segment_valid, syn_segment_valid}
+pub use Rattle.tcp_conn.proofs.Segments.{report_options_short, reset_segment_valid, syn_segment_valid, text_segment_valid}
 pub use Rattle.tcp_conn.specs.Arrival.{after_judgement, after_reading, answer_to_reading, blocks_used, first_reset, has_fin, is_current}
 pub use Rattle.tcp_conn.specs.Arrival.{phase_after_own_syn, reset_at_ack, reset_of_stray, takes_fin, takes_text_of, with_reset, with_window_and_blocks}
 unfoldable pub use Rattle.tcp_conn.specs.Arrival.{after_acked_text, after_arrival, after_fin, after_its_ack, after_its_text, after_own_fin, after_own_syn}

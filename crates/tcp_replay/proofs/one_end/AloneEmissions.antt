@@ -2,9 +2,9 @@
 use Rattle.tcp_replay.proofs.Words.{◌+◌, ◌-◌, ◌<◌, ◌^◌, ack_alone, Acknowledgement, and_parts, ap, AreBytes, arith, Bool, count_of, count_unsent}
 use Rattle.tcp_replay.proofs.Words.{destination_of, discards, drop, drop-drop, Due, due_of, end_of, end_of_text, false, false≢true, Fin, FitsFields}
 use Rattle.tcp_replay.proofs.Words.{FitsPhase, has_peer, IfSome, is_fin, is_handshake, IsAlone, IsValid, IsWritable, length, length-drop, length-take}
-use Rattle.tcp_replay.proofs.Words.{List, max, new_count, NewText, None, not, Option, pending_after, place_of, plain_segment, plain_segment_valid, Range}
-use Rattle.tcp_replay.proofs.Words.{range_after, refl, Resend, resend_after, ResentFin, Reset, reset_ack, reset_segment_valid, segment_of, Sending, Sends}
-use Rattle.tcp_replay.proofs.Words.{sends_text, Seq, Some, start_of, State, state_after, subst, sym, Syn, syn_segment_valid, take, text_limit, text_of}
+use Rattle.tcp_replay.proofs.Words.{List, max, new_count, NewText, None, not, Option, pending_after, place_of, plain_segment, Range}
+use Rattle.tcp_replay.proofs.Words.{range_after, refl, report_options_short, Resend, resend_after, ResentFin, Reset, reset_ack, reset_segment_valid, segment_of, Sending, Sends}
+use Rattle.tcp_replay.proofs.Words.{sends_text, Seq, Some, start_of, State, state_after, subst, sym, Syn, syn_segment_valid, take, text_limit, text_of, text_segment_valid}
 use Rattle.tcp_replay.proofs.Words.{true, WaitingReset, ℕ, ◌∙◌, ◌≡◌, ◌≤◌}
 use Rattle.tcp_replay.proofs.one_end.Phases.{discards-not_ended, end-synchronized, fits-sent, fits-sent_text, handshake-knows, knows-nxt}
 use Rattle.tcp_replay.proofs.one_end.Phases.{sends_text-synchronized, synchronized-knows}
@@ -128,9 +128,9 @@ module _ (s : State) (accepted : List ℕ) (closed : Bool) (h : IsAlone s accept
   plain-valid : (due : Due) → has_peer s.phase ≡ true → IsPlain s.sending accepted closed due → IsValid (plain_segment s due)
   plain-valid due knows plain =
       let before = start_of s.sending due - 1 in
-      plain_segment_valid s due (fits-fields knows)
+      text_segment_valid s due (fits-fields knows)
       (subst AreBytes (sym plain.text) (bytes_take (count_of due) (drop before accepted) (bytes_drop before accepted h.sends.bytes)))
-      (omega (arith, ap length plain.text, length-take (count_of due) (drop before accepted), plain.short))
+      (omega (arith, report_options_short s, ap length plain.text, length-take (count_of due) (drop before accepted), plain.short))
 
   -- a reset
   out-reset : (reset : WaitingReset) → s.pending.reset ≡ Some reset → GoesOutAlone s accepted closed Reset
