@@ -43,13 +43,14 @@ expiry-keeps Reorder t other = (refl, refl)
 expiry-keeps TimeWait t other = (refl, refl)
 expiry-keeps User t other = absurd (cc)
 
-arrive-goes : {S : Type 0} (m : Machine S) (d : Driving S) (now time : ℕ) (bytes : List ℕ) (b : Bool) → Goes m d time
-    → (m.wants (if b then d else after_taken m d now bytes).core).retransmit ≡ true → m.una (if b then d else after_taken m d now bytes).core ≡ m.una d.core
-    → Goes m (if b then d else after_taken m d now bytes) time
-arrive-goes m d now time bytes true h wanted same = h
-arrive-goes m d now time bytes false h wanted same =
-    following-goes m (m.arrived d.core bytes) (measured d.times (m.una (m.arrived d.core bytes)) (m.report d.core bytes).window now) now (m.una d.core) time
-    h.deadline h.una wanted same
+arrive-goes : {S : Type 0} (m : Machine S) (d : Driving S) (now time : ℕ) (src dst bytes : List ℕ) (b : Bool) → Goes m d time
+    → (m.wants (if b then d else after_taken m d now src dst bytes).core).retransmit ≡ true
+    → m.una (if b then d else after_taken m d now src dst bytes).core ≡ m.una d.core → Goes m (if b then d else after_taken m d now src dst bytes) time
+arrive-goes m d now time src dst bytes true h wanted same = h
+arrive-goes m d now time src dst bytes false h wanted same =
+    following-goes m (m.arrived d.core src dst bytes)
+    (measured d.times (m.una (m.arrived d.core src dst bytes)) (m.report d.core src dst bytes).window now) now (m.una d.core) time h.deadline h.una
+    wanted same
 
 expire-goes : {S : Type 0} (m : Machine S) (d : Driving S) (now time : ℕ) (which : Option Timer) → ends_waiting which ≡ false → Goes m d time
     → (m.wants (after_time_by m d which now).core).retransmit ≡ true → m.una (after_time_by m d which now).core ≡ m.una d.core
@@ -60,7 +61,7 @@ expire-goes m d now time (Some timer) other h wanted same =
     following-goes m (m.expired d.core timer) (after_expiry d.times timer) now (m.una d.core) time (e.0 ∙ h.deadline) (e.1 ∙ h.una) wanted same
 
 next-goes : {S : Type 0} (m : Machine S) (d : Driving S) (time : ℕ) (call : Call S) → Goes m d time → GoesOn m d call → Goes m (after_call m d call) time
-next-goes m d time (Arrives now bytes) h g = arrive-goes m d (at d now) time bytes (d.times.bursting || is_withheld m d.core bytes) h g.wanted g.una
+next-goes m d time (Arrives now src dst bytes) h g = arrive-goes m d (at d now) time src dst bytes (d.times.bursting || is_withheld m d.core bytes) h g.wanted g.una
 next-goes m d time (Emits now window) h g =
     let e = segment-keeps (sent_of m d.core window) d.times (at d now) in
     following-goes m (core_after m d.core window) (after_segment (sent_of m d.core window) d.times (at d now)) (at d now) (m.una d.core) time
@@ -98,7 +99,7 @@ early-by m d now time true e h waits quiet =
 early-by m d now time false e h waits quiet = grind (arith, nat_tests, e)
 
 call-early : {S : Type 0} (m : Machine S) (d : Driving S) (time : ℕ) (call : Call S) → Goes m d time → GoesOn m d call → IsEarly time d call
-call-early m d time (Arrives now bytes) h g = tt
+call-early m d time (Arrives now src dst bytes) h g = tt
 call-early m d time (Emits now window) h g = tt
 call-early m d time (Expires now) h g = early-by m d (at d now) time (nat_le time (at d now)) refl h g.waits
 call-early m d time (Uses now does) h g = tt

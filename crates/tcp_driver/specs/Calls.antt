@@ -6,16 +6,16 @@ use Rattle.tcp_driver.specs.Times.{expiry, next_expiry}
 use Rattle.tcp_driver.specs.Driver.{Driving, IsTimely, after_arrival, after_emission, after_time, after_user, after_user_timeout, at, core_after, expired}
 use Rattle.tcp_driver.specs.Machine.{Machine}
 
--- each at a time, but the last; a user's call with what the end is after it
+-- each at a time, but the last; an arrival with its source and destination; a user's call with what the end is after it
 pub data Call (S : Type 0) : Type 0 where
-  Arrives : ℕ → List ℕ → Call S
+  Arrives : ℕ → List ℕ → List ℕ → List ℕ → Call S
   Emits : ℕ → ℕ → Call S
   Expires : ℕ → Call S
   Uses : ℕ → (S → S) → Call S
   SetsUserTimeout : Option ℕ → Call S
 
 abbrev pub after_call : {S : Type 0} → Machine S → Driving S → Call S → Driving S
-after_call m d (Arrives now bytes) = after_arrival m d (at d now) bytes
+after_call m d (Arrives now src dst bytes) = after_arrival m d (at d now) src dst bytes
 after_call m d (Emits now window) = after_emission m d (at d now) window
 after_call m d (Expires now) = after_time m d (at d now)
 after_call m d (Uses now does) = after_user m d (at d now) (does d.core)
@@ -71,7 +71,7 @@ AllGoOn m d (call ∷ earlier) = GoesOn m (after_calls m d earlier) call × AllG
 
 -- when a call is made
 abbrev pub time_of : {S : Type 0} → Driving S → Call S → ℕ
-time_of d (Arrives now bytes) = at d now
+time_of d (Arrives now src dst bytes) = at d now
 time_of d (Emits now window) = at d now
 time_of d (Expires now) = at d now
 time_of d (Uses now does) = at d now

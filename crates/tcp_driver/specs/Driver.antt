@@ -56,16 +56,17 @@ abbrev pub is_withheld : {S : Type 0} → Machine S → S → List ℕ → Bool
 is_withheld m s bytes = m.ignores_resets s && is_reset bytes
 
 -- in a burst nothing is taken
-abbrev pub arrival_answer : {S : Type 0} → Machine S → Driving S → List ℕ → Taken
-arrival_answer m d bytes =
-    if d.times.bursting then EmitFirst else (if is_withheld m d.core bytes then Withheld else Done (m.report d.core bytes))
+abbrev pub arrival_answer : {S : Type 0} → Machine S → Driving S → List ℕ → List ℕ → List ℕ → Taken
+arrival_answer m d src dst bytes =
+    if d.times.bursting then EmitFirst else (if is_withheld m d.core bytes then Withheld else Done (m.report d.core src dst bytes))
 
-abbrev pub after_taken : {S : Type 0} → Machine S → Driving S → ℕ → List ℕ → Driving S
-after_taken m d now bytes =
-    following m (m.arrived d.core bytes) (measured d.times (m.una (m.arrived d.core bytes)) (m.report d.core bytes).window now) now
+abbrev pub after_taken : {S : Type 0} → Machine S → Driving S → ℕ → List ℕ → List ℕ → List ℕ → Driving S
+after_taken m d now src dst bytes =
+    following m (m.arrived d.core src dst bytes)
+    (measured d.times (m.una (m.arrived d.core src dst bytes)) (m.report d.core src dst bytes).window now) now
 
-abbrev pub after_arrival : {S : Type 0} → Machine S → Driving S → ℕ → List ℕ → Driving S
-after_arrival m d now bytes = if d.times.bursting || is_withheld m d.core bytes then d else after_taken m d now bytes
+abbrev pub after_arrival : {S : Type 0} → Machine S → Driving S → ℕ → List ℕ → List ℕ → List ℕ → Driving S
+after_arrival m d now src dst bytes = if d.times.bursting || is_withheld m d.core bytes then d else after_taken m d now src dst bytes
 
 -- ---- AN EMISSION. WHAT ENDS PAST A WINDOW WAITS (RFC 5681, 3.1), where anything before it is in flight
 abbrev pub is_past : ℕ → ℕ → Sent → Bool

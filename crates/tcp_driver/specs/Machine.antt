@@ -17,9 +17,9 @@ pub record Machine (S : Type 0) : Type 0 where
   pub ignores_resets : S → Bool
   -- after a timer's expiry
   pub expired : S → Timer → S
-  -- what is reported of an arrival, and the state after it
-  pub report : S → List ℕ → Report
-  pub arrived : S → List ℕ → S
+  -- what is reported of an arrival, from an address to an address, and the state after it
+  pub report : S → List ℕ → List ℕ → List ℕ → Report
+  pub arrived : S → List ℕ → List ℕ → List ℕ → S
   -- what is due, what is written of it, and the state after its emission
   pub due : S → Option Sent
   pub written : S → List ℕ → List ℕ

@@ -65,10 +65,11 @@ impl<C: Core + Drop> Driver<C> {
         self.timers.next_expiry()
     }
 
-    /// A segment has come, at a time. In a burst it isn't taken, and some resets count as lost.
-    pub fn arrive(&mut self, now: u64, bytes: &[u8]) -> Taken
-        ensures answer { result ≡ arrival_answer C.machine self.old bytes.now }
-        ensures state { self.new ≡ after_arrival C.machine self.old (at self.old now) bytes.now }
+    /// A segment has come at a time, from the IPv4 address `src` to `dst`. In a burst it isn't taken, and some resets count
+    /// as lost.
+    pub fn arrive(&mut self, now: u64, src: [u8; 4], dst: [u8; 4], bytes: &[u8]) -> Taken
+        ensures answer { result ≡ arrival_answer C.machine self.old src dst bytes.now }
+        ensures state { self.new ≡ after_arrival C.machine self.old (at self.old now) src dst bytes.now }
     {
         if self.timers.is_bursting() {
             return Taken::EmitFirst;
@@ -77,7 +78,7 @@ impl<C: Core + Drop> Driver<C> {
             return Taken::Withheld;
         }
         let now = self.timers.time_at(now);
-        let report = self.core.arrive(bytes);
+        let report = self.core.arrive(src, dst, bytes);
         let una = self.core.una();
         self.timers.measure(una, report.window, now);
         self.timers.follow(self.core.wants(), una, now);

@@ -1,9 +1,11 @@
 ghost use Rattle.std.specs.Prelude.{◌≡◌, ◌+◌, ◌<◌, ◌≤◌, ◌^◌, IfSome, length, ℕ, List};
 
-/// A segment: its length in bytes, the position where it begins, and how many numbers it takes (RFC 9293, 3.4). A position
-/// counts from the SYN, which is at 0.
+/// A segment: the address that it goes to, its length in bytes, the position where it begins, and how many numbers it takes
+/// (RFC 9293, 3.4). A position counts from the SYN, which is at 0.
 #[derive(Clone, Copy, Debug, PartialEq, Eq)]
 pub struct Sent {
+    /// The IPv4 address that it goes to.
+    pub to: [u8; 4],
     /// The length of the segment, in bytes.
     pub len: usize,
     /// The position of its first number.
@@ -94,10 +96,10 @@ pub trait Core {
     fn expire(&mut self, timer: Timer)
         ensures { self.new ≡ machine.expired self.old timer };
 
-    /// A segment has come.
-    fn arrive(&mut self, bytes: &[u8]) -> Report
-        ensures report { result ≡ machine.report self.old bytes.now }
-        ensures state { self.new ≡ machine.arrived self.old bytes.now };
+    /// A segment has come from the IPv4 address `src` to `dst`.
+    fn arrive(&mut self, src: [u8; 4], dst: [u8; 4], bytes: &[u8]) -> Report
+        ensures report { result ≡ machine.report self.old src dst bytes.now }
+        ensures state { self.new ≡ machine.arrived self.old src dst bytes.now };
 
     /// What is due; nothing changes.
     fn next(&self) -> Option<Sent>

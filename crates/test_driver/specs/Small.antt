@@ -30,13 +30,13 @@ expired s User = record s { is_over = true }
 abbrev pub acked_to : Small → ℕ → ℕ
 acked_to s ack = max s.una (min s.nxt ack)
 
-abbrev pub report : Small → List ℕ → Report
-report s (ack ∷ gap ∷ fin ∷ window ∷ rest) =
+abbrev pub report : Small → List ℕ → List ℕ → List ℕ → Report
+report s src dst (ack ∷ gap ∷ fin ∷ window ∷ rest) =
     record { acked = acked_to s ack - s.una; is_duplicate = ack == s.una; at_once = fin == 1; window = Some window }
-report s other = record { acked = 0; is_duplicate = false; at_once = false; window = None }
+report s src dst other = record { acked = 0; is_duplicate = false; at_once = false; window = None }
 
-abbrev pub arrived : Small → List ℕ → Small
-arrived s (ack ∷ gap ∷ fin ∷ window ∷ rest) = record s {
+abbrev pub arrived : Small → List ℕ → List ℕ → List ℕ → Small
+arrived s src dst (ack ∷ gap ∷ fin ∷ window ∷ rest) = record s {
   una = acked_to s ack;
   again = max s.again (acked_to s ack);
   has_gap = gap == 1;
@@ -44,10 +44,10 @@ arrived s (ack ∷ gap ∷ fin ∷ window ∷ rest) = record s {
   unread = if fin == 1 then 1 else s.unread;
   is_resting = if fin == 1 then s.is_resting || acked_to s ack == s.nxt else s.is_resting;
 }
-arrived s other = s
+arrived s src dst other = s
 
 abbrev pub segment : ℕ → ℕ → Sent
-segment start count = record { len = 14; start = start; count = count }
+segment start count = record { to = 10 ∷ 0 ∷ 0 ∷ 2 ∷ []; len = 14; start = start; count = count }
 
 abbrev pub due : Small → Option Sent
 due s =

@@ -105,7 +105,7 @@ fn arrives(
     let (window, rest) = first_byte(rest)?;
     let (flags, _) = first_byte(rest)?;
     let bytes = [ack, gap, fin, window, 0, 0, 0, 0, 0, 0, 0, 0, 0, flags];
-    match driver.arrive(now, &bytes) {
+    match driver.arrive(now, [10, 0, 0, 2], [10, 0, 0, 1], &bytes) {
         Taken::Done(report) => write!(answers, "taken {}", report.acked)?,
         Taken::EmitFirst => answers.push_str("emit-first")?,
         Taken::Withheld => answers.push_str("withheld")?,

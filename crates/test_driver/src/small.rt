@@ -7,8 +7,11 @@ use tcp_driver::{Core, Report, Sent, Timer, Wants};
 /// The bytes of each of its segments.
 const SEGMENT: usize = 14;
 
-/// An end that sends numbers, one in a segment. What comes to it is an acknowledgement, whether the peer reports a gap, the
-/// peer's FIN, and its window: a byte each. Byte 13 has the bit RST, as in a segment of RFC 9293, 3.1.
+/// The address that all of them go to.
+const PEER: [u8; 4] = [10, 0, 0, 2];
+
+/// An end that sends numbers, one in a segment. What comes to it, from anywhere, is an acknowledgement, whether the peer
+/// reports a gap, the peer's FIN, and its window: a byte each. Byte 13 has the bit RST, as in a segment of RFC 9293, 3.1.
 #[derive(Clone, Copy, Debug, PartialEq, Eq)]
 pub struct Small {
     /// The first number that isn't acknowledged.
@@ -91,7 +94,7 @@ impl Core for Small {
         }
     }
 
-    fn arrive(&mut self, bytes: &[u8]) -> Report {
+    fn arrive(&mut self, _src: [u8; 4], _dst: [u8; 4], bytes: &[u8]) -> Report {
         let [ack, gap, fin, window, ..] = bytes else {
             return Report {
                 acked: 0,
@@ -199,6 +202,7 @@ fn segment(start: u64, count: u64) -> Sent
     ensures { result ≡ segment start count }
 {
     Sent {
+        to: PEER,
         len: SEGMENT,
         start,
         count,
