@@ -1,0 +1,109 @@
+-- An end of a connection as a machine without a clock: each function is one of tcp_conn's.
+use Rattle.std.specs.Prelude.{ℕ, ◌-◌, nat_lt, Bool, false, true, ◌&&◌, ◌||◌, if◌then◌else◌, List, ◌++◌, drop, length, Option, Some, None, option_map, Result, Ok, Err}
+use Rattle.tcp_timing.specs.declared.rules.Rules.{Rules}
+use Rattle.tcp_driver.specs.declared.limits.Limits.{Limits}
+use Rattle.tcp_driver.specs.declared.machine.Report.{Report}
+use Rattle.tcp_driver.specs.declared.machine.Sent.{Sent}
+use Rattle.tcp_driver.specs.declared.machine.Timer.{Timer}
+use Rattle.tcp_driver.specs.declared.machine.Timer.TheVariants as timers
+use Rattle.tcp_driver.specs.declared.machine.Wants.{Wants}
+use Rattle.tcp_driver.specs.Driver.{Driving, new_driving}
+use Rattle.tcp_driver.specs.Machine.{Machine}
+use Rattle.tcp_halves.specs.declared.link.Peer.{Peer}
+use Rattle.tcp_conn.specs.declared.emit.transmit.Transmit.{Transmit}
+use Rattle.tcp_conn.specs.declared.outcome.CallError.{CallError}
+use Rattle.tcp_conn.specs.declared.phase.Phase.{Phase}
+use Rattle.tcp_conn.specs.declared.phase.Phase.TheVariants.{Closing, LastAck}
+use Rattle.tcp_conn.specs.declared.phase.Timer.TheVariants.{Retransmit, Reorder, TimeWait}
+use Rattle.tcp_conn.specs.declared.timers.Timers.{Timers}
+use Rattle.tcp_conn.specs.Arrival.{after_arrival}
+use Rattle.tcp_conn.specs.AtOnce.{answers_at_once}
+use Rattle.tcp_conn.specs.Calls.{after_abort, after_close, after_connect, after_listen, after_receive, after_send, opening_answer, received_bytes}
+use Rattle.tcp_conn.specs.Emission.{after_ack_alone, after_emission, buffer_after, buffer_after_ack_alone}
+use Rattle.tcp_conn.specs.Phase.{is_time_wait}
+use Rattle.tcp_conn.specs.State.{State}
+use Rattle.tcp_conn.specs.Taking.{bytes_acked, is_duplicate, is_window_taken}
+use Rattle.tcp_conn.specs.Timers.{after_resend_first, after_timer, sends_again, timers_wanted}
+use Rattle.tcp_conn.specs.Transmission.{transmit_ack_alone, transmit_due}
+use Rattle.tcp_end.specs.declared.wired.Wired.{Wired}
+
+-- WHICH TIMERS RUN
+abbrev pub wants_by : Timers → Wants
+wants_by t = record { retransmit = t.retransmit; reorder = t.reorder; time_wait = t.time_wait }
+
+-- A TIMER HAS EXPIRED: an end has no user timeout, and the connection is aborted after it (RFC 9293, 3.8.3)
+abbrev pub expired : State → Timer → State
+expired s timers.Retransmit = after_timer s Retransmit
+expired s timers.Reorder = after_timer s Reorder
+expired s timers.TimeWait = after_timer s TimeWait
+expired s timers.User = after_abort s
+
+-- A SEGMENT takes the numbers between where it begins and where it ends
+abbrev pub sent_by : Transmit → Sent
+sent_by t = record { to = t.to.0; len = t.len; start = t.position; count = t.end - t.position }
+
+-- A RESET COUNTS AS LOST in TIME-WAIT (RFC 1337, 3), and where all has come but the last acknowledgement, while it would discard text
+-- that the user hasn't read
+abbrev pub waits_for_last_ack : Phase → Bool
+waits_for_last_ack Closing = true
+waits_for_last_ack LastAck = true
+waits_for_last_ack other = false
+
+abbrev pub ignores_resets : State → Bool
+ignores_resets s = is_time_wait s.phase || (waits_for_last_ack s.phase && nat_lt 0 (length s.receiving.inbox.unread))
+
+-- WHAT AN ARRIVAL HAS BROUGHT: the window is SND.WND after it, where that was taken from it
+abbrev pub window_after : State → List ℕ → List ℕ → List ℕ → Option ℕ
+window_after s src dst bytes = if is_window_taken s src dst bytes then Some (after_arrival s src dst bytes).sending.snd_wnd else None
+
+abbrev pub report : State → List ℕ → List ℕ → List ℕ → Report
+report s src dst bytes = record {
+  acked = bytes_acked s (after_arrival s src dst bytes);
+  is_duplicate = is_duplicate s src dst bytes;
+  at_once = answers_at_once s src dst bytes;
+  window = window_after s src dst bytes;
+}
+
+-- what a user's buffer contains after a call of `receive`
+abbrev pub read_into : State → List ℕ → List ℕ
+read_into s out = let bytes = received_bytes s (length out) in bytes ++ drop (length bytes) out
+
+-- THE END AS A MACHINE
+abbrev pub machine : {A : Type 0} → Machine (Wired A)
+machine = record {
+  room = 1520;
+  wants = λ w. wants_by (timers_wanted w.end);
+  una = λ w. w.end.sending.snd_una;
+  flight = λ w. w.end.sending.snd_nxt - w.end.sending.snd_una;
+  ignores_resets = λ w. ignores_resets w.end;
+  expired = λ w timer. record { end = expired w.end timer };
+  report = λ w src dst bytes. report w.end src dst bytes;
+  arrived = λ w src dst bytes. record { end = after_arrival w.end src dst bytes };
+  due = λ w. option_map sent_by (transmit_due w.end);
+  written = λ w out. buffer_after w.end out;
+  emitted = λ w. record { end = after_emission w.end };
+  alone = λ w. option_map sent_by (transmit_ack_alone w.end);
+  written_alone = λ w out. buffer_after_ack_alone w.end out;
+  acknowledged = λ w. record { end = after_ack_alone w.end };
+  can_resend = λ w. sends_again w.end;
+  first_resent = λ w. record { end = after_resend_first w.end };
+  sent = λ w text. record { end = after_send w.end text };
+  read = λ w out. read_into w.end out;
+  received = λ w room. record { end = after_receive w.end room };
+  closed = λ w. record { end = after_close w.end };
+  aborted = λ w. record { end = after_abort w.end };
+}
+
+-- AN END IS OPENED, and its timers run from then on; an opening that is refused has the end's answer
+abbrev pub driven : {A : Type 0} → State → Rules → Limits → ℕ → Driving (Wired A)
+driven s rules limits now = new_driving machine (record { end = s }) rules limits now
+
+abbrev pub driven_if : {A : Type 0} → Result (Unit {0}) CallError → Driving (Wired A) → Result (Driving (Wired A)) CallError
+driven_if (Ok answer) d = Ok d
+driven_if (Err error) d = Err error
+
+abbrev pub connected : {A : Type 0} → State → Peer → Rules → Limits → ℕ → Result (Driving (Wired A)) CallError
+connected s peer rules limits now = driven_if (opening_answer s) (driven (after_connect s peer) rules limits now)
+
+abbrev pub listening : {A : Type 0} → State → Rules → Limits → ℕ → Result (Driving (Wired A)) CallError
+listening s rules limits now = driven_if (opening_answer s) (driven (after_listen s) rules limits now)

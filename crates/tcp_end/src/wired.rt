@@ -1,0 +1,188 @@
+ghost use Rattle.std.specs.Prelude.{◌≡◌};
+ghost use Rattle.tcp_timing.specs.Rules.{IsSound};
+ghost use Rattle.tcp_end.specs.Wired.{connected, listening, sent_by, waits_for_last_ack};
+
+use std::alloc::{Allocator, Global};
+use tcp_conn::{CallError, Endpoint, Phase, Received, Transmit};
+use tcp_driver::{Core, Driver, Limits, Report, Sent, Timer, Wants};
+use tcp_timing::Rules;
+use tcp_wire::Addr;
+
+/// An end of a connection, as a driver sees it.
+#[derive(Debug, Drop)]
+pub struct Wired<A: Allocator = Global> {
+    /// The end.
+    pub end: Endpoint<A>,
+}
+
+/// An end with its timers.
+pub type End<A> = Driver<Wired<A>>;
+
+/// Opens a connection to this address and port (RFC 9293, 3.10.1): the SYN is due, and the timers run from now on. It is
+/// refused as `Endpoint::connect` is.
+pub fn connect<A: Allocator>(
+    end: Endpoint<A>,
+    addr: Addr,
+    port: u16,
+    rules: Rules,
+    limits: Limits,
+    now: u64,
+) -> Result<End<A>, CallError>
+    requires { IsSound rules }
+    ensures { result ≡ connected end (record { addr = addr; port = port }) rules limits now }
+{
+    let mut end = end;
+    match end.connect(addr, port) {
+        Ok(()) => Ok(Driver::new(Wired { end }, rules, limits, now)),
+        Err(error) => Err(error),
+    }
+}
+
+/// Waits for a peer (RFC 9293, 3.10.1). It is refused as `Endpoint::listen` is.
+pub fn listen<A: Allocator>(
+    end: Endpoint<A>,
+    rules: Rules,
+    limits: Limits,
+    now: u64,
+) -> Result<End<A>, CallError>
+    requires { IsSound rules }
+    ensures { result ≡ listening end rules limits now }
+{
+    let mut end = end;
+    match end.listen() {
+        Ok(()) => Ok(Driver::new(Wired { end }, rules, limits, now)),
+        Err(error) => Err(error),
+    }
+}
+
+impl<A: Allocator> Core for Wired<A> {
+    ghost use Rattle.tcp_conn.specs.Calls.{abort_answer, close_answer, receive_answer, send_answer};
+    ghost use Rattle.tcp_end.specs.Wired.{machine};
+
+    type Sending = Result<usize, CallError>;
+
+    type Receiving = Result<Received, CallError>;
+
+    type Closing = Result<(), CallError>;
+
+    type Aborting = Result<(), CallError>;
+
+    ghost machine = { machine };
+
+    ghost send_answer = { λ w text. send_answer w.end text };
+
+    ghost receive_answer = { λ w room. receive_answer w.end room };
+
+    ghost close_answer = { λ w. close_answer w.end };
+
+    ghost abort_answer = { λ w. abort_answer w.end };
+
+    fn wants(&self) -> Wants {
+        let wanted = self.end.timers_wanted();
+        Wants {
+            retransmit: wanted.retransmit,
+            reorder: wanted.reorder,
+            time_wait: wanted.time_wait,
+        }
+    }
+
+    fn una(&self) -> u64 {
+        self.end.snd_una()
+    }
+
+    fn flight(&self) -> u64 {
+        self.end.snd_nxt().saturating_sub(self.end.snd_una())
+    }
+
+    fn ignores_resets(&self) -> bool {
+        let phase = self.end.phase();
+        matches!(phase, Phase::TimeWait) || waits_for_last_ack(phase) && self.end.unread() > 0
+    }
+
+    fn expire(&mut self, timer: Timer) {
+        match timer {
+            Timer::Retransmit => {
+                let _ = self.end.timer(tcp_conn::Timer::Retransmit);
+            }
+            Timer::Reorder => {
+                let _ = self.end.timer(tcp_conn::Timer::Reorder);
+            }
+            Timer::TimeWait => {
+                let _ = self.end.timer(tcp_conn::Timer::TimeWait);
+            }
+            Timer::User => {
+                let _ = self.end.abort();
+            }
+        }
+    }
+
+    fn arrive(&mut self, src: [u8; 4], dst: [u8; 4], bytes: &[u8]) -> Report {
+        let taken = self.end.take(Addr(src), Addr(dst), bytes);
+        let (_, snd_wnd) = self.end.windows();
+        Report {
+            acked: taken.acked,
+            is_duplicate: taken.is_duplicate,
+            at_once: taken.at_once,
+            window: if taken.window_taken {
+                Some(u64::from(snd_wnd))
+            } else {
+                None
+            },
+        }
+    }
+
+    fn next(&self) -> Option<Sent> {
+        let next = self.end.next_transmit()?;
+        Some(sent_by(next))
+    }
+
+    fn transmit(&mut self, out: &mut [u8]) -> Option<Sent> {
+        let sent = self.end.transmit(out)?;
+        Some(sent_by(sent))
+    }
+
+    fn acknowledge(&mut self, out: &mut [u8]) -> Option<Sent> {
+        let sent = self.end.emit_acknowledgement(out)?;
+        Some(sent_by(sent))
+    }
+
+    fn resend_first(&mut self) -> bool {
+        self.end.resend_first()
+    }
+
+    fn send(&mut self, text: &[u8]) -> Result<usize, CallError> {
+        self.end.send(text)
+    }
+
+    fn receive(&mut self, out: &mut [u8]) -> Result<Received, CallError> {
+        self.end.receive(out)
+    }
+
+    fn close(&mut self) -> Result<(), CallError> {
+        self.end.close()
+    }
+
+    fn abort(&mut self) -> Result<(), CallError> {
+        self.end.abort()
+    }
+}
+
+/// What the driver is told of a segment.
+fn sent_by(sent: Transmit) -> Sent
+    ensures { result ≡ sent_by sent }
+{
+    let to = sent.to.0;
+    Sent {
+        to,
+        len: sent.len,
+        start: sent.position,
+        count: sent.end.saturating_sub(sent.position),
+    }
+}
+
+/// Whether both ends have closed, and this end's FIN waits for its acknowledgement.
+fn waits_for_last_ack(phase: Phase) -> bool
+    ensures { result ≡ waits_for_last_ack phase }
+{
+    matches!(phase, Phase::Closing | Phase::LastAck)
+}
