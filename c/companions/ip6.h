@@ -4,8 +4,8 @@
  *
  * This is C over tcpcore.h and ip.h, tested and not proved. An end only compares addresses and sums them. So it is given a surrogate for each
  * IPv6 address, ip6_surrogate; what arrives is summed here, over its own pseudo-header, and then taken as one that a device has found right
- * (tcpcore_arrive_vouched_with_report); and of what the end emits the checksum is changed to that of the IPv6 pseudo-header, ip6_resum. All that is proved of
- * an end holds of what is between. Its MSS is 20 bytes less than over IPv4, for the longer header.
+ * (tcpcore_arrive_vouched_with_report); and of what the end emits the checksum is changed to that of the IPv6 pseudo-header, ip6_resum.
+ * All that is proved of an end holds of what is between. Its MSS is 20 bytes less than over IPv4, for the longer header.
  *
  * Whoever keeps connections looks surrogates up, and compares the addresses that they stand for: two of some 2^28 addresses may have one
  * surrogate, which are then not to be had at once.
