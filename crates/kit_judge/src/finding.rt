@@ -92,7 +92,7 @@ fn push_ack<A: Allocator>(text: &mut String<A>, acked_number: Seq) -> Result<(),
     let acked_number = acked_number.0;
     write!(
         text,
-        "an acknowledgement of {told}, up to which not all came (RFC 9293, 3.4)"
+        "an acknowledgement of {acked_number}, up to which not all came (RFC 9293, 3.4)"
     )
 }
 
