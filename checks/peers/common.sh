@@ -30,7 +30,7 @@ objects() {
 
 # What all programs have of ours.
 common_objects() {
-    objects common $warnings $ours -c "$top"/c/companions/{answers,congestion,cubic,flow,timers,ip}.c "$top/c/tcpcore/tcpcore.c"
+    objects common $warnings $ours -c "$top"/c/companions/{answers,congestion,cubic,delayed_ack,flow,ip,keep_alive,loss_recovery,silly_window,timers}.c "$top/c/tcpcore/tcpcore.c"
 }
 
 # A program of ours against the peer that these words make.
