@@ -1,14 +1,15 @@
 -- A HANDSHAKE CAN BE FINISHED (RFC 9293, 3.5) by at most eight events: who calls is served, its SYN comes, who answers is served, and its SYN comes.
 -- What is refused of them changes nothing.
-use Rattle.tcp_replay.proofs.Words.{◌++◌, [], AllByRecursion, arith, Deliver, Emit, EventContent, false, inl, inr, length, List, None, Option, other, party_of}
-use Rattle.tcp_replay.proofs.Words.{refl, refusal_of, Retransmit, Some, stay_or, SynReceived, Timer, true, world_after, world_after_all, world_with_effect}
-use Rattle.tcp_replay.proofs.Words.{WorldState, ℕ, ◌∷◌, ◌≡◌, ◌≤◌, ◌⊎◌}
-use Rattle.tcp_progress.proofs.Words.{A, AreOpen, B, CanOpen, CanReachUnaided, HandshakesCanBeFinished, HasStreamsOf, IsCalm, IsQuiet, IsUnaided}
-use Rattle.tcp_progress.proofs.Words.{NoneDiscarded, served, Side, StepError}
-use Rattle.tcp_progress.proofs.Lemmas.{calm-served, in-every-world, IsKept, Steps, steps-all, steps-event, steps-streams, steps-then}
-use Rattle.tcp_progress.proofs.{handshake.SynServed.answer-now, handshake.SynServed.IsTaken, handshake.SynServed.speaks, handshake.SynServed.syn-comes, handshake.SynServed.twice-syn, laws.NotStuck.either-up, turn.TurnsHad.goes-safely}
-use Rattle.tcp_progress.proofs.{turn.TurnsHad.IsFine, handshake.KeepsOpening.IsShaking, handshake.KeepsOpening.Opens, handshake.KeepsOpening.opens-after, handshake.KeepsOpening.opens-append, handshake.KeepsOpening.OpensOr, handshake.KeepsOpening.shakes-all}
-use Rattle.tcp_progress.proofs.{turn.Live.reach-here, turn.Live.reach-step}
+use Rattle.tcp_replay.proofs.Words.{◌+◌, ◌++◌, [], AllByRecursion, ap, arith, Deliver, due_of, Emit, EventContent, inl, inr, length, length-append, List}
+use Rattle.tcp_replay.proofs.Words.{None, Option, other, party_of, PartyState, refl, refusal_of, Retransmit, Some, State, stay_or, suc, subst, sym, Syn, SynReceived}
+use Rattle.tcp_replay.proofs.Words.{SynSent, Timer, true, false, Bool, world_after, world_after_all, world_with_effect, WorldState, zero, ℕ, ◌∙◌, ◌∷◌, ◌≡◌, ◌≤◌}
+use Rattle.tcp_progress.proofs.Words.{A, after_emissions, AreOpen, B, CanOpen, CanReachUnaided, HandshakesCanBeFinished, HasStreamsOf, IsCalm, IsQuiet, IsUnaided}
+use Rattle.tcp_progress.proofs.Words.{Side, StepError}
+use Rattle.tcp_progress.proofs.Lemmas.{after-append, all-append, all-more, emit-at, emit-endpoint, in-every-world, IsKept, side-pair, steps-all, steps-event}
+use Rattle.tcp_progress.proofs.Lemmas.{steps-streams, still-emission, still-retransmit, timer-at, timer-endpoint, twice}
+use Rattle.tcp_progress.proofs.handshake.KeepsOpening.{answerer, both-open, IsPassive}
+use Rattle.tcp_progress.proofs.handshake.SynServed.{Heard, speaker-is, Speaks, speaks-still, syn-goes, syn-heard}
+use Rattle.tcp_progress.proofs.{turn.Asking.syn-after, turn.Live.reach-here, turn.Live.reach-step}
 
 -- ---- WHAT EVENTS LEAD TO, refused or not, those of them lead to that aren't refused
 unaided-plain : (event : EventContent) → IsUnaided event → IsQuiet event × IsCalm event
@@ -28,92 +29,115 @@ short-or w event events None unaided goes short = record {
 }
 short-or w event events (Some error) unaided refused short = record { way = short.way; unaided = short.unaided; most = omega (arith, short.most) }
 
--- ---- BOTH ARE OPEN within so many events
-record OpensIn (n : ℕ) (w : WorldState) : Type 0 where
+short-all : (P : WorldState → Type 0) (w : WorldState) (events : List EventContent) → AllByRecursion IsUnaided events → P (world_after_all w events)
+    → CanReachUnaided (length events) P w
+unfolding world_after_all reach-here
+short-all P w [] unaided h = record { way = reach-here h; unaided = tt; most = omega arith }
+short-all P w (event ∷ events) unaided h =
+    short-or w event events (refusal_of w event) unaided.0 refl (short-all P (world_after w event) events unaided.1 h)
+
+-- ---- ONE SPEAKS, within so many events, and is heard; its phase is what it was
+record HeardIn (n : ℕ) (told : Bool) (w : WorldState) (side : Side) : Type 0 where
   events : List EventContent
-  opens : Opens w events
   unaided : AllByRecursion IsUnaided events
   most : length events ≤ n
+  phase : (party_of (world_after_all w events) side).endpoint.phase ≡ (party_of w side).endpoint.phase
+  heard : Heard told (party_of (world_after_all w events) (other side))
 
--- from the start on
-abbrev IsOpened : WorldState → WorldState → Type 0
-IsOpened start v = AreOpen v × HasStreamsOf start v
-
-short-all : (start w : WorldState) (events : List EventContent) → Steps start w → AllByRecursion IsUnaided events → Opens w events
-    → CanReachUnaided (length events) (IsOpened start) w
-unfolding reach-here
-short-all start w [] steps unaided both = record { way = reach-here (both, steps-streams start w steps); unaided = tt; most = omega arith }
-short-all start w (event ∷ events) steps unaided (inl both) =
-    record { way = reach-here (both, steps-streams start w steps); unaided = tt; most = omega arith }
-short-all start w (event ∷ events) steps unaided (inr opens) =
-    let v = world_after w event in
-    let steps' = steps-then start w v steps (steps-event w event (unaided-plain event unaided.0).1 steps.kept) in
-    short-or w event events (refusal_of w event) unaided.0 refl (short-all start v events steps' unaided.1 opens)
-
-opens-short : (n : ℕ) (w : WorldState) → IsKept w → OpensIn n w → CanReachUnaided n (IsOpened w) w
+-- its SYN is due after so many emissions: it goes out, and comes
+emitted-heard : (count : ℕ) (told : Bool) (w : WorldState) (side : Side) → IsKept w → Speaks told (party_of w side) (party_of w (other side))
+    → due_of (after_emissions count (party_of w side).endpoint) ≡ Some Syn → HeardIn (count + 2) told w side
 unfolding world_after_all
-opens-short n w h o =
-    let short = short-all w w o.events (steps-all w [] tt h) o.unaided o.opens in
-    record { way = short.way; unaided = short.unaided; most = omega (arith, short.most, o.most) }
+emitted-heard zero told w side h is due =
+    let p = party_of w side in
+    let v = world_after w (Emit side) in
+    let k = length p.sent in
+    let is' = emit-at (λ x y. Speaks told x y) w side (speaks-still told p _ (party_of w (other side)) (still-emission p) is) in
+    let had = syn-heard told v side k (steps-event w (Emit side) tt h).kept is' (syn-goes told w side h is due) in
+    record {
+      events = Emit side ∷ Deliver side k ∷ [];
+      unaided = (tt, (tt, tt));
+      most = omega arith;
+      phase = ap (λ (x : PartyState). x.endpoint.phase) had.0 ∙ emit-at (λ x _. x.endpoint.phase ≡ p.endpoint.phase) w side (still-emission p).phase;
+      heard = had.1;
+    }
+emitted-heard (suc count) told w side h is due =
+    let p = party_of w side in
+    let is' = emit-at (λ x y. Speaks told x y) w side (speaks-still told p _ (party_of w (other side)) (still-emission p) is) in
+    let due' = ap (λ (t : State). due_of (after_emissions count t)) (emit-endpoint w side) ∙ due in
+    let rest = emitted-heard count told (world_after w (Emit side)) side (steps-event w (Emit side) tt h).kept is' due' in
+    record {
+      events = Emit side ∷ rest.events;
+      unaided = (tt, rest.unaided);
+      most = omega (arith, rest.most);
+      phase = rest.phase ∙ emit-at (λ x _. x.endpoint.phase ≡ p.endpoint.phase) w side (still-emission p).phase;
+      heard = rest.heard;
+    }
 
--- one side is served: no end is reset or aborted at it
-serves : (w : WorldState) (side : Side) → IsKept w → NoneDiscarded w → IsFine (world_after_all w (served side 2))
-serves w side h up = (goes-safely w (served side 2) (tt, (tt, (tt, tt))) (record { kept = h; up = up })).fine
+-- so it is after its timeout
+served-short : (told : Bool) (w : WorldState) (side : Side) → IsKept w → Speaks told (party_of w side) (party_of w (other side)) → HeardIn 4 told w side
+unfolding world_after_all
+served-short told w side h is =
+    let p = party_of w side in
+    let q = party_of w (other side) in
+    let is' = timer-at (λ x y. Speaks told x y) w side (speaks-still told p _ q (still-retransmit p) is) in
+    let out = syn-after p.endpoint (speaker-is told p q (side-pair w side h) is).0 in
+    let due = ap (λ (t : State). due_of (after_emissions out.0 t)) (timer-endpoint w side) ∙ out.2 in
+    let rest = emitted-heard out.0 told (world_after w (Timer side Retransmit)) side (steps-event w (Timer side Retransmit) tt h).kept is' due in
+    record {
+      events = Timer side Retransmit ∷ rest.events;
+      unaided = (tt, rest.unaided);
+      most = omega (arith, rest.most, out.1);
+      phase = rest.phase ∙ timer-at (λ x _. x.endpoint.phase ≡ p.endpoint.phase) w side (still-retransmit p).phase;
+      heard = rest.heard;
+    }
+
+-- ---- BOTH ARE OPEN after so many events
+record OpensIn (n : ℕ) (w : WorldState) : Type 0 where
+  events : List EventContent
+  unaided : AllByRecursion IsUnaided events
+  most : length events ≤ n
+  opens : AreOpen (world_after_all w events)
+
+kept-unaided : (w : WorldState) (events : List EventContent) → AllByRecursion IsUnaided events → IsKept w → IsKept (world_after_all w events)
+kept-unaided w events unaided h = (steps-all w events (all-more IsUnaided IsCalm (λ event is. (unaided-plain event is).1) events unaided) h).kept
 
 -- WHO ANSWERS is served, and its SYN comes
-answer-short : (w : WorldState) (side : Side) → IsShaking w side → (party_of w (other side)).endpoint.phase ≡ SynReceived → NoneDiscarded w → OpensIn 4 w
-answer-short w side h received up =
-    let events = served (other side) 2 in
-    let u = world_after_all w events in
-    let out = speaks true 2 w side (h, received) (inr (omega arith)) in
-    elim (shakes-all w events side (calm-served (other side) 2) h (serves w (other side) h.kept up).up) [
-      | inl opens ↦ record { events = events; opens = opens; unaided = (tt, (tt, (tt, tt))); most = omega arith }
-      | inr on ↦ record {
-        events = events ++ Deliver (other side) out.place ∷ [];
-        opens = opens-after w events (Deliver (other side) out.place ∷ [])
-            (inr (answer-now u side out.place on.0 (on.1.received received) (twice-syn u side out.place out.syn)));
-        unaided = (tt, (tt, (tt, (tt, tt))));
-        most = omega arith;
-      }
-    ]
+answer-short : (w : WorldState) (side : Side) → IsKept w → (party_of w side).endpoint.phase ≡ SynSent → (party_of w (other side)).endpoint.phase ≡ SynReceived
+    → OpensIn 4 w
+answer-short w side h calls received =
+    let had = served-short true w (other side) h (received, rw (twice side) calls) in
+    let v = world_after_all w had.events in
+    let live = answerer v side (kept-unaided w had.events had.unaided h) (had.phase ∙ received) in
+    record { events = had.events; unaided = had.unaided; most = had.most; opens = both-open v side (rw (twice side) at had.heard) live }
 
--- WHO CALLS is served, and its SYN comes; then who answers
-call-short : (w : WorldState) (side : Side) → IsShaking w side → NoneDiscarded w → OpensIn 8 w
-call-short w side h up =
-    let one = served side 2 in
-    let u = world_after_all w one in
-    let fine = serves w side h.kept up in
-    let out = speaks false 2 w side h (inr (omega arith)) in
-    let two = Deliver side out.place ∷ [] in
-    let v = world_after_all u two in
-    let fine' = (goes-safely u two ((out.syn.g, out.syn.content, out.syn.way), tt) fine).fine in
-    let first : Opens w (one ++ two) ⊎ OpensOr u two (IsTaken side) = elim (shakes-all w one side (calm-served side 2) h fine.up) [
-      | inl opens ↦ inl (opens-append w one two opens)
-      | inr on ↦ inr (syn-comes false u side out.place two (tt, tt) on.0 out.syn (inl refl) fine'.up)
-    ] in
-    elim first [
-      | inl opens ↦ record { events = one ++ two; opens = opens; unaided = (tt, (tt, (tt, (tt, tt)))); most = omega arith }
-      | inr taken ↦
-          elim taken [
-            | inl opens ↦ record { events = one ++ two; opens = opens-after w one two opens; unaided = (tt, (tt, (tt, (tt, tt)))); most = omega arith }
-            | inr is ↦
-                let rest = answer-short v side is.0 is.1 fine'.up in
-                record {
-                  events = one ++ (two ++ rest.events);
-                  opens = opens-after w one (two ++ rest.events) (opens-after u two rest.events rest.opens);
-                  unaided = (tt, (tt, (tt, (tt, rest.unaided))));
-                  most = omega (arith, rest.most);
-                }
-          ]
-    ]
+-- WHO CALLS is served before, where the other listens
+call-short : (w : WorldState) (side : Side) → IsKept w → (party_of w side).endpoint.phase ≡ SynSent → IsPassive (party_of w (other side)).endpoint.phase
+    → OpensIn 8 w
+call-short w side h calls (inr received) =
+    let short = answer-short w side h calls received in
+    record { events = short.events; unaided = short.unaided; most = omega (arith, short.most); opens = short.opens }
+call-short w side h calls (inl listens) =
+    let had = served-short false w side h (calls, listens) in
+    let v = world_after_all w had.events in
+    let rest = answer-short v side (kept-unaided w had.events had.unaided h) (had.phase ∙ calls) had.heard in
+    record {
+      events = had.events ++ rest.events;
+      unaided = all-append IsUnaided had.events rest.events had.unaided rest.unaided;
+      most = omega (arith, length-append had.events rest.events, had.most, rest.most);
+      opens = subst AreOpen (sym (after-append w had.events rest.events)) rest.opens;
+    }
+
+opens-short : (w : WorldState) → IsKept w → OpensIn 8 w → CanReachUnaided 8 (λ v. AreOpen v × HasStreamsOf w v) w
+opens-short w h o =
+    let v = world_after_all w o.events in
+    let calm = all-more IsUnaided IsCalm (λ event is. (unaided-plain event is).1) o.events o.unaided in
+    let short = short-all (λ v. AreOpen v × HasStreamsOf w v) w o.events o.unaided (o.opens, steps-streams w v (steps-all w o.events calm h)) in
+    record { way = short.way; unaided = short.unaided; most = omega (arith, short.most, o.most) }
 
 pub can-open : (w : WorldState) → IsKept w → CanOpen w
-can-open w h opens =
-    let up = either-up w h opens in
-    opens-short 8 w h (elim opens [
-      | inl opening ↦ call-short w A (record { kept = h; calls = opening.calls; answers = opening.answers }) up
-      | inr opening ↦ call-short w B (record { kept = h; calls = opening.calls; answers = opening.answers }) up
-    ])
+can-open w h (inl opening) = opens-short w h (call-short w A h opening.calls opening.answers)
+can-open w h (inr opening) = opens-short w h (call-short w B h opening.calls opening.answers)
 
 -- in every world
 pub handshake_lem : HandshakesCanBeFinished

@@ -1,11 +1,11 @@
 -- OVER CALM EVENTS two ends that are opening the connection go on to do so, or both are open, while no end is reset (RFC 9293, 3.10.7.2 to 3.10.7.4).
-use Rattle.tcp_replay.proofs.Words.{◌++◌, [], ack, Acknowledge, after_judgement, after_peer_opens, AllByRecursion, arith, Bool, cases_Bool, Closed}
+use Rattle.tcp_replay.proofs.Words.{[], ack, Acknowledge, after_judgement, after_peer_opens, AllByRecursion, arith, Bool, cases_Bool, Closed}
 use Rattle.tcp_replay.proofs.Words.{Content, Damage, Deliver, discards, effect_of, Emit, EmitAcknowledgement, Ending, EventContent, false, false≢true}
 use Rattle.tcp_replay.proofs.Words.{FitsPhase, has, has_discarded, inl, inr, is_syn_sent, IsSoundPair, Judgement, judgement, List, Listen, max_life, None}
 use Rattle.tcp_replay.proofs.Words.{NotEnded, other, party_of, PartyState, PeerAccepts, PeerOpens, Phase, Receive, refl, ResendFirst, rst, side_of, State}
 use Rattle.tcp_replay.proofs.Words.{subst, sym, SynReceived, SynSent, Taken, TakenShut, Timer, true, world_after, world_after_all, WorldState, ℕ, ◌∙◌, ◌∷◌}
 use Rattle.tcp_replay.proofs.Words.{◌≡◌, ◌≤◌, ◌⊎◌}
-use Rattle.tcp_progress.proofs.Lemmas.{after-append, at-event, delivered, ends-plainly, IsKept, IsMoved, moves-event, side-pair, steady-back, steps-all}
+use Rattle.tcp_progress.proofs.Lemmas.{at-event, both-live, delivered, ends-plainly, GoOn, IsKept, IsMoved, moves-event, side-pair, steady-back, steps-all}
 use Rattle.tcp_progress.proofs.Lemmas.{steps-event, still-ack_alone, still-acknowledging, still-emission, still-resend_first, still-reading, still-reorder}
 use Rattle.tcp_progress.proofs.Lemmas.{still-retransmit}
 use Rattle.tcp_replay.proofs.{Lemmas.finds-damage, Lemmas.IsAckOnly, Lemmas.IsAfterSyn, Lemmas.judged, Lemmas.pair-swapped, one_end.Judgements.IsSyn, one_end.Judgements.IsTaken}
@@ -13,44 +13,31 @@ use Rattle.tcp_progress.proofs.Words.{A, AreOpen, B, IsCalm, IsLive, NoneDiscard
 use Rattle.tcp_progress.proofs.handshake.SynTaken.{answering, opening, unopened-listen}
 use Rattle.tcp_conn.specs.declared.phase.Timer.TheVariants as timers
 
--- ---- WHO ANSWERS is in LISTEN, or in SYN-RECEIVED, and goes on from the one to the other alone
+-- ---- WHO ANSWERS is in LISTEN, or in SYN-RECEIVED
 abbrev pub IsPassive : Phase → Type 0
 IsPassive phase = (phase ≡ Listen) ⊎ (phase ≡ SynReceived)
-
--- from one phase to another: who answers does so still, and who is in SYN-RECEIVED stays there
-pub record GoesOn (phase phase' : Phase) : Type 0 where
-  pub answers : IsPassive phase → IsPassive phase'
-  pub received : phase ≡ SynReceived → phase' ≡ SynReceived
-
--- in the same phase,
-pub on-same : (phase phase' : Phase) → phase' ≡ phase → GoesOn phase phase'
-on-same phase phase' same = rw same (record { answers = λ h. h; received = λ e. e })
-
--- one after another,
-on-then : (phase phase' phase'' : Phase) → GoesOn phase phase' → GoesOn phase' phase'' → GoesOn phase phase''
-on-then phase phase' phase'' one two = record { answers = λ h. two.answers (one.answers h); received = λ e. two.received (one.received e) }
 
 not-syn_sent : (phase : Phase) → IsPassive phase → is_syn_sent phase ≡ true → ⊥
 not-syn_sent phase answers e = grind (arith, answers, e)
 
--- by a segment without RST that acknowledges nothing, or by a reset
-abbrev ComesOn : State → State → Type 0
-ComesOn s t = GoesOn s.phase t.phase ⊎ (discards t.ending ≡ true)
+-- it is still after a segment without RST that acknowledges nothing; or it was a reset
+abbrev ComesOn : State → Type 0
+ComesOn s = IsPassive s.phase ⊎ (discards s.ending ≡ true)
 
 comes-on : (s : State) (src dst : List ℕ) (v : Content) → IsPassive s.phase → (has rst v.flags ≡ false → has ack v.flags ≡ true → ⊥)
-    → ComesOn s (after_judgement (judgement s src dst v) s src v)
+    → ComesOn (after_judgement (judgement s src dst v) s src v)
 unfolding after_peer_opens
 comes-on s src dst v answers none =
-    let P : Judgement → Type 0 = λ j. ComesOn s (after_judgement j s src v) in
-    let stays : ComesOn s s = inl (on-same s.phase s.phase refl) in
-    let opens : P PeerOpens = inl (record { answers = λ _. inr refl; received = λ _. refl }) in
-    let resets : GoesOn s.phase Closed ⊎ (true ≡ true) = inr refl in
+    let P : Judgement → Type 0 = λ j. ComesOn (after_judgement j s src v) in
+    let stays : ComesOn s = inl answers in
+    let opens : P PeerOpens = inl (inr refl) in
+    let resets : IsPassive Closed ⊎ (true ≡ true) = inr refl in
     let accepts : is_syn_sent s.phase ≡ true → IsSyn v → P PeerAccepts = λ sent _. absurd (not-syn_sent s.phase answers sent) in
     let taken : IsAfterSyn s → IsTaken s v → P Taken = λ _ is. absurd (none is.ack_only.plain is.ack_only.is_ack) in
     let shut : IsAfterSyn s → IsAckOnly v → P TakenShut = λ _ told. absurd (none told.plain told.is_ack) in
     judged s v P (assumption) src dst
 
--- ---- AN EVENT at who answers leaves its phase; one at the other brings it on
+-- ---- AN EVENT at who answers leaves its phase; after one at the other it answers still
 here-phase : (life : ℕ) (p q : PartyState) (event : EventContent) → IsCalm event → (effect_of life p q event).here.endpoint.phase ≡ p.endpoint.phase
 unfolding effect_of
 here-phase life p q (Receive side room) calm = (still-reading p room).phase
@@ -65,16 +52,15 @@ here-phase life p q (Damage from k place value) calm = refl
 here-phase life p q other calm = absurd calm
 
 there-on : (life : ℕ) (p q : PartyState) (event : EventContent) → IsCalm event → life ≤ max_life → (effect_of life p q event).refusal ≡ None → IsSoundPair p q
-    → p.endpoint.receiving.opened ≡ false → IsPassive q.endpoint.phase → ComesOn q.endpoint (effect_of life p q event).there.endpoint
+    → p.endpoint.receiving.opened ≡ false → IsPassive q.endpoint.phase → ComesOn (effect_of life p q event).there.endpoint
 unfolding effect_of
 there-on life p q (Deliver from k) calm most e pair unopened answers =
     let d = delivered p q life k most e (pair-swapped p q pair) in
     rw d.same (comes-on q.endpoint p.endpoint.config.addr.0 q.endpoint.config.addr.0 d.content answers
     (λ plain told. false≢true (sym unopened ∙ ((d.comes.comes.truthful plain).truth.has_ack told).opened)))
 there-on life p q (Damage from k place value) calm most e pair unopened answers =
-    subst (λ (x : PartyState). ComesOn q.endpoint x.endpoint) (sym (finds-damage q p life k place value calm e (pair-swapped _ _ pair)).same)
-    (inl (on-same q.endpoint.phase q.endpoint.phase refl))
-there-on life p q other calm most e pair unopened answers = inl (on-same q.endpoint.phase q.endpoint.phase refl)
+    subst (λ (x : PartyState). ComesOn x.endpoint) (sym (finds-damage q p life k place value calm e (pair-swapped _ _ pair)).same) (inl answers)
+there-on life p q other calm most e pair unopened answers = inl answers
 
 -- no end was reset or aborted, on either side
 pub side-up : (w : WorldState) (side : Side) → NoneDiscarded w → has_discarded (party_of w side) ≡ false
@@ -124,11 +110,11 @@ opened-both w side h live (inl listens) =
     absurd (omega (arith, pair.back.sent.taken live.opened, unused))
 
 -- ONE EVENT
-abbrev pub ShakesOn : WorldState → WorldState → Side → Type 0
-ShakesOn w v side = AreOpen v ⊎ (IsShaking v side × GoesOn (party_of w (other side)).endpoint.phase (party_of v (other side)).endpoint.phase)
+abbrev ShakesOn : WorldState → Side → Type 0
+ShakesOn v side = AreOpen v ⊎ IsShaking v side
 
 shakes-on : (w v : WorldState) (side : Side) → IsShaking w side → IsKept v → IsMoved (party_of w side) (party_of v side)
-    → ComesOn (party_of w (other side)).endpoint (party_of v (other side)).endpoint → NoneDiscarded v → ShakesOn w v side
+    → ComesOn (party_of v (other side)).endpoint → NoneDiscarded v → ShakesOn v side
 shakes-on w v side h kept moved on up =
     let p = party_of w side in
     let p' = party_of v side in
@@ -137,91 +123,45 @@ shakes-on w v side h kept moved on up =
     let goes = caller-goes p p' h.calls was.0 moved (side-up v side up) in
     elim on [
       | inr gone ↦ absurd (false≢true (sym (side-up v (other side) up) ∙ gone))
-      | inl on' ↦
-          let answers = on'.answers h.answers in
+      | inl answers ↦
           elim (cases_Bool s.receiving.opened) [
             | inl opened ↦ inl (opened-both v side kept (record { opened = opened; goes_on = goes }) answers)
             | inr unopened ↦
                 let fits = (side-pair v side kept).pair.there.alone.progress in
                 let calls = caller-phase s.phase s.ending s.sending.snd_una s.sending.snd_nxt s.receiving.opened s.receiving.finished unopened goes
                 (omega (arith, moved.grows.snd_nxt, was.2)) fits in
-                inr (record { kept = kept; calls = calls; answers = answers }, on')
+                inr (record { kept = kept; calls = calls; answers = answers })
           ]
     ]
 
 -- whatever is calm, refused or not
-pub shakes-event : (w : WorldState) (event : EventContent) (side : Side) → IsCalm event → IsShaking w side → NoneDiscarded (world_after w event)
-    → ShakesOn w (world_after w event) side
+shakes-event : (w : WorldState) (event : EventContent) (side : Side) → IsCalm event → IsShaking w side → NoneDiscarded (world_after w event)
+    → ShakesOn (world_after w event) side
 shakes-event w event side calm h up =
     let s = side_of event in
     let On : PartyState → PartyState → PartyState → PartyState → Type 0 = λ p q p' q'.
-    p.endpoint.receiving.opened ≡ false → IsPassive q.endpoint.phase → ComesOn q.endpoint q'.endpoint in
-    let on = at-event On w event side (λ _ _. inl (on-same _ _ refl))
+    p.endpoint.receiving.opened ≡ false → IsPassive q.endpoint.phase → ComesOn q'.endpoint in
+    let on = at-event On w event side (λ _ answers. inl answers)
     (λ e _. there-on w.life (party_of w s) (party_of w (other s)) event calm h.kept.sound.life e (side-pair w s h.kept).pair)
-    (λ _ _ _. inl (on-same _ _ (here-phase w.life (party_of w s) (party_of w (other s)) event calm))) in
+    (λ _ _ answers. inl (subst IsPassive (sym (here-phase w.life (party_of w s) (party_of w (other s)) event calm)) answers)) in
     shakes-on w (world_after w event) side h (steps-event w event calm h.kept).kept (moves-event w event side calm h.kept) (on (caller w side h).1 h.answers) up
 
--- ---- BOTH ARE OPEN somewhere among some events
-abbrev pub Opens : WorldState → List EventContent → Type 0
-Opens w [] = AreOpen w
-Opens w (event ∷ events) = AreOpen w ⊎ Opens (world_after w event) events
+-- ---- BOTH GO ON, or one calls and the other answers
+abbrev pub IsOn : Side → WorldState → Type 0
+IsOn caller w = GoOn w.a w.b ⊎ IsShaking w caller
 
--- at once
-pub opens-here : (w : WorldState) (events : List EventContent) → AreOpen w → Opens w events
-opens-here w [] both = both
-opens-here w (event ∷ events) both = inl both
-
--- among more of them,
-pub opens-append : (w : WorldState) (xs ys : List EventContent) → Opens w xs → Opens w (xs ++ ys)
-opens-append w [] ys both = opens-here w ys both
-opens-append w (x ∷ xs) ys (inl both) = inl both
-opens-append w (x ∷ xs) ys (inr more) = inr (opens-append (world_after w x) xs ys more)
-
--- or after others
-pub opens-after : (w : WorldState) (xs ys : List EventContent) → Opens (world_after_all w xs) ys → Opens w (xs ++ ys)
-unfolding world_after_all
-opens-after w [] ys opens = opens
-opens-after w (x ∷ xs) ys opens = inr (opens-after (world_after w x) xs ys opens)
-
--- or something holds in the end
-abbrev pub OpensOr : WorldState → List EventContent → (WorldState → Type 0) → Type 0
-OpensOr w events Holds = Opens w events ⊎ Holds (world_after_all w events)
-
--- they are still opening, from w on
-abbrev pub StillShakes : WorldState → Side → WorldState → Type 0
-StillShakes w side v = IsShaking v side × GoesOn (party_of w (other side)).endpoint.phase (party_of v (other side)).endpoint.phase
-
--- where no end was reset or aborted in the end, none was before
-pub up-before : (w : WorldState) (events : List EventContent) → AllByRecursion IsCalm events → IsKept w → NoneDiscarded (world_after_all w events) → NoneDiscarded w
-up-before w events calm h up = (steps-all w events calm h).stays up
+pub on-event : (w : WorldState) (event : EventContent) (caller : Side) → IsCalm event → IsKept w → IsOn caller w → NoneDiscarded (world_after w event)
+    → IsOn caller (world_after w event)
+on-event w event caller calm h (inl on) up = inl ((steps-event w event calm h).on on up)
+on-event w event caller calm h (inr shakes) up =
+    elim (shakes-event w event caller calm shakes up) [ inl both ↦ inl (both-live _ _ both.a both.b) | inr still ↦ inr still ]
 
 -- over so many events
-pub shakes-all : (w : WorldState) (events : List EventContent) (side : Side) → AllByRecursion IsCalm events → IsShaking w side
-    → NoneDiscarded (world_after_all w events) → OpensOr w events (StillShakes w side)
+pub on-all : (w : WorldState) (events : List EventContent) (caller : Side) → AllByRecursion IsCalm events → IsKept w → IsOn caller w
+    → NoneDiscarded (world_after_all w events) → IsOn caller (world_after_all w events)
 unfolding world_after_all
-shakes-all w [] side calm h up = inr (h, on-same _ _ refl)
-shakes-all w (event ∷ events) side calm h up =
+on-all w [] caller calm h on up = on
+on-all w (event ∷ events) caller calm h on up =
     let v = world_after w event in
-    let kept = (steps-event w event calm.0 h.kept).kept in
-    elim (shakes-event w event side calm.0 h (up-before v events calm.1 kept up)) [
-      | inl both ↦ inl (inr (opens-here v events both))
-      | inr on ↦
-          elim (shakes-all v events side calm.1 on.0 up) [
-            | inl opens ↦ inl (inr opens)
-            | inr on' ↦ inr (on'.0, on-then _ _ _ on.1 on'.1)
-          ]
-    ]
-
--- what comes of these events, after those
-pub shake-then : (w : WorldState) (xs ys : List EventContent) (side : Side) (Holds : WorldState → Type 0) → AllByRecursion IsCalm xs → AllByRecursion IsCalm ys
-    → IsShaking w side → NoneDiscarded (world_after_all w (xs ++ ys))
-    → (NoneDiscarded (world_after_all (world_after_all w xs) ys) → IsShaking (world_after_all w xs) side
-    → GoesOn (party_of w (other side)).endpoint.phase (party_of (world_after_all w xs) (other side)).endpoint.phase → OpensOr (world_after_all w xs) ys Holds)
-    → OpensOr w (xs ++ ys) Holds
-shake-then w xs ys side Holds one two h up next =
-    let same = after-append w xs ys in
-    let up' = subst NoneDiscarded same up in
-    elim (shakes-all w xs side one h (up-before (world_after_all w xs) ys two (steps-all w xs one h.kept).kept up')) [
-      | inl opens ↦ inl (opens-append w xs ys opens)
-      | inr on ↦ elim (next up' on.0 on.1) [ inl opens ↦ inl (opens-after w xs ys opens) | inr is ↦ inr (subst Holds (sym same) is) ]
-    ]
+    let kept = (steps-event w event calm.0 h).kept in
+    on-all v events caller calm.1 kept (on-event w event caller calm.0 h on ((steps-all v events calm.1 kept).stays up)) up

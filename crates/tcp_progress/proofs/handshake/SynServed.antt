@@ -1,17 +1,16 @@
--- WHO IS SERVED IN THE HANDSHAKE has its SYN due, which goes out; and when that comes, LISTEN becomes SYN-RECEIVED, or both are open.
-use Rattle.tcp_replay.proofs.Words.{◌++◌, ◌<◌, [], AllByRecursion, ap, arith, Bool, Config, Deliver, due_of, Emit, EventContent, false, inl, inr}
-use Rattle.tcp_replay.proofs.Words.{is_handshake, length, List, number, other, party_after_emission, party_after_timer, party_of, PartyState}
-use Rattle.tcp_replay.proofs.Words.{rcv_position_of, refl, Retransmit, Some, State, subst, suc, sym, Syn, SynReceived, Timer, true, world_after}
-use Rattle.tcp_replay.proofs.Words.{world_after_all, WorldState, zero, ℕ, ◌∙◌, ◌∷◌, ◌≡◌, ◌≤◌, ◌⊎◌}
-use Rattle.tcp_progress.proofs.Words.{A, after_emissions, AllCome, AreOpen, B, Delivers, emissions, IsCalm, IsIdle, IsLive, NoneDiscarded, served, Side}
-use Rattle.tcp_progress.proofs.Lemmas.{calm-emissions, calm-served, deliver-at, deliver-to, emit-at, emit-endpoint, emit-party, Grows, IsKept, IsStill, IsSyn}
-use Rattle.tcp_progress.proofs.Lemmas.{kept-steady, side-pair, steady-back, steps-all, steps-event, still-emission, still-next, still-retransmit, syn-emitted}
-use Rattle.tcp_progress.proofs.Lemmas.{timer-at, timer-endpoint, way-later}
-use Rattle.tcp_progress.proofs.handshake.KeepsOpening.{answerer, both-open, caller, GoesOn, IsPassive, IsShaking, opens-here, OpensOr, shake-then}
-use Rattle.tcp_progress.proofs.handshake.KeepsOpening.{shakes-all, shakes-event, StillShakes, up-before}
+-- WHO IS SERVED IN THE HANDSHAKE has its SYN due, which goes out; and when that comes, the other has it.
+use Rattle.tcp_replay.proofs.Words.{◌++◌, [], AllByRecursion, ap, arith, Bool, cases_Bool, Config, Deliver, due_of, Emit, EventContent, false, false≢true}
+use Rattle.tcp_replay.proofs.Words.{inl, inr, is_handshake, length, List, Listen, number, other, party_after_emission, party_of, PartyState, rcv_position_of}
+use Rattle.tcp_replay.proofs.Words.{refl, Retransmit, Some, State, subst, suc, sym, Syn, SynReceived, SynSent, Timer, true, world_after, world_after_all}
+use Rattle.tcp_replay.proofs.Words.{WorldState, zero, ℕ, ◌∙◌, ◌∷◌, ◌≡◌, ◌≤◌}
+use Rattle.tcp_progress.proofs.Words.{A, after_emissions, AllCome, B, Delivers, emissions, IsCalm, IsIdle, IsLive, IsSteadyPair, NoneDiscarded}
+use Rattle.tcp_progress.proofs.Words.{served, Side}
+use Rattle.tcp_progress.proofs.Lemmas.{calm-emissions, calm-append, deliver-at, emit-at, emit-endpoint, Grows, IsKept, IsStill, IsSyn, kept-steady, side-on}
+use Rattle.tcp_progress.proofs.Lemmas.{side-pair, steady-back, steps-all, steps-event, syn-emitted, timer-endpoint, way-later}
+use Rattle.tcp_progress.proofs.handshake.KeepsOpening.{IsOn, IsPassive, on-event}
 use Rattle.tcp_replay.proofs.Lemmas.{none-some}
-use Rattle.tcp_progress.proofs.{handshake.SynTaken.answering, handshake.SynTaken.answering-first, handshake.SynTaken.listen-takes, handshake.SynTaken.syn_sent-takes, handshake.SynTaken.unopened-first}
-use Rattle.tcp_progress.proofs.{turn.Asking.past-emissions, turn.Asking.syn-after, turn.Serving.comes-due, turn.Serving.idle-stays}
+use Rattle.tcp_progress.proofs.handshake.SynTaken.{answering, answering-first, listen-takes, opening, syn_sent-takes, unopened-first, unopened-listen}
+use Rattle.tcp_progress.proofs.{turn.Asking.syn-after, turn.Serving.comes-due, turn.Serving.idle-stays}
 
 -- ---- A SYN that went out is there later
 syn-later : (p q p' q' : PartyState) (k : ℕ) (told : Bool) → Grows p p' → Grows q q' → IsSyn p q k told → IsSyn p' q' k told
@@ -28,190 +27,160 @@ syn-later p q p' q' k told gp gq f = record {
   dst = f.dst ∙ ap (λ (c : Config). c.port) (sym gq.config);
 }
 
--- ---- IN THE HANDSHAKE an end has taken nothing but a SYN
-record Shakes (w : WorldState) (side : Side) (told : Bool) : Type 0 where
-  kept : IsKept w
-  shakes : is_handshake (party_of w side).endpoint.phase ≡ true
-  first : rcv_position_of (party_of w side) ≡ 1
-  opened : (party_of w side).endpoint.receiving.opened ≡ told
+-- ---- WHOSE SYN IS WANTED: who calls, by who listens; or who answers, by who calls, and its SYN acknowledges the other's
+abbrev pub Speaks : Bool → PartyState → PartyState → Type 0
+Speaks false p q = (p.endpoint.phase ≡ SynSent) × (q.endpoint.phase ≡ Listen)
+Speaks true p q = (p.endpoint.phase ≡ SynReceived) × (q.endpoint.phase ≡ SynSent)
 
--- what is known of p is known of a party that is the same but for what is pending
-shakes-still : (w : WorldState) (side : Side) (told : Bool) (p p' : PartyState) → IsKept w → party_of w side ≡ p' → IsStill p p'
-    → is_handshake p.endpoint.phase ≡ true → rcv_position_of p ≡ 1 → p.endpoint.receiving.opened ≡ told → Shakes w side told
-shakes-still w side told p p' kept same still shakes first opened = record {
-  kept = kept;
-  shakes = ap (λ (x : PartyState). is_handshake x.endpoint.phase) same ∙ ap is_handshake still.phase ∙ shakes;
-  first = ap rcv_position_of same ∙ still-next p p' still ∙ first;
-  opened = ap (λ (x : PartyState). x.endpoint.receiving.opened) same ∙ still.opened ∙ opened;
-}
+-- where one calls, whether a side answers
+abbrev pub answers_to : Side → Side → Bool
+answers_to A A = false
+answers_to A B = true
+answers_to B A = true
+answers_to B B = false
 
--- ITS SYN IS OUT over some events, and comes later where all comes
-pub record IsSynOut (w : WorldState) (events : List EventContent) (side : Side) (told : Bool) : Type 0 where
-  pub place : ℕ
-  pub syn : IsSyn (party_of (world_after_all w events) side) (party_of (world_after_all w events) (other side)) place told
-  pub comes : (later : List EventContent) → AllCome w events later → Delivers side place later
+calls-speaks : (p q : PartyState) → IsSteadyPair p q → p.endpoint.phase ≡ SynSent → IsPassive q.endpoint.phase → q.endpoint.receiving.opened ≡ false
+    → Speaks false p q
+calls-speaks p q h calls (inl listens) unopened = (calls, listens)
+calls-speaks p q h calls (inr received) unopened = absurd (false≢true (sym unopened ∙ (answering q p (steady-back q p h) received).1.is_opened))
 
--- it is due after so many emissions: then it goes out before nothing is due, or in so many and one more
-syn-out : (n count : ℕ) (w : WorldState) (side : Side) (told : Bool) → Shakes w side told → due_of (after_emissions count (party_of w side).endpoint) ≡ Some Syn
-    → IsIdle (world_after_all w (emissions side n)) side ⊎ (count < n) → IsSynOut w (emissions side n) side told
-unfolding world_after_all
-syn-out zero count w side told h due (inr most) = absurd (omega (arith, most))
-syn-out zero count w side told h due (inl idle) =
-    absurd (none-some Syn (sym idle ∙ ap due_of (sym (idle-stays count (party_of w side).endpoint idle)) ∙ due))
-syn-out (suc n) zero w side told h due enough =
+answers-speaks : (p q : PartyState) → IsSteadyPair p q → q.endpoint.phase ≡ SynSent → IsPassive p.endpoint.phase → 1 ≤ p.endpoint.sending.snd_nxt
+    → Speaks true p q
+answers-speaks p q h calls (inl listens) sent = absurd (omega (arith, sent, (unopened-listen p q h listens).1.snd_nxt_is))
+answers-speaks p q h calls (inr received) sent = (received, calls)
+
+-- who has sent its SYN to who has none
+speaks : (w : WorldState) (caller side : Side) → IsOn caller w → (party_of w (other side)).endpoint.receiving.opened ≡ false
+    → 1 ≤ (party_of w side).endpoint.sending.snd_nxt → Speaks (answers_to caller side) (party_of w side) (party_of w (other side))
+speaks w caller side (inl on) unopened sent = absurd (false≢true (sym unopened ∙ (side-on w side on).back.opened))
+speaks w A A (inr h) unopened sent = calls-speaks w.a w.b (side-pair w A h.kept) h.calls h.answers unopened
+speaks w B B (inr h) unopened sent = calls-speaks w.b w.a (side-pair w B h.kept) h.calls h.answers unopened
+speaks w A B (inr h) unopened sent = answers-speaks w.b w.a (side-pair w B h.kept) h.calls h.answers sent
+speaks w B A (inr h) unopened sent = answers-speaks w.a w.b (side-pair w A h.kept) h.calls h.answers sent
+
+-- it has taken nothing but a SYN
+pub speaker-is : (told : Bool) (p q : PartyState) → IsSteadyPair p q → Speaks told p q
+    → (is_handshake p.endpoint.phase ≡ true) × (rcv_position_of p ≡ 1) × (p.endpoint.receiving.opened ≡ told)
+speaker-is false p q h is =
+    let calls = opening p q h is.0 in
+    (ap is_handshake is.0, unopened-first p q h calls.1.not_opened, calls.1.not_opened)
+speaker-is true p q h is = (ap is_handshake is.0, answering-first p q h is.0 is.1, (answering p q h is.0).1.is_opened)
+
+-- but for what is pending it stays as it is
+pub speaks-still : (told : Bool) (p p' q : PartyState) → IsStill p p' → Speaks told p q → Speaks told p' q
+speaks-still false p p' q still is = (still.phase ∙ is.0, is.1)
+speaks-still true p p' q still is = (still.phase ∙ is.0, is.1)
+
+-- ---- ITS SYN, where it is due, goes out
+pub syn-goes : (told : Bool) (w : WorldState) (side : Side) → IsKept w → Speaks told (party_of w side) (party_of w (other side))
+    → due_of (party_of w side).endpoint ≡ Some Syn
+    → IsSyn (party_of (world_after w (Emit side)) side) (party_of (world_after w (Emit side)) (other side)) (length (party_of w side).sent) told
+syn-goes told w side h speaks due =
     let p = party_of w side in
     let q = party_of w (other side) in
-    let k = length p.sent in
-    let v = world_after w (Emit side) in
-    let out : IsSyn (party_after_emission p) q k told =
-    subst (IsSyn (party_after_emission p) q k) h.opened (syn-emitted p q (side-pair w side h.kept) h.shakes h.first due) in
-    let at = emit-at (λ x y. IsSyn x y k told) w side out in
-    let steps = steps-all v (emissions side n) (calm-emissions side n) (steps-event w (Emit side) tt h.kept).kept in
-    record {
-      place = k;
-      syn = syn-later _ _ _ _ k told (steps.grows side) (steps.grows (other side)) at;
-      comes = λ later come. past-emissions side side n k later (comes-due w side (emissions side n ++ later) Syn due refl come.0);
-    }
-syn-out (suc n) (suc count) w side told h due enough =
-    let p = party_of w side in
-    let v = world_after w (Emit side) in
-    let kept = (steps-event w (Emit side) tt h.kept).kept in
-    let h' = shakes-still v side told p (party_after_emission p) kept (emit-party w side) (still-emission p) h.shakes h.first h.opened in
-    let due' = ap (λ (t : State). due_of (after_emissions count t)) (emit-endpoint w side) ∙ due in
-    let rest = syn-out n count v side told h' due' (elim enough [ inl idle ↦ inl idle | inr most ↦ inr (omega (arith, most)) ]) in
-    record { place = rest.place; syn = rest.syn; comes = λ later come. rest.comes later come.1 }
+    let pair = side-pair w side h in
+    let is = speaker-is told p q pair speaks in
+    emit-at (λ x y. IsSyn x y (length p.sent) told) w side (subst (IsSyn (party_after_emission p) q (length p.sent)) is.2 (syn-emitted p q pair is.0 is.1 due))
 
--- WHO IS SERVED has its SYN go out: until nothing is due, or by two emissions
-syn-served : (n : ℕ) (w : WorldState) (side : Side) (told : Bool) → Shakes w side told → IsIdle (world_after_all w (served side n)) side ⊎ (2 ≤ n)
-    → IsSynOut w (served side n) side told
-unfolding world_after_all
-syn-served n w side told h enough =
-    let p = party_of w side in
-    let v = world_after w (Timer side Retransmit) in
-    let kept = (steps-event w (Timer side Retransmit) tt h.kept).kept in
-    let same = timer-at (λ x _. x ≡ party_after_timer p Retransmit) w side refl in
-    let h' = shakes-still v side told p (party_after_timer p Retransmit) kept same (still-retransmit p) h.shakes h.first h.opened in
-    let out = syn-after p.endpoint h.shakes in
-    let due = ap (λ (t : State). due_of (after_emissions out.0 t)) (timer-endpoint w side) ∙ out.2 in
-    let rest = syn-out n out.0 v side told h' due (elim enough [ inl idle ↦ inl idle | inr most ↦ inr (omega (arith, most, out.1)) ]) in
-    record { place = rest.place; syn = rest.syn; comes = λ later come. rest.comes later come.1 }
+-- HEARD: LISTEN has become SYN-RECEIVED, or who called is open
+abbrev pub Heard : Bool → PartyState → Type 0
+Heard false q = q.endpoint.phase ≡ SynReceived
+Heard true q = IsLive q
 
--- ---- TWO STAGES: first who calls speaks, whose SYN acknowledges nothing; then who answers, whose SYN acknowledges the other's
-abbrev pub speaker : Bool → Side → Side
-speaker false side = side
-speaker true side = other side
+-- so it is when the SYN comes, which leaves its sender as it was
+pub syn-heard : (told : Bool) (w : WorldState) (side : Side) (k : ℕ) → IsKept w → Speaks told (party_of w side) (party_of w (other side))
+    → IsSyn (party_of w side) (party_of w (other side)) k told → let v = world_after w (Deliver side k) in
+    (party_of v side ≡ party_of w side) × Heard told (party_of v (other side))
+syn-heard false w side k h is f =
+    let takes = listen-takes (party_of w side) (party_of w (other side)) w.life k (kept-steady w h).least (side-pair w side h) is.1 f in
+    deliver-at (λ x y. (x ≡ party_of w side) × (y.endpoint.phase ≡ SynReceived)) w side k takes.0 (refl, takes.1)
+syn-heard true w side k h is f =
+    let takes = syn_sent-takes (party_of w side) (party_of w (other side)) w.life k (kept-steady w h).least (side-pair w side h) is.1 f in
+    deliver-at (λ x y. (x ≡ party_of w side) × IsLive y) w side k takes.0 (refl, takes.1)
 
--- the SYN of who calls has been taken
-abbrev pub IsTaken : Side → WorldState → Type 0
-IsTaken side w = IsShaking w side × ((party_of w (other side)).endpoint.phase ≡ SynReceived)
+-- who has heard has the SYN
+heard-opened : (told : Bool) (p q : PartyState) → IsSteadyPair p q → Heard told q → q.endpoint.receiving.opened ≡ true
+heard-opened false p q h received = (answering q p (steady-back q p h) received).1.is_opened
+heard-opened true p q h live = live.opened
 
--- what is known before a stage
-abbrev pub Before : Bool → Side → WorldState → Type 0
-Before false side w = IsShaking w side
-Before true side w = IsTaken side w
+-- ---- ONE SIDE'S SYN IS TAKEN, in the end
+abbrev pub IsHeard : WorldState → Side → Type 0
+IsHeard w side = (party_of w (other side)).endpoint.receiving.opened ≡ true
 
--- and after it, if the two aren't open
-abbrev pub After : Bool → Side → WorldState → Type 0
-After false side w = IsTaken side w
-After true side w = ⊥
-
--- they are opening the connection
-pub before-shakes : (told : Bool) (side : Side) (w : WorldState) → Before told side w → IsShaking w side
-before-shakes false side w h = h
-before-shakes true side w h = h.0
-
--- and what is known stays so
-pub before-stays : (told : Bool) (side : Side) (w v : WorldState) → Before told side w → StillShakes w side v → Before told side v
-before-stays false side w v h on = on.0
-before-stays true side w v h on = (on.0, on.1.received h.1)
-
-after-stays : (told : Bool) (w : WorldState) (events : List EventContent) (side : Side) → AllByRecursion IsCalm events → After told side w
-    → NoneDiscarded (world_after_all w events) → OpensOr w events (After told side)
-after-stays true w events side calm h up = absurd h
-after-stays false w events side calm h up =
-    elim (shakes-all w events side calm h.0 up) [ inl opens ↦ inl opens | inr on ↦ inr (on.0, on.1.received h.1) ]
-
--- who speaks has its SYN go out
-pub speaks : (told : Bool) (n : ℕ) (w : WorldState) (side : Side) → Before told side w
-    → IsIdle (world_after_all w (served (speaker told side) n)) (speaker told side) ⊎ (2 ≤ n)
-    → IsSynOut w (served (speaker told side) n) (speaker told side) told
-speaks false n w side h enough =
-    let was = caller w side h in
-    let first = unopened-first (party_of w side) (party_of w (other side)) (side-pair w side h.kept) was.1 in
-    syn-served n w side false (record { kept = h.kept; shakes = ap is_handshake h.calls; first = first; opened = was.1 }) enough
-speaks true n w side h enough =
-    let p = party_of w (other side) in
-    let q = party_of w side in
-    let pair = steady-back p q (side-pair w side h.0.kept) in
-    let first = answering-first p q pair h.1 h.0.calls in
-    let opened = (answering p q pair h.1).1.is_opened in
-    syn-served n w (other side) true (record { kept = h.0.kept; shakes = ap is_handshake h.1; first = first; opened = opened }) enough
-
--- ---- WHEN IT COMES
--- in LISTEN
-call-now : (w : WorldState) (side : Side) (k : ℕ) → IsShaking w side → IsPassive (party_of w (other side)).endpoint.phase
-    → IsSyn (party_of w side) (party_of w (other side)) k false
-    → GoesOn (party_of w (other side)).endpoint.phase (party_of (world_after w (Deliver side k)) (other side)).endpoint.phase
-    → (party_of (world_after w (Deliver side k)) (other side)).endpoint.phase ≡ SynReceived
-call-now w side k h (inr received) f on = on.received received
-call-now w side k h (inl listens) f on =
-    let taken = listen-takes (party_of w side) (party_of w (other side)) w.life k (kept-steady w h.kept).least (side-pair w side h.kept) listens f in
-    deliver-at (λ _ y. y.endpoint.phase ≡ SynReceived) w side k taken.0 taken.1
-
--- in SYN-SENT
-pub answer-now : (w : WorldState) (side : Side) (k : ℕ) → IsShaking w side → (party_of w (other side)).endpoint.phase ≡ SynReceived
-    → IsSyn (party_of w (other side)) (party_of w side) k true → AreOpen (world_after w (Deliver (other side) k))
-answer-now w side k h received f =
-    let p = party_of w side in
-    let q = party_of w (other side) in
-    let taken = syn_sent-takes q p w.life k (kept-steady w h.kept).least (steady-back q p (side-pair w side h.kept)) h.calls f in
-    let both = deliver-to (λ x y. IsLive x × IsLive y) w side k taken.0 (answerer w side h.kept received, taken.1) in
-    both-open (world_after w (Deliver (other side) k)) side both.1 both.0
-
-pub twice-syn : (u : WorldState) (side : Side) (k : ℕ) → IsSyn (party_of u (other side)) (party_of u (other (other side))) k true
-    → IsSyn (party_of u (other side)) (party_of u side) k true
-twice-syn u A k f = f
-twice-syn u B k f = f
-
--- in either stage
-hears : (told : Bool) (w : WorldState) (side : Side) (k : ℕ) → Before told side w
-    → IsSyn (party_of w (speaker told side)) (party_of w (other (speaker told side))) k told
-    → let v = world_after w (Deliver (speaker told side) k) in AreOpen v ⊎ (StillShakes w side v → After told side v)
-hears false w side k h f = inr (λ on. (on.0, call-now w side k h h.answers f on.1))
-hears true w side k h f = inl (answer-now w side k h.0 h.1 (twice-syn w side k f))
-
--- it comes among these events
-pub syn-comes : (told : Bool) (w : WorldState) (side : Side) (k : ℕ) (events : List EventContent) → AllByRecursion IsCalm events → Before told side w
-    → IsSyn (party_of w (speaker told side)) (party_of w (other (speaker told side))) k told → Delivers (speaker told side) k events
-    → NoneDiscarded (world_after_all w events) → OpensOr w events (After told side)
-unfolding world_after_all
-syn-comes told w side k [] calm h f comes up = absurd comes
-syn-comes told w side k (event ∷ events) calm h f comes up =
-    let v = world_after w event in
-    let shakes = before-shakes told side w h in
-    let steps = steps-event w event calm.0 shakes.kept in
-    elim (shakes-event w event side calm.0 shakes (up-before v events calm.1 steps.kept up)) [
-      | inl both ↦ inl (inr (opens-here v events both))
-      | inr on ↦
-          let rest : OpensOr v events (After told side) = elim comes [
-            | inr more ↦
-                let f' = syn-later _ _ _ _ k told (steps.grows (speaker told side)) (steps.grows (other (speaker told side))) f in
-                syn-comes told v side k events calm.1 (before-stays told side w v h on) f' more up
-            | inl now ↦
-                let heard = subst (λ (e : EventContent). AreOpen (world_after w e) ⊎ (StillShakes w side (world_after w e) → After told side (world_after w e)))
-                (sym now) (hears told w side k h f) in
-                elim heard [ inl both ↦ inl (opens-here v events both) | inr after ↦ after-stays told v events side calm.1 (after on) up ]
-          ] in
-          elim rest [ inl opens ↦ inl (inr opens) | inr is ↦ inr is ]
+-- it is, or a side speaks
+heard-or : (w : WorldState) (caller side : Side) → IsOn caller w → 1 ≤ (party_of w side).endpoint.sending.snd_nxt → (P : Type 0) → (IsHeard w side → P)
+    → (Speaks (answers_to caller side) (party_of w side) (party_of w (other side)) → P) → P
+heard-or w caller side on sent P heard spoken =
+    elim (cases_Bool (party_of w (other side)).endpoint.receiving.opened) [
+      | inl had ↦ heard had
+      | inr unopened ↦ spoken (speaks w caller side on unopened sent)
     ]
 
--- ---- WHO SPEAKS IS SERVED, and what it sends comes
-pub serve-stage : (told : Bool) (n : ℕ) (w : WorldState) (side : Side) (rest : List EventContent) → AllByRecursion IsCalm rest
-    → IsIdle (world_after_all w (served (speaker told side) n)) (speaker told side) → AllCome w (served (speaker told side) n) rest → Before told side w
-    → NoneDiscarded (world_after_all w (served (speaker told side) n ++ rest)) → OpensOr w (served (speaker told side) n ++ rest) (After told side)
-serve-stage told n w side rest calm idle come h up =
-    let events = served (speaker told side) n in
-    let u = world_after_all w events in
-    let out = speaks told n w side h (inl idle) in
-    shake-then w events rest side (After told side) (calm-served (speaker told side) n) calm (before-shakes told side w h) up
-    (λ up' h' on. syn-comes told u side out.place rest calm (before-stays told side w u h (h', on)) out.syn (out.comes rest come) up')
+-- and stays so
+heard-all : (w : WorldState) (events : List EventContent) (side : Side) → AllByRecursion IsCalm events → IsKept w → IsHeard w side
+    → IsHeard (world_after_all w events) side
+heard-all w events side calm h heard = ((steps-all w events calm h).grows (other side)).opened heard
+
+-- where it comes among some events
+syn-comes : (w : WorldState) (caller side : Side) (k : ℕ) (events : List EventContent) → AllByRecursion IsCalm events → IsKept w → IsOn caller w
+    → 1 ≤ (party_of w side).endpoint.sending.snd_nxt → IsSyn (party_of w side) (party_of w (other side)) k (answers_to caller side)
+    → Delivers side k events → NoneDiscarded (world_after_all w events) → IsHeard (world_after_all w events) side
+unfolding world_after_all
+syn-comes w caller side k [] calm h on sent f comes up = absurd comes
+syn-comes w caller side k (event ∷ events) calm h on sent f comes up =
+    let told = answers_to caller side in
+    let v = world_after w event in
+    let steps = steps-event w event calm.0 h in
+    heard-or w caller side on sent _ (heard-all w (event ∷ events) side calm h) (λ is. elim comes [
+      | inl now ↦
+          let v' = world_after w (Deliver side k) in
+          let pair = side-pair v' side (steps-event w (Deliver side k) tt h).kept in
+          let heard = heard-opened told (party_of v' side) (party_of v' (other side)) pair (syn-heard told w side k h is f).1 in
+          heard-all v events side calm.1 steps.kept (subst (λ (e : EventContent). IsHeard (world_after w e) side) (sym now) heard)
+      | inr later ↦
+          let on' = on-event w event caller calm.0 h on ((steps-all v events calm.1 steps.kept).stays up) in
+          let f' = syn-later _ _ _ _ k told (steps.grows side) (steps.grows (other side)) f in
+          syn-comes v caller side k events calm.1 steps.kept on' (omega (arith, sent, (steps.grows side).snd_nxt)) f' later up
+    ])
+
+-- where it is due after so many emissions, and these go on until nothing is
+emissions-heard : (n count : ℕ) (w : WorldState) (caller side : Side) (later : List EventContent) → AllByRecursion IsCalm later → IsKept w → IsOn caller w
+    → 1 ≤ (party_of w side).endpoint.sending.snd_nxt → due_of (after_emissions count (party_of w side).endpoint) ≡ Some Syn
+    → IsIdle (world_after_all w (emissions side n)) side → AllCome w (emissions side n) later → NoneDiscarded (world_after_all w (emissions side n ++ later))
+    → IsHeard (world_after_all w (emissions side n ++ later)) side
+unfolding world_after_all
+emissions-heard zero count w caller side later calm h on sent due idle come up =
+    absurd (none-some Syn (sym idle ∙ ap due_of (sym (idle-stays count (party_of w side).endpoint idle)) ∙ due))
+emissions-heard (suc n) zero w caller side later calm h on sent due idle come up =
+    let v = world_after w (Emit side) in
+    let events = emissions side n ++ later in
+    let calm' = calm-append (emissions side n) later (calm-emissions side n) calm in
+    let steps = steps-event w (Emit side) tt h in
+    let on' = on-event w (Emit side) caller tt h on ((steps-all v events calm' steps.kept).stays up) in
+    heard-or w caller side on sent _ (heard-all w (Emit side ∷ events) side (tt, calm') h) (λ is.
+    syn-comes v caller side (length (party_of w side).sent) events calm' steps.kept on' (omega (arith, sent, (steps.grows side).snd_nxt))
+    (syn-goes (answers_to caller side) w side h is due) (comes-due w side events Syn due refl come.0) up)
+emissions-heard (suc n) (suc count) w caller side later calm h on sent due idle come up =
+    let v = world_after w (Emit side) in
+    let calm' = calm-append (emissions side n) later (calm-emissions side n) calm in
+    let steps = steps-event w (Emit side) tt h in
+    let on' = on-event w (Emit side) caller tt h on ((steps-all v (emissions side n ++ later) calm' steps.kept).stays up) in
+    let due' = ap (λ (t : State). due_of (after_emissions count t)) (emit-endpoint w side) ∙ due in
+    emissions-heard n count v caller side later calm steps.kept on' (omega (arith, sent, (steps.grows side).snd_nxt)) due' idle come.1 up
+
+-- WHO IS SERVED, and has sent its SYN
+pub served-heard : (n : ℕ) (w : WorldState) (caller side : Side) (later : List EventContent) → AllByRecursion IsCalm later → IsKept w → IsOn caller w
+    → 1 ≤ (party_of w side).endpoint.sending.snd_nxt → IsIdle (world_after_all w (served side n)) side → AllCome w (served side n) later
+    → NoneDiscarded (world_after_all w (served side n ++ later)) → IsHeard (world_after_all w (served side n ++ later)) side
+unfolding world_after_all
+served-heard n w caller side later calm h on sent idle come up =
+    let p = party_of w side in
+    let v = world_after w (Timer side Retransmit) in
+    let events = emissions side n ++ later in
+    let calm' = calm-append (emissions side n) later (calm-emissions side n) calm in
+    let steps = steps-event w (Timer side Retransmit) tt h in
+    let on' = on-event w (Timer side Retransmit) caller tt h on ((steps-all v events calm' steps.kept).stays up) in
+    heard-or w caller side on sent _ (heard-all w (Timer side Retransmit ∷ events) side (tt, calm') h) (λ is.
+    let out = syn-after p.endpoint (speaker-is (answers_to caller side) p (party_of w (other side)) (side-pair w side h) is).0 in
+    let due = ap (λ (t : State). due_of (after_emissions out.0 t)) (timer-endpoint w side) ∙ out.2 in
+    emissions-heard n out.0 v caller side later calm steps.kept on' (omega (arith, sent, (steps.grows side).snd_nxt)) due idle come.1 up)
