@@ -18,7 +18,7 @@
  *      TCPCORE_NOT_DUE. Put each segment into an IPv4 packet (protocol 6) from the address of the config to the address
  *      that was told, and send it.
  *   3. Hand each TCP segment that arrives to tcpcore_arrive, without its IPv4 header, with the packet's two addresses; or to
- *      tcpcore_take, which says where an answer may not wait for the rest of the batch.
+ *      tcpcore_arrive_with_at_once, which says where an answer may not wait for the rest of the batch, or tcpcore_arrive_with_report.
  *   4. Call tcpcore_receive when you want bytes. What isn't read shuts the window. A window that grows by reading makes a
  *      segment due only where it stood at 0, and a peer that finds it too small waits for a timer of its own: read all that
  *      is there, or call tcpcore_acknowledge where the window has grown by the smaller of a segment and half the
@@ -26,7 +26,7 @@
  *   5. Keep real time. tcpcore_timers says which timers have to run. When one has run out call tcpcore_timer, and then emit:
  *
  *      timer                     starts                starts anew                       takes
- *      TCPCORE_TIMER_RETRANSMIT  when its bit is set   when `una` has grown, and after   1 second at first, then what
+ *      TCPCORE_TIMER_RETRANSMIT  when its bit is set   when `snd_una` has grown, and after   1 second at first, then what
  *                                                      each run-out, with twice the      measured round trips say, 1 to
  *                                                      time                              60 seconds (RFC 6298)
  *      TCPCORE_TIMER_REORDER     when its bit is set   when anything is sent again, and  one round trip; never leave it
@@ -37,7 +37,7 @@
  *
  *      Retransmit runs while the peer's window is shut, too: it lets the end probe the window (RFC 9293, 3.8.6.1).
  *      A timer whose bit is clear is stopped.
- *   6. Free the end: tcpcore_free. Where there are many, each can be freed in TIME-WAIT once all was read: tcpcore_rest reports what
+ *   6. Free the end: tcpcore_free. Where there are many, each can be freed in TIME-WAIT once all was read: tcpcore_time_wait reports what
  *      takes its place, 48 bytes that answer late segments as it would.
  *
  * WHICH END A SEGMENT IS FOR
@@ -85,8 +85,8 @@
  *   next end. Leaving an end without tcpcore_free loses nothing but the block.
  *   Buffers belong to the caller; no call keeps a pointer to one.
  *   What tcpcore_peek and tcpcore_parts lend lies in the block: it may be read, never written, until the next call that changes the
- *   end (any but peek, parts, next, pending, timers, peer, status and rest).
- *   The record in the place of an end, struct tcpcore_rest, is the caller's as a whole: nothing else belongs to it.
+ *   end (any but peek, parts, next, pending, timers, peer, status and time_wait).
+ *   The record in the place of an end, struct tcpcore_time_wait, is the caller's as a whole: nothing else belongs to it.
  *
  * ANSWERS
  *   Each function answers one number of the table below. A call for an end that was freed answers TCPCORE_NO_END, so that a loop
@@ -109,23 +109,28 @@
 #include <stddef.h>
 #include <stdint.h>
 
+/* What has another name since version 9 is taken by its old one, too. */
+#ifndef TCPCORE_NO_OLD_NAMES
+#include "tcpcore_old_names.h"
+#endif
+
 #ifdef __cplusplus
 extern "C" {
 #ifdef __GNUC__
-/* Four structs have the names of calls. */
+/* Some structs have the names of calls. */
 #pragma GCC diagnostic push
 #pragma GCC diagnostic ignored "-Wshadow"
 #endif
 #endif
 
 /* The version of this header: it grows with each change of a struct, a call or an answer. */
-#define TCPCORE_VERSION 8
+#define TCPCORE_VERSION 9
 
 /* The answers; tcpcore_strerror has a text for each. */
 enum {
     /* It is done. */
     TCPCORE_DONE = 0,
-    /* tcpcore_arrive and tcpcore_take: the bytes are no segment, by the first fault; nothing changed. */
+    /* tcpcore_arrive and tcpcore_arrive_with_at_once: the bytes are no segment, by the first fault; nothing changed. */
     TCPCORE_TOO_SHORT = 1,    /* fewer than 20 bytes */
     TCPCORE_TOO_LONG = 2,     /* more than 65,515 bytes */
     TCPCORE_BAD_CHECKSUM = 3, /* over segment and pseudo-header (RFC 9293, 3.1) */
@@ -154,7 +159,7 @@ enum {
     TCPCORE_LENGTH = 36,    /* a length is above PTRDIFF_MAX */
     TCPCORE_COPIED = 37,    /* the struct was copied or moved, or never set */
     TCPCORE_OVERLAP = 38,   /* a buffer or a pointer that is written through lies over the struct, or over the buffer */
-    TCPCORE_NO_REST = 39,   /* tcpcore_rest_..: the struct has no TIME-WAIT record: never reported, or other bytes */
+    TCPCORE_NO_TIME_WAIT = 39,   /* tcpcore_time_wait_..: the struct has no TIME-WAIT record: never reported, or other bytes */
     /* The call was made and found this. */
     TCPCORE_NOTHING = 51,       /* tcpcore_receive: nothing to read yet */
     TCPCORE_END_OF_STREAM = 52, /* tcpcore_receive: the peer closed, and all its bytes were delivered */
@@ -162,7 +167,7 @@ enum {
     TCPCORE_NO_RULE = 54,       /* tcpcore_timer: the timer's bit was clear; nothing changed */
     TCPCORE_DROPPED = 55,       /* an arrival: the segment was dropped; an answer to it may be due */
     TCPCORE_NOT_MINE = 56,      /* an arrival: the segment is another connection's; nothing changed */
-    TCPCORE_NOT_AT_REST = 57    /* tcpcore_rest: the end isn't in TIME-WAIT, or has bytes unread */
+    TCPCORE_NOT_TIME_WAIT = 57    /* tcpcore_time_wait: the end isn't in TIME-WAIT, or has bytes unread */
 };
 
 /* The phases (RFC 9293, 3.3.2). */
@@ -220,8 +225,8 @@ enum {
 /* The room that tcpcore_stray_reset wants, in bytes: the length of a reset. */
 #define TCPCORE_RESET_ROOM 20
 
-/* The room that tcpcore_rest_emit wants, in bytes: the length of what a rest sends. */
-#define TCPCORE_REST_ROOM 20
+/* The room that tcpcore_time_wait_emit wants, in bytes: the length of what a TIME-WAIT record sends. */
+#define TCPCORE_TIME_WAIT_ROOM 20
 
 /* A limit below which no segment, however old, is taken for another: 2^31 less 16 bytes. */
 #define TCPCORE_LIMIT UINT64_C(2147483632)
@@ -296,10 +301,10 @@ struct tcpcore_status {
     /* The count of text bytes that came in order up to now, read or not. */
     uint64_t ordered;
     /* SND.UNA: the oldest position of this end's direction that isn't acknowledged. The SYN is at 0, byte i at 1 + i. */
-    uint64_t una;
+    uint64_t snd_una;
     /* RCV.NXT: the next position of the peer's direction that is expected. The peer's SYN is at 0; this is 1 until it has
        come. */
-    uint64_t next;
+    uint64_t rcv_position;
     /* How many bytes of a long text `tcpcore_send` would accept, by `send_capacity` and `limit`. */
     uint64_t room;
     /* The count of bytes that were accepted and not released. */
@@ -323,7 +328,7 @@ struct tcpcore_status {
     /* RCV.WND in bytes: how much more this end accepts (RFC 9293, 3.3.1). */
     uint32_t rcv_wnd;
     /* SND.NXT: the next position of this end's direction to be sent for the first time. */
-    uint64_t nxt;
+    uint64_t snd_nxt;
     /* 1 once `tcpcore_close` was accepted. */
     uint32_t closing;
     /* 1 once the peer's FIN was taken. */
@@ -364,8 +369,8 @@ enum {
     TCPCORE_BROUGHT_NOT_KEPT = 3  /* text or a FIN of which nothing is kept */
 };
 
-/* What tcpcore_taken reports of bytes that arrived. All 0 where the answer is a refusal. (The tag alone is a type, as of tcpcore_status.) */
-struct tcpcore_taken {
+/* What tcpcore_arrive_with_report reports of bytes that arrived. All 0 where the answer is a refusal. */
+struct tcpcore_arrive_report {
     /* 1 where they have to be answered at once (RFC 5681, 4.2). */
     uint32_t at_once;
     /* The rule that applied: TCPCORE_RULE_FOREIGN, 1, to TCPCORE_RULE_TAKEN_SHUT, 19; TCPCORE_RULE_NONE, 0, where they are
@@ -466,10 +471,10 @@ struct tcpcore_parts {
 };
 
 /*
- * What is kept in the place of an end in TIME-WAIT, in 48 bytes, as tcpcore_rest reports it: a plain value, which may be copied,
- * moved and stored; a copy is another that rests there. All zero there is none. (The tag alone is a type, as of tcpcore_status.)
+ * What is kept in the place of an end in TIME-WAIT, in 48 bytes, as tcpcore_time_wait reports it: a plain value, which may be copied,
+ * moved and stored; a copy is another record. All zero there is none. (The tag alone is a type, as of tcpcore_status.)
  */
-struct tcpcore_rest {
+struct tcpcore_time_wait {
     /* The library's word for it; with any other there is no record. */
     uint32_t mark;
     /* The address of this end. */
@@ -481,11 +486,11 @@ struct tcpcore_rest {
     /* The peer's port. */
     uint16_t peer_port;
     /* SND.NXT, a sequence number: all before it is acknowledged. */
-    uint32_t seq;
+    uint32_t snd_nxt;
     /* RCV.NXT, a sequence number. */
-    uint32_t next;
+    uint32_t rcv_nxt;
     /* RCV.WND in bytes, at most 1,048,576. */
-    uint32_t window;
+    uint32_t rcv_wnd;
     /* The address that the waiting reset goes to. This and the next three are ignored where `reset` is 0. */
     tcpcore_addr reset_addr;
     /* The sequence number of the reset. */
@@ -620,7 +625,8 @@ uint32_t tcpcore_arrive(tcpcore_end *end, tcpcore_addr src, tcpcore_addr dst, co
  * answer. Where it is 0 an acknowledgement that is due may wait: for a second segment, and at most half a second.
  *   As tcpcore_arrive.
  */
-uint32_t tcpcore_take(tcpcore_end *end, tcpcore_addr src, tcpcore_addr dst, const void *bytes, size_t length, uint32_t *at_once);
+uint32_t tcpcore_arrive_with_at_once(tcpcore_end *end, tcpcore_addr src, tcpcore_addr dst, const void *bytes, size_t length,
+                                     uint32_t *at_once);
 
 /*
  * As tcpcore_arrive, and reports more of what the segment is to the end: whether it has to be answered at once, the rule
@@ -628,8 +634,8 @@ uint32_t tcpcore_take(tcpcore_end *end, tcpcore_addr src, tcpcore_addr dst, cons
  * and whether its window was taken. Of version 5.
  *   As tcpcore_arrive.
  */
-uint32_t tcpcore_taken(tcpcore_end *end, tcpcore_addr src, tcpcore_addr dst, const void *bytes, size_t length,
-                       struct tcpcore_taken *taken);
+uint32_t tcpcore_arrive_with_report(tcpcore_end *end, tcpcore_addr src, tcpcore_addr dst, const void *bytes, size_t length,
+                                    struct tcpcore_arrive_report *report);
 
 /*
  * As tcpcore_arrive, of a segment whose checksum a device has found right: it isn't summed. Answer and end are those of the
@@ -639,11 +645,11 @@ uint32_t tcpcore_taken(tcpcore_end *end, tcpcore_addr src, tcpcore_addr dst, con
 uint32_t tcpcore_arrive_vouched(tcpcore_end *end, tcpcore_addr src, tcpcore_addr dst, const void *bytes, size_t length);
 
 /*
- * As tcpcore_arrive_vouched, with the report of tcpcore_taken. Of version 5.
+ * As tcpcore_arrive_vouched, with the report of tcpcore_arrive_with_report. Of version 5.
  *   As tcpcore_arrive; never BAD_CHECKSUM.
  */
-uint32_t tcpcore_taken_vouched(tcpcore_end *end, tcpcore_addr src, tcpcore_addr dst, const void *bytes, size_t length,
-                               struct tcpcore_taken *taken);
+uint32_t tcpcore_arrive_vouched_with_report(tcpcore_end *end, tcpcore_addr src, tcpcore_addr dst, const void *bytes,
+                                            size_t length, struct tcpcore_arrive_report *report);
 
 /*
  * Writes the segment that is due to `out`, checksum and all (RFC 9293, 3.7, 3.8 and 3.10).
@@ -761,51 +767,52 @@ uint32_t tcpcore_peer(const tcpcore_end *end, tcpcore_addr *addr, uint16_t *port
 uint32_t tcpcore_status(const tcpcore_end *end, struct tcpcore_status *status);
 
 /*
- * Reports what can take the end's place in TIME-WAIT, once nothing is unread: *rest takes no memory, and answers and emits as the
+ * Reports what can take the end's place in TIME-WAIT, once nothing is unread: *time_wait takes no memory, and answers and emits as the
  * end would, whatever comes. The end stays as it is, and only one of the two may answer: the caller frees the end, and hands the
- * segments of the connection to *rest.
- *   DONE; NOT_AT_REST: the end is in another phase, or bytes are unread; ask again later. NO_END; NULL; OVERLAP; COPIED.
+ * segments of the connection to *time_wait.
+ *   DONE; NOT_TIME_WAIT: the end is in another phase, or bytes are unread; ask again later. NO_END; NULL; OVERLAP; COPIED.
  */
-uint32_t tcpcore_rest(const tcpcore_end *end, struct tcpcore_rest *rest);
+uint32_t tcpcore_time_wait(const tcpcore_end *end, struct tcpcore_time_wait *time_wait);
 
 /*
  * A segment has come, for such a record, which answers it as the end would (RFC 9293, 3.10.7.4, and 3.10.7.1 once the connection has
  * ended). Then emit; if anything was emitted, restart TCPCORE_TIMER_TIME_WAIT.
- *   As tcpcore_arrive, with NO_REST in place of NO_END; never COPIED.
+ *   As tcpcore_arrive, with NO_TIME_WAIT in place of NO_END; never COPIED.
  */
-uint32_t tcpcore_rest_arrive(struct tcpcore_rest *rest, tcpcore_addr src, tcpcore_addr dst, const void *bytes, size_t length);
+uint32_t tcpcore_time_wait_arrive(struct tcpcore_time_wait *time_wait, tcpcore_addr src, tcpcore_addr dst, const void *bytes,
+                                  size_t length);
 
 /*
  * Timer `timer` has expired (RFC 9293, 3.10.8). TCPCORE_TIMER_TIME_WAIT, which runs on from the end's, closes the
  * connection in order; no other timer has a rule.
- *   DONE: its rule was applied. NO_RULE: there was none; nothing changed. NO_TIMER; NO_REST; NULL.
+ *   DONE: its rule was applied. NO_RULE: there was none; nothing changed. NO_TIMER; NO_TIME_WAIT; NULL.
  */
-uint32_t tcpcore_rest_timer(struct tcpcore_rest *rest, uint32_t timer);
+uint32_t tcpcore_time_wait_timer(struct tcpcore_time_wait *time_wait, uint32_t timer);
 
 /*
- * Writes the segment that is due to `out`: an acknowledgement, or a reset that waits; TCPCORE_REST_ROOM bytes.
- *   As tcpcore_emit, but ROOM: `room` is below TCPCORE_REST_ROOM; with NO_REST in place of NO_END; never COPIED.
+ * Writes the segment that is due to `out`: an acknowledgement, or a reset that waits; TCPCORE_TIME_WAIT_ROOM bytes.
+ *   As tcpcore_emit, but ROOM: `room` is below TCPCORE_TIME_WAIT_ROOM; with NO_TIME_WAIT in place of NO_END; never COPIED.
  */
-uint32_t tcpcore_rest_emit(struct tcpcore_rest *rest, void *out, size_t room, tcpcore_addr *to, size_t *length);
+uint32_t tcpcore_time_wait_emit(struct tcpcore_time_wait *time_wait, void *out, size_t room, tcpcore_addr *to, size_t *length);
 
 /*
- * Reports the length of the segment that tcpcore_rest_emit would write now, TCPCORE_REST_ROOM, or 0 where none is due.
- *   DONE; NO_REST; NULL; OVERLAP.
+ * Reports the length of the segment that tcpcore_time_wait_emit would write now, TCPCORE_TIME_WAIT_ROOM, or 0 where none is due.
+ *   DONE; NO_TIME_WAIT; NULL; OVERLAP.
  */
-uint32_t tcpcore_rest_pending(const struct tcpcore_rest *rest, uint32_t *due);
+uint32_t tcpcore_time_wait_pending(const struct tcpcore_time_wait *time_wait, uint32_t *due);
 
 /*
  * Aborts the connection: CLOSED, aborted; no reset is sent in TIME-WAIT (RFC 9293, 3.10.5).
- *   DONE; ENDED; NO_REST; NULL.
+ *   DONE; ENDED; NO_TIME_WAIT; NULL.
  */
-uint32_t tcpcore_rest_abort(struct tcpcore_rest *rest);
+uint32_t tcpcore_time_wait_abort(struct tcpcore_time_wait *time_wait);
 
 /*
  * Reports the phase, TIME-WAIT, or CLOSED once the connection has ended, and how it did. In CLOSED, once nothing is due, the struct
  * may be forgotten.
- *   DONE; NO_REST; NULL; OVERLAP.
+ *   DONE; NO_TIME_WAIT; NULL; OVERLAP.
  */
-uint32_t tcpcore_rest_status(const struct tcpcore_rest *rest, uint32_t *phase, uint32_t *ending);
+uint32_t tcpcore_time_wait_status(const struct tcpcore_time_wait *time_wait, uint32_t *phase, uint32_t *ending);
 
 /*
  * The text of an answer, such as "nothing to read yet". It is never NULL, nobody frees it, and any thread may ask for
