@@ -12,10 +12,10 @@ cd "$(dirname "$0")/.."
 folder=$1
 passed=0
 
-# Within 20 minutes, so that one that waits for ever is seen as such. One that fails is named, with its status.
+# Within 40 minutes, so that one that waits for ever is seen as such. One that fails is named, with its status.
 attempt() {
     local start=$SECONDS status=0
-    timeout --kill-after=1m 20m "$@" || status=$?
+    timeout --kill-after=1m 40m "$@" || status=$?
     if ((status)); then
         echo "behind: '$*' FAILED in $((SECONDS - start)) seconds with status $status"
         return "$status"
