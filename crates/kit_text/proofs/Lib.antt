@@ -1,4 +1,9 @@
 pub mod Cuts
+pub mod Decoding
+pub mod DigitPairs
 pub mod Digits
+pub mod Encoding
+pub mod LaneByLane
 pub mod LineCounts
 pub mod WordCounts
+pub mod WrittenParts

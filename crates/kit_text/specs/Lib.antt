@@ -1,3 +1,4 @@
+pub mod HexLanes
 pub mod Lines
 pub mod Segments
 pub mod Texts

@@ -3,8 +3,8 @@ ghost use Rattle.std.specs.Prelude.{◌≡◌, ◌++◌, OnOk, string_bytes};
 ghost use Rattle.kit_text.specs.Words.{bytes_of, Reads};
 ghost use Rattle.kit_text.specs.Texts.{bytes_text};
 
+use crate::hexadecimal::{decode_digits, push_digits};
 use crate::line::LineError;
-use hex::FromHexError;
 use std::alloc::{AllocError, Allocator};
 
 const NO_BYTES: &[u8] = b"-";
@@ -16,14 +16,14 @@ pub fn read_bytes<A: Allocator + Copy>(alloc: A, word: &[u8]) -> Result<Vec<u8, 
     if word == NO_BYTES {
         return Ok(Vec::new(alloc));
     }
-    if word.is_empty() {
+    if word.is_empty() || word.len() % 2 != 0 {
         return Err(LineError::BadForm);
     }
-    match hex::decode(alloc, word) {
-        Ok(bytes) => Ok(bytes),
-        Err(FromHexError::OutOfMemory) => Err(LineError::NoMemory),
-        Err(_) => Err(LineError::BadForm),
+    let mut bytes = vec![in alloc; 0u8; word.len() / 2]?;
+    if !decode_digits(word, bytes.as_mut_slice()) {
+        return Err(LineError::BadForm);
     }
+    Ok(bytes)
 }
 
 /// Appends bytes in lower case hexadecimal, or `-` for none.
@@ -37,6 +37,6 @@ pub fn push_bytes<A: Allocator + Copy>(
     if bytes.is_empty() {
         return text.push_str("-");
     }
-    let digits = hex::encode(alloc, bytes)?;
-    text.push_str(digits.as_str())
+    let _ = alloc;
+    push_digits(text, bytes)
 }

@@ -10,6 +10,7 @@ mod addresses;
 mod bytes;
 mod cutting;
 mod faults;
+mod hexadecimal;
 mod line;
 mod lines;
 mod meaning;
