@@ -1,3 +1,4 @@
+pub mod AsciiLoads
 pub mod Cuts
 pub mod Decoding
 pub mod DigitPairs

@@ -1,12 +1,17 @@
 //! The lines of a text.
-ghost use Rattle.std.specs.Prelude.{◌≡◌, ◌+◌, ◌==◌, ◌<◌, ◌≤◌, nat_lt, length, position, count_by, IfOk, IfErr, IfSome, Ok, Err};
+ghost use Rattle.std.specs.Prelude.{◌≡◌, ◌+◌, ◌==◌, ◌<◌, ◌≤◌, nat_lt, length, position, count_by, drop, take, option_map, IfOk, IfErr, IfSome, Ok, Err};
+ghost use Rattle.std.specs.List.{list_all};
 ghost use Rattle.kit_text.specs.Lines.{is_passed_over, line_above_ascii, ascii_lines};
 
 use crate::cutting::{LINE_FEED, cut};
 use std::marker::Model;
+use std::simd::prelude::*;
 
 /// The first byte of a comment.
 const COMMENT: u8 = b'#';
+
+/// As many bytes at a time are looked at for one above 7f.
+const LOAD: usize = 64;
 
 /// The lines of a text that aren't skipped, each with its number. Every line counts, from 1 on; those that are empty or
 /// begin with `#` are skipped.
@@ -78,12 +83,48 @@ fn is_passed_over(line: &[u8]) -> bool
     line.is_empty() || line[0] == COMMENT
 }
 
+/// Whether 64 bytes have none above 7f.
+#[inline(always)]
+fn is_ascii_load(bytes: &[u8]) -> bool
+    requires { 64 ≤ length bytes.now }
+    ensures { result ≡ list_all (λ b. nat_lt b 128) (take 64 bytes.now) }
+{
+    u8x64::from_slice(bytes)
+        .simd_ge(u8x64::splat(128))
+        .to_bitmask()
+        == 0
+}
+
+/// How many bytes, by whole loads, come before the load with the first byte above 7f.
+fn ascii_loads(text: &[u8]) -> usize
+    ensures within { result ≤ length text.now }
+    ensures none { position (nat_lt 127) text.now ≡ option_map (λ at. result + at) (position (nat_lt 127) (drop result text.now)) }
+{
+    let mut i = 0;
+    while text.len() - i >= LOAD && is_ascii_load(&text[i..]) {
+        i += LOAD;
+    }
+    i
+}
+
+/// The offset of the first byte above 7f, looked for byte by byte.
+fn first_above_by_bytes(text: &[u8]) -> Option<usize>
+    ensures place { result ≡ position (nat_lt 127) text.now }
+    ensures within { IfSome result (λ at. at < length text.now) }
+{
+    text.iter().position(|byte| *byte > 0x7f)
+}
+
 /// The offset of the first byte above 7f.
 fn first_above_ascii(text: &[u8]) -> Option<usize>
     ensures place { result ≡ position (nat_lt 127) text.now }
     ensures within { IfSome result (λ at. at < length text.now) }
 {
-    text.iter().position(|byte| *byte > 0x7f)
+    let front = ascii_loads(text);
+    match first_above_by_bytes(&text[front..]) {
+        Some(at) => Some(front + at),
+        None => None,
+    }
 }
 
 /// How many lines end in a prefix of a text.

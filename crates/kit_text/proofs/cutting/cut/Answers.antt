@@ -1,13 +1,19 @@
-use Rattle.std.proofs.Common.{◌+◌, ◌-◌, ◌≤◌, length, drop, arith, add-one, length-drop}
+use Rattle.std.proofs.Common.{◌≡◌, ◌+◌, ◌-◌, ◌≤◌, Bool, true, false, length, get_or, drop, refl, arith, add-one, length-drop}
+use Rattle.std.proofs.lemmas.Bool.{eqb-true}
 use Rattle.std.proofs.lemmas.List.{take_all}
 use Rattle.kit_text.proofs.Cuts.{slice_split-first, slice_split-nowhere}
 use Rattle.kit_text.proofs.cutting.cut.Goals as goal
 
-pub returns-then-byte-at-clause-pieces : goal.returns-then-byte-at-clause-pieces
-returns-then-byte-at-clause-pieces c =
-    let bytes = c.args.bytes.now in let i = c.loop-i.i in
-    let whole : length (drop (i + 1) bytes) ≤ length bytes - (i + 1) = omega (arith, length-drop (i + 1) bytes) in
-    rw (take_all _ _ whole, add-one) (slice_split-first c.args.at bytes i (omega arith) c.loop-i.invariant c.if-byte-at.true)
+fails : (b : Bool) → ¬ (b ≡ true) → b ≡ false
+fails true h = absurd (h refl)
+fails false h = refl
 
-pub returns-clause-pieces : goal.returns-clause-pieces
-returns-clause-pieces c = slice_split-nowhere c.args.at c.args.bytes.now (λ k below. c.loop-i.invariant k (omega arith))
+pub returns-in-Some-clause-pieces : goal.returns-in-Some-clause-pieces
+returns-in-Some-clause-pieces c =
+    let bytes = c.args.bytes.now in let i = c.in-Some.i in let found = c.in-Some.ensures in
+    let whole : length (drop (i + 1) bytes) ≤ length bytes - (i + 1) = omega (arith, length-drop (i + 1) bytes) in
+    rw (take_all _ _ whole, add-one)
+    (slice_split-first c.args.at bytes i found.0.high (λ k below. fails _ (found.0.before k (omega arith) below)) (eqb-true (get_or bytes i 0) c.args.at found.1))
+
+pub returns-in-None-clause-pieces : goal.returns-in-None-clause-pieces
+returns-in-None-clause-pieces c = slice_split-nowhere c.args.at c.args.bytes.now (λ k below. fails _ (c.in-None.ensures k (omega arith) below))
