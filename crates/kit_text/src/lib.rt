@@ -8,6 +8,7 @@
 
 mod addresses;
 mod bytes;
+mod control_bits;
 mod cutting;
 mod faults;
 mod hexadecimal;
@@ -16,6 +17,7 @@ mod lines;
 mod meaning;
 mod numbers;
 mod options;
+mod room;
 mod segments;
 
 pub use addresses::read_addr;

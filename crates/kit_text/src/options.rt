@@ -1,16 +1,21 @@
 //! Options, and blocks of selective acknowledgement.
-ghost use Rattle.std.specs.Prelude.{◌≡◌, ◌++◌, OnOk, string_bytes, map};
+ghost use Rattle.std.specs.Prelude.{◌≡◌, ◌++◌, OnOk, string_bytes, map, codes, decimal};
 ghost use Rattle.tcp_wire.specs.View.{block, option_content};
 ghost use Rattle.kit_text.specs.Texts.{block_text, blocks_text, option_text, options_text};
 
 use crate::bytes::push_bytes;
+use crate::room::{ROOM, push_from, put, put_number};
 use std::alloc::{AllocError, Allocator};
 use tcp_wire::{Seq, TcpOption};
 
 fn push_block<A: Allocator>(text: &mut String<A>, edges: &(Seq, Seq)) -> Result<(), AllocError>
     ensures { OnOk result (string_bytes text.new ≡ string_bytes text.old ++ block_text (block edges.now)) }
 {
-    write!(text, "{}-{}", edges.0.0, edges.1.0)
+    let mut room = [0u8; ROOM];
+    let at = put_number(&mut room, ROOM, u64::from(edges.1.0));
+    let at = put(&mut room, at, "-");
+    let at = put_number(&mut room, at, u64::from(edges.0.0));
+    push_from(text, &room, at)
 }
 
 /// Appends blocks (RFC 2018, 3), each as its left edge and the number after its last, joined by `+`, or `-` for none.
@@ -32,6 +37,16 @@ pub fn push_blocks<A: Allocator>(
     Ok(())
 }
 
+fn push_kind<A: Allocator>(text: &mut String<A>, kind: u8) -> Result<(), AllocError>
+    ensures { OnOk result (string_bytes text.new ≡ string_bytes text.old ++ (codes "kind" ++ (decimal kind ++ codes ":"))) }
+{
+    let mut room = [0u8; ROOM];
+    let at = put(&mut room, ROOM, ":");
+    let at = put_number(&mut room, at, u64::from(kind));
+    let at = put(&mut room, at, "kind");
+    push_from(text, &room, at)
+}
+
 fn push_option<A: Allocator + Copy>(
     alloc: A,
     text: &mut String<A>,
@@ -49,7 +64,7 @@ fn push_option<A: Allocator + Copy>(
             push_blocks(text, blocks.as_slice())
         }
         TcpOption::Unknown { kind, body } => {
-            write!(text, "kind{kind}:")?;
+            push_kind(text, *kind)?;
             push_bytes(alloc, text, body)
         }
     }

@@ -1,10 +1,12 @@
 //! Segments (RFC 9293, 3.1): all fields, or a summary.
-ghost use Rattle.std.specs.Prelude.{◌≡◌, ◌++◌, OnOk, string_bytes, map};
+ghost use Rattle.std.specs.Prelude.{◌≡◌, ◌++◌, OnOk, string_bytes, map, codes, decimal, length};
 ghost use Rattle.tcp_wire.specs.View.{content, option_content, block};
 ghost use Rattle.kit_text.specs.Segments.{numbers_text, control_text, rest_text, fields_text, first_blocks, summary_text};
 
 use crate::bytes::push_bytes;
+use crate::control_bits::push_flags;
 use crate::options::{push_blocks, push_options};
+use crate::room::{ROOM, push_from, put, put_number};
 use std::alloc::{AllocError, Allocator};
 use tcp_wire::{Segment, Seq, TcpOption};
 
@@ -13,11 +15,43 @@ use tcp_wire::{Segment, Seq, TcpOption};
 fn push_numbers<A: Allocator>(text: &mut String<A>, segment: &Segment<'_>) -> Result<(), AllocError>
     ensures { OnOk result (string_bytes text.new ≡ string_bytes text.old ++ numbers_text (content segment.now)) }
 {
-    let src_port = segment.header.src_port;
-    let dst_port = segment.header.dst_port;
-    let seq = segment.header.seq.0;
-    let ack = segment.header.ack.0;
-    write!(text, "{src_port} > {dst_port} seq {seq} ack {ack}")
+    let (seq, ack) = (segment.header.seq.0, segment.header.ack.0);
+    let mut room = [0u8; ROOM];
+    let at = put_number(&mut room, ROOM, u64::from(ack));
+    let at = put(&mut room, at, " ack ");
+    let at = put_number(&mut room, at, u64::from(seq));
+    let at = put(&mut room, at, " seq ");
+    let at = put_number(&mut room, at, u64::from(segment.header.dst_port));
+    let at = put(&mut room, at, " > ");
+    let at = put_number(&mut room, at, u64::from(segment.header.src_port));
+    push_from(text, &room, at)
+}
+
+/// The reserved bits, up to the control bits.
+fn push_reserved<A: Allocator>(text: &mut String<A>, reserved: u8) -> Result<(), AllocError>
+    ensures { OnOk result (string_bytes text.new ≡ string_bytes text.old ++ (codes " reserved " ++ (decimal reserved ++ codes " flags "))) }
+{
+    let mut room = [0u8; ROOM];
+    let at = put(&mut room, ROOM, " flags ");
+    let at = put_number(&mut room, at, u64::from(reserved));
+    let at = put(&mut room, at, " reserved ");
+    push_from(text, &room, at)
+}
+
+/// Window and urgent pointer.
+fn push_window<A: Allocator>(
+    text: &mut String<A>,
+    window: u16,
+    urgent: u16,
+) -> Result<(), AllocError>
+    ensures { OnOk result (string_bytes text.new ≡ string_bytes text.old ++ (codes " window " ++ (decimal window ++ (codes " urgent " ++ decimal urgent)))) }
+{
+    let mut room = [0u8; ROOM];
+    let at = put_number(&mut room, ROOM, u64::from(urgent));
+    let at = put(&mut room, at, " urgent ");
+    let at = put_number(&mut room, at, u64::from(window));
+    let at = put(&mut room, at, " window ");
+    push_from(text, &room, at)
 }
 
 /// The other fields of the fixed header.
@@ -25,14 +59,20 @@ fn push_numbers<A: Allocator>(text: &mut String<A>, segment: &Segment<'_>) -> Re
 fn push_control<A: Allocator>(text: &mut String<A>, segment: &Segment<'_>) -> Result<(), AllocError>
     ensures { OnOk result (string_bytes text.new ≡ string_bytes text.old ++ control_text (content segment.now)) }
 {
-    let reserved = segment.header.reserved;
-    let flags = segment.header.flags;
-    let window = segment.header.window;
-    let urgent = segment.header.urgent;
-    write!(
-        text,
-        " reserved {reserved} flags {flags} window {window} urgent {urgent}"
-    )
+    push_reserved(text, segment.header.reserved)?;
+    push_flags(text, segment.header.flags)?;
+    push_window(text, segment.header.window, segment.header.urgent)
+}
+
+/// How many zero bytes fill the header, up to the text.
+fn push_pad<A: Allocator>(text: &mut String<A>, pad: u8) -> Result<(), AllocError>
+    ensures { OnOk result (string_bytes text.new ≡ string_bytes text.old ++ (codes " pad " ++ (decimal pad ++ codes " text "))) }
+{
+    let mut room = [0u8; ROOM];
+    let at = put(&mut room, ROOM, " text ");
+    let at = put_number(&mut room, at, u64::from(pad));
+    let at = put(&mut room, at, " pad ");
+    push_from(text, &room, at)
 }
 
 /// What comes after the fixed header.
@@ -44,10 +84,9 @@ fn push_rest<A: Allocator + Copy>(
 ) -> Result<(), AllocError>
     ensures { OnOk result (string_bytes text.new ≡ string_bytes text.old ++ rest_text (content segment.now)) }
 {
-    let pad = segment.pad;
     text.push_str(" options ")?;
     push_options(alloc, text, segment.options.as_slice())?;
-    write!(text, " pad {pad} text ")?;
+    push_pad(text, segment.pad)?;
     push_bytes(alloc, text, segment.text)
 }
 
@@ -76,6 +115,23 @@ fn first_blocks<'a>(options: &'a [TcpOption<'_>]) -> &'a [(Seq, Seq)]
     &[]
 }
 
+/// Numbers, window and the text's length.
+fn push_counts<A: Allocator>(text: &mut String<A>, segment: &Segment<'_>) -> Result<(), AllocError>
+    ensures { OnOk result (string_bytes text.new ≡ string_bytes text.old ++ (codes " seq " ++ (decimal segment.now.header.seq.0 ++ (codes " ack " ++ (decimal segment.now.header.ack.0 ++ (codes " window " ++ (decimal segment.now.header.window ++ (codes " text " ++ (decimal (length segment.now.text.now) ++ codes " sack "))))))))) }
+{
+    let mut room = [0u8; ROOM];
+    let at = put(&mut room, ROOM, " sack ");
+    let at = put_number(&mut room, at, segment.text.len() as u64);
+    let at = put(&mut room, at, " text ");
+    let at = put_number(&mut room, at, u64::from(segment.header.window));
+    let at = put(&mut room, at, " window ");
+    let at = put_number(&mut room, at, u64::from(segment.header.ack.0));
+    let at = put(&mut room, at, " ack ");
+    let at = put_number(&mut room, at, u64::from(segment.header.seq.0));
+    let at = put(&mut room, at, " seq ");
+    push_from(text, &room, at)
+}
+
 /// Appends flags, numbers, window, the text's length and the blocks of a segment (RFC 9293, 3.1).
 #[tactic(auto, unfolding(crate::specs::Segments::summary_text))]
 pub fn push_summary<A: Allocator>(
@@ -84,14 +140,8 @@ pub fn push_summary<A: Allocator>(
 ) -> Result<(), AllocError>
     ensures { OnOk result (string_bytes text.new ≡ string_bytes text.old ++ summary_text (content segment.now)) }
 {
-    let flags = segment.header.flags;
-    let seq = segment.header.seq.0;
-    let ack = segment.header.ack.0;
-    let window = segment.header.window;
-    let count = segment.text.len();
-    write!(
-        text,
-        "flags {flags} seq {seq} ack {ack} window {window} text {count} sack "
-    )?;
+    text.push_str("flags ")?;
+    push_flags(text, segment.header.flags)?;
+    push_counts(text, segment)?;
     push_blocks(text, first_blocks(segment.options.as_slice()))
 }
