@@ -1,17 +1,15 @@
 -- Pairs of hexadecimal digits, by the values that lanes hold of them.
-use Rattle.std.proofs.Common.{◌≡◌, ℕ, zero, suc, ◌+◌, ◌-◌, ◌*◌, ◌/◌, ◌%◌, ◌^◌, ◌<◌, ◌≤◌, ltb, eqb, leb, Bool, true, false, not, ◌&&◌, ◌||◌, cond, List, [], ◌∷◌, ◌++◌, map, length, take, drop, replicate, Option, Some, None, unwrap_or, Result, Ok, Err, is_ok, Fits, w8, bit_and, refl, sym, ap, ap₂, ◌∙◌, arith}
-use Rattle.std.specs.Prelude.{MatchResult}
+use Rattle.std.proofs.Common.{◌≡◌, ℕ, zero, suc, ◌+◌, ◌*◌, ◌/◌, ◌%◌, ◌<◌, ◌≤◌, ltb, eqb, Bool, true, not, ◌||◌, List, [], ◌∷◌, ◌++◌, map, length, take, replicate, Option, Some, None, unwrap_or, Result, Ok, Err, Fits, w8, bit_and, refl, sym, ap, ap₂, ◌∙◌, arith}
 use Rattle.std.specs.List.{list_all}
 use Rattle.std.specs.Result.{result_ok}
-use Rattle.std.proofs.lemmas.Bool.{agree_below, agree_below_at, eqb-true, ltb-true, leb-true, leb-false, and_parts}
+use Rattle.std.proofs.lemmas.Bool.{agree_below_at, eqb-true, ltb-true, and_parts}
 use Rattle.std.proofs.lemmas.List.{append_assoc, length-map}
 use Rattle.std.proofs.lemmas.Simd.{take_more_put_chunk}
 use Rattle.std.proofs.lemmas.Nat.{and_mask}
 use lib.Lanes.{zip2, put_chunk, Each1}
-use Rattle.hex.specs.Hex.{decode_of, decode_pairs, decode_sized, digit_or_error, hex_digit_value, pair_value, value_at}
+use Rattle.hex.specs.Hex.{decode_pairs, digit_or_error, hex_digit_value, pair_value, value_at}
 use Rattle.hex.specs.declared.error.FromHexError.{FromHexError}
-use Rattle.hex.proofs.HexLemmas.{decode_of-even}
-use Rattle.hex.proofs.Pairs.{cons_byte, decode_pairs-ok_pair, decode_pairs-err_pair, decode_sized-pairs}
+use Rattle.hex.proofs.Pairs.{cons_byte, decode_pairs-ok_pair, decode_pairs-err_pair}
 use Rattle.tcp_numbers.proofs.LaneSums.{loaded}
 use Rattle.kit_text.specs.HexLanes.{lane_of, joined_pairs, with_front}
 

@@ -1,5 +1,5 @@
 -- Bytes that are written as hexadecimal digits over lanes.
-use Rattle.std.proofs.Common.{◌≡◌, ℕ, ◌+◌, ◌-◌, ◌*◌, ◌/◌, ◌%◌, ◌≤◌, ◌<◌, eqb, ltb, Bool, true, List, [], ◌∷◌, ◌++◌, map, length, take, drop, slice_index, Result, Ok, Err, Fits, w8, refl, sym, ap, ap₂, ◌∙◌, arith, take-append-drop, take-add}
+use Rattle.std.proofs.Common.{◌≡◌, ℕ, ◌+◌, ◌-◌, ◌*◌, ◌/◌, ◌%◌, ◌≤◌, eqb, ltb, true, List, [], ◌∷◌, ◌++◌, map, length, take, drop, slice_index, Result, Ok, Err, Fits, w8, refl, sym, ap, ap₂, ◌∙◌, arith, take-append-drop, take-add}
 use Rattle.std.proofs.lemmas.Bool.{agree_below, agree_below_at, eqb-true, ltb-true}
 use Rattle.std.proofs.lemmas.Str.Ascii.{IsAscii-from_reads}
 use Rattle.std.specs.Prelude.{IsOk, OnOk}

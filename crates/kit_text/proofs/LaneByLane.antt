@@ -1,8 +1,8 @@
 -- What operations on vectors of bytes give, lane by lane.
-use Rattle.std.proofs.Common.{◌≡◌, ℕ, zero, suc, ◌+◌, ◌*◌, ◌<◌, ◌≤◌, ◌%◌, ◌^◌, eqb, leb, ltb, Bool, true, false, not, ◌&&◌, cond, List, [], ◌∷◌, map, length, get_or, replicate, Fits, w8, refl, sym, ap, ap₂, ◌∙◌, arith}
+use Rattle.std.proofs.Common.{◌≡◌, ℕ, zero, suc, ◌+◌, ◌*◌, ◌≤◌, ◌%◌, ◌^◌, eqb, Bool, true, false, not, ◌&&◌, cond, List, [], ◌∷◌, map, length, replicate, Fits, w8, refl, sym, ap, ap₂, ◌∙◌, arith}
 use Rattle.std.proofs.lemmas.Bool.{agree_below, agree_below_at, eqb-true, ne_eqb}
 use Rattle.std.proofs.lemmas.List.{length-map}
-use Rattle.std.proofs.lemmas.Simd.{mask_l-mod, map-map}
+use Rattle.std.proofs.lemmas.Simd.{mask_l-mod}
 use Rattle.std.specs.List.{list_all}
 use lib.Lanes.{zip2, sel_l, mask_l, top, Each1}
 

@@ -1,5 +1,4 @@
-use Rattle.std.proofs.Common.{◌≡◌, ℕ, leb, ltb, Bool, true, false, not, cond, refl, sym, arith}
-use Rattle.std.proofs.lemmas.Bool.{leb-true, leb-false}
+use Rattle.std.proofs.Common.{◌≡◌, ℕ, leb, ltb, Bool, true, false, not, cond, refl, arith}
 use lib.Lanes.{top}
 use Rattle.kit_text.proofs.LaneByLane.{joined, splat_is, itself, none_fails}
 use Rattle.kit_text.proofs.hexadecimal.are_digits.Goals as goal

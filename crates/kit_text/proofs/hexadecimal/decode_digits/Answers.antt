@@ -1,7 +1,7 @@
-use Rattle.std.proofs.Common.{rules, ◌≡◌, ◌*◌, ◌-◌, length, take, drop, refl, sym, ap, ◌∙◌, arith, length-drop, subst, Bool, cond, Some, None}
+use Rattle.std.proofs.Common.{◌*◌, ◌-◌, length, take, drop, sym, ap, ◌∙◌, length-drop, subst, Bool, cond, Some, None}
 use borrow.Rule.Slice.PartMut.{put_mid}
 use Rattle.std.proofs.lemmas.List.{take_rest}
-use Rattle.kit_text.proofs.Decoding.{none_decoded, load_decoded, still_decoded, rest_decoded, Decoded}
+use Rattle.kit_text.proofs.Decoding.{load_decoded, still_decoded, rest_decoded, Decoded}
 use Rattle.kit_text.proofs.hexadecimal.decode_digits.Goals as goal
 use Rattle.kit_text.proofs.hexadecimal.decode_digits.Goals.{then-loop-bytes-test+else-decode_load, else-loop-bytes-test}
 

@@ -1,4 +1,4 @@
-use Rattle.std.proofs.Common.{ℕ, take, sym, ◌∙◌, w8}
+use Rattle.std.proofs.Common.{take, sym, ◌∙◌, w8}
 use Rattle.std.proofs.lemmas.Simd.{length-chunk, chunk-fits}
 use Rattle.kit_text.proofs.DigitPairs.{load_read}
 use Rattle.kit_text.proofs.hexadecimal.decode_load.Goals as goal

@@ -1,4 +1,4 @@
-use Rattle.std.proofs.Common.{◌*◌, ◌-◌, length, take, drop, sym, ap, ◌∙◌, arith, length-drop}
+use Rattle.std.proofs.Common.{◌*◌, ◌-◌, length, take, drop, ap, ◌∙◌, arith, length-drop}
 use Rattle.std.proofs.lemmas.List.{take_rest}
 use Rattle.hex.specs.Hex.{encode_lower}
 use Rattle.kit_text.proofs.Encoding.{none_encoded, load_encoded, rest_encoded, where_ok}

@@ -1,7 +1,6 @@
-use Rattle.std.proofs.Common.{ℕ, List, [], ◌∷◌, map, take, length, refl, sym, ap, ap₂, ◌++◌, ◌∙◌, arith, w8}
+use Rattle.std.proofs.Common.{ℕ, List, [], ◌∷◌, map, take, refl, ap, ap₂, ◌++◌, ◌∙◌, w8}
 use Rattle.std.proofs.lemmas.Simd.{length-chunk, chunk-fits, zip2_splat, take_more_put_chunk, map-map}
 use lib.Lanes.{pick_l}
-use Rattle.hex.specs.Hex.{encode_lower}
 use Rattle.kit_text.specs.HexLanes.{digit_of}
 use Rattle.kit_text.proofs.Encoding.{woven, weave_encodes}
 use Rattle.kit_text.proofs.hexadecimal.encode_load.Goals as goal

@@ -1,4 +1,3 @@
-use Rattle.std.proofs.Common.{arith}
 use Rattle.tcp_numbers.proofs.LaneSums.{load_is}
 use Rattle.kit_text.proofs.DigitPairs.{lanes_join}
 use Rattle.kit_text.proofs.hexadecimal.join.Goals as goal

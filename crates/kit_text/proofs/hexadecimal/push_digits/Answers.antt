@@ -1,4 +1,4 @@
-use Rattle.std.proofs.Common.{string_bytes, refl}
+use Rattle.std.proofs.Common.{string_bytes}
 use Rattle.kit_text.proofs.Encoding.{block_appended}
 use Rattle.kit_text.proofs.hexadecimal.push_digits.Goals as goal
 

@@ -1,4 +1,4 @@
-use Rattle.std.proofs.Common.{ℕ, map, ◌∙◌, refl}
+use Rattle.std.proofs.Common.{ℕ, ◌∙◌, refl}
 use Rattle.std.proofs.lemmas.Simd.{zip2_splat}
 use Rattle.kit_text.specs.HexLanes.{lane_of}
 use Rattle.kit_text.proofs.LaneByLane.{joined, chosen, splat_is, same_lanes}
