@@ -35,18 +35,47 @@ fn first_far(at: u8, bytes: &[u8]) -> Option<usize>
     memchr::memchr(at, bytes)
 }
 
-/// The offset of the first byte `at`.
+/// The offset of the first byte `at`, in a line: its words are short and few, so that a plain loop finds most.
 #[inline(always)]
-fn first(at: u8, bytes: &[u8]) -> Option<usize>
+fn first_in_line(at: u8, bytes: &[u8]) -> Option<usize>
     ensures { IsFirstByte (is_byte at) bytes.now result }
 {
-    if bytes.len() < NEAR {
-        return first_of(at, bytes, bytes.len());
-    }
-    if let Some(i) = first_of(at, bytes, NEAR) {
+    let near = bytes.len().min(NEAR);
+    if let Some(i) = first_of(at, bytes, near) {
         return Some(i);
     }
+    if near == bytes.len() {
+        return None;
+    }
     first_far(at, bytes)
+}
+
+/// The offset of the first byte `at`, in a text: that it is long is tested once, for all of the first bytes.
+#[inline(always)]
+fn first_in_text(at: u8, text: &[u8]) -> Option<usize>
+    ensures { IsFirstByte (is_byte at) text.now result }
+{
+    if text.len() < NEAR {
+        return first_of(at, text, text.len());
+    }
+    if let Some(i) = first_of(at, text, NEAR) {
+        return Some(i);
+    }
+    first_far(at, text)
+}
+
+/// The piece before the first byte `at`, which is at `place`, and what follows that byte.
+#[inline(always)]
+fn parted(at: u8, bytes: &[u8], place: Option<usize>) -> (&[u8], Option<&[u8]>)
+    requires { IsFirstByte (is_byte at) bytes.now place }
+    ensures pieces { slice_split (λ b. b == at) bytes.now ≡ result.0.now ∷ further_pieces at result.1 }
+    ensures within { length result.0.now ≤ length bytes.now }
+    ensures shorter { IfSome result.1 (λ rest. length rest.now < length bytes.now) }
+{
+    match place {
+        Some(i) => (&bytes[..i], Some(&bytes[i + 1..])),
+        None => (bytes, None),
+    }
 }
 
 /// The piece before the first byte `at`, and what follows that byte, if there is one.
@@ -55,8 +84,14 @@ pub fn cut(at: u8, bytes: &[u8]) -> (&[u8], Option<&[u8]>)
     ensures within { length result.0.now ≤ length bytes.now }
     ensures shorter { IfSome result.1 (λ rest. length rest.now < length bytes.now) }
 {
-    match first(at, bytes) {
-        Some(i) => (&bytes[..i], Some(&bytes[i + 1..])),
-        None => (bytes, None),
-    }
+    parted(at, bytes, first_in_line(at, bytes))
+}
+
+/// The first line of a text, and what follows its end, if it has one.
+pub(crate) fn cut_line(text: &[u8]) -> (&[u8], Option<&[u8]>)
+    ensures pieces { slice_split (λ b. b == 10) text.now ≡ result.0.now ∷ further_pieces 10 result.1 }
+    ensures within { length result.0.now ≤ length text.now }
+    ensures shorter { IfSome result.1 (λ rest. length rest.now < length text.now) }
+{
+    parted(LINE_FEED, text, first_in_text(LINE_FEED, text))
 }

@@ -3,7 +3,7 @@ ghost use Rattle.std.specs.Prelude.{◌≡◌, ◌+◌, ◌==◌, ◌<◌, ◌�
 ghost use Rattle.std.specs.List.{list_all};
 ghost use Rattle.kit_text.specs.Lines.{is_passed_over, line_above_ascii, ascii_lines};
 
-use crate::cutting::{LINE_FEED, cut};
+use crate::cutting::{LINE_FEED, cut_line};
 use std::marker::Model;
 use std::simd::prelude::*;
 
@@ -65,7 +65,7 @@ impl<'a> Iterator for Lines<'a> {
     #[tactic(auto, unfolding(crate::specs::Lines::numbered_from))]
     fn next(&mut self) -> Option<(usize, &'a [u8])> {
         while let Some(rest) = self.rest {
-            let (line, rest) = cut(LINE_FEED, rest);
+            let (line, rest) = cut_line(rest);
             self.rest = rest;
             self.count += 1;
             if !is_passed_over(line) {
