@@ -3,8 +3,7 @@ ghost use Rattle.std.specs.Prelude.{◌≡◌, ◌++◌, OnOk, string_bytes};
 ghost use Rattle.tcp_wire.specs.Decoded.{decode_answer};
 ghost use Rattle.kit_report.specs.Answers.{refused_text, send_text, receive_text, segment_text, arrival_text};
 
-use crate::summary::push_summary;
-use kit_text::{push_bytes, push_fault};
+use kit_text::{push_bytes, push_fault, push_raw_summary};
 use std::alloc::{AllocError, Allocator};
 use tcp_conn::{Arrival, CallError, Received};
 use tcp_wire::{Addr, RawSegment};
@@ -59,7 +58,7 @@ pub fn push_segment<A: Allocator>(
     ensures { OnOk result (string_bytes text.new ≡ string_bytes text.old ++ segment_text (decode_answer src.0 dst.0 bytes.now)) }
 {
     match RawSegment::parse(src, dst, bytes) {
-        Ok(segment) => push_summary(text, &segment),
+        Ok(segment) => push_raw_summary(text, &segment),
         Err(fault) => push_fault(text, fault),
     }
 }

@@ -20,7 +20,6 @@ mod sent;
 mod shown;
 mod states;
 mod steps;
-mod summary;
 mod turns;
 
 pub use answers::{push_arrival, push_receive, push_refused, push_segment, push_send};

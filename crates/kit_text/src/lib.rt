@@ -29,4 +29,4 @@ pub use lines::Lines;
 pub use meaning::push_meaning;
 pub use numbers::read_number;
 pub use options::{push_blocks, push_options};
-pub use segments::{push_fields, push_summary};
+pub use segments::{push_fields, push_raw_summary, push_summary};

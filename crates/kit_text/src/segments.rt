@@ -1,6 +1,7 @@
 //! Segments (RFC 9293, 3.1): all fields, or a summary.
 ghost use Rattle.std.specs.Prelude.{◌≡◌, ◌++◌, OnOk, string_bytes, map, codes, decimal, length};
-ghost use Rattle.tcp_wire.specs.View.{content, option_content, block};
+ghost use Rattle.tcp_wire.specs.View.{content, raw_content, option_content, block};
+ghost use Rattle.kit_text.specs.Texts.{blocks_text};
 ghost use Rattle.kit_text.specs.Segments.{numbers_text, control_text, rest_text, fields_text, first_blocks, summary_text};
 
 use crate::bytes::push_bytes;
@@ -8,7 +9,7 @@ use crate::control_bits::push_flags;
 use crate::options::{push_blocks, push_options};
 use crate::room::{ROOM, push_from, put, put_number};
 use std::alloc::{AllocError, Allocator};
-use tcp_wire::{Segment, Seq, TcpOption};
+use tcp_wire::{Header, OptionsLeft, RawSegment, Segment, Seq, TcpOption};
 
 /// Ports and numbers.
 #[tactic(auto, unfolding(crate::specs::Segments::numbers_text))]
@@ -116,18 +117,22 @@ fn first_blocks<'a>(options: &'a [TcpOption<'_>]) -> &'a [(Seq, Seq)]
 }
 
 /// Numbers, window and the text's length.
-fn push_counts<A: Allocator>(text: &mut String<A>, segment: &Segment<'_>) -> Result<(), AllocError>
-    ensures { OnOk result (string_bytes text.new ≡ string_bytes text.old ++ (codes " seq " ++ (decimal segment.now.header.seq.0 ++ (codes " ack " ++ (decimal segment.now.header.ack.0 ++ (codes " window " ++ (decimal segment.now.header.window ++ (codes " text " ++ (decimal (length segment.now.text.now) ++ codes " sack "))))))))) }
+fn push_counts<A: Allocator>(
+    text: &mut String<A>,
+    header: &Header,
+    text_len: usize,
+) -> Result<(), AllocError>
+    ensures { OnOk result (string_bytes text.new ≡ string_bytes text.old ++ (codes " seq " ++ (decimal header.now.seq.0 ++ (codes " ack " ++ (decimal header.now.ack.0 ++ (codes " window " ++ (decimal header.now.window ++ (codes " text " ++ (decimal text_len ++ codes " sack "))))))))) }
 {
     let mut room = [0u8; ROOM];
     let at = put(&mut room, ROOM, " sack ");
-    let at = put_number(&mut room, at, segment.text.len() as u64);
+    let at = put_number(&mut room, at, text_len as u64);
     let at = put(&mut room, at, " text ");
-    let at = put_number(&mut room, at, u64::from(segment.header.window));
+    let at = put_number(&mut room, at, u64::from(header.window));
     let at = put(&mut room, at, " window ");
-    let at = put_number(&mut room, at, u64::from(segment.header.ack.0));
+    let at = put_number(&mut room, at, u64::from(header.ack.0));
     let at = put(&mut room, at, " ack ");
-    let at = put_number(&mut room, at, u64::from(segment.header.seq.0));
+    let at = put_number(&mut room, at, u64::from(header.seq.0));
     let at = put(&mut room, at, " seq ");
     push_from(text, &room, at)
 }
@@ -142,6 +147,36 @@ pub fn push_summary<A: Allocator>(
 {
     text.push_str("flags ")?;
     push_flags(text, segment.header.flags)?;
-    push_counts(text, segment)?;
+    push_counts(text, &segment.header, segment.text.len())?;
     push_blocks(text, first_blocks(segment.options.as_slice()))
+}
+
+/// Appends the blocks that the first option with blocks reports (RFC 2018, 3).
+fn push_first_blocks<A: Allocator>(
+    text: &mut String<A>,
+    options: OptionsLeft<'_>,
+) -> Result<(), AllocError>
+    ensures { OnOk result (string_bytes text.new ≡ string_bytes text.old ++ blocks_text (first_blocks options.entry)) }
+{
+    let mut left = options;
+    while let Some(option) = left.next() {
+        if let TcpOption::Sack(blocks) = option {
+            return push_blocks(text, blocks.as_slice());
+        }
+    }
+    push_blocks(text, &[])
+}
+
+/// Appends the same of a segment whose options stay where they came: few have any, so no list is made of them.
+#[tactic(auto, unfolding(crate::specs::Segments::summary_text))]
+pub fn push_raw_summary<A: Allocator>(
+    text: &mut String<A>,
+    segment: &RawSegment<'_>,
+) -> Result<(), AllocError>
+    ensures { OnOk result (string_bytes text.new ≡ string_bytes text.old ++ summary_text (raw_content segment.now)) }
+{
+    text.push_str("flags ")?;
+    push_flags(text, segment.header.flags)?;
+    push_counts(text, &segment.header, segment.text.len())?;
+    push_first_blocks(text, segment.options_left())
 }

@@ -1,6 +1,6 @@
 use Rattle.std.proofs.Common.{◌≡◌, length, string_bytes}
 use Rattle.kit_text.specs.Segments.{first_blocks}
-use Rattle.kit_report.proofs.summary.push_first_blocks.Given as goal
+use Rattle.kit_text.proofs.segments.push_first_blocks.Given as goal
 
 -- nothing is written yet, and no option with blocks was taken
 abbrev pub invariant-loop-option : goal.invariant-loop-option
