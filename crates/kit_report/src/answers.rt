@@ -3,7 +3,7 @@ ghost use Rattle.std.specs.Prelude.{◌≡◌, ◌++◌, OnOk, string_bytes};
 ghost use Rattle.tcp_wire.specs.Decoded.{decode_answer};
 ghost use Rattle.kit_report.specs.Answers.{refused_text, send_text, receive_text, segment_text, arrival_text};
 
-use kit_text::{push_bytes, push_fault, push_raw_summary};
+use kit_text::{push_bytes, push_fault, push_raw_summary, push_word_number};
 use std::alloc::{AllocError, Allocator};
 use tcp_conn::{Arrival, CallError, Received};
 use tcp_wire::{Addr, RawSegment};
@@ -23,7 +23,7 @@ pub fn push_send<A: Allocator>(
     ensures { OnOk result (string_bytes text.new ≡ string_bytes text.old ++ send_text answer) }
 {
     match answer {
-        Ok(count) => write!(text, "took {count}"),
+        Ok(count) => push_word_number(text, "took ", count as u64),
         Err(error) => push_refused(text, error.number()),
     }
 }

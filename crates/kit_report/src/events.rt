@@ -4,6 +4,7 @@ ghost use Rattle.tcp_replay.specs.Events.{event_content};
 ghost use Rattle.kit_report.specs.Events.{others_text, event_text};
 
 use kit_script::{kind_name, kind_of};
+use kit_text::push_word_number;
 use std::alloc::{AllocError, Allocator};
 use tcp_replay::Event;
 
@@ -12,9 +13,12 @@ fn push_others<A: Allocator>(text: &mut String<A>, event: &Event<A>) -> Result<(
     ensures { OnOk result (string_bytes text.new ≡ string_bytes text.old ++ others_text (event_content event.now)) }
 {
     match event {
-        Event::Receive(_, room) => write!(text, " {room}"),
-        Event::Timer(_, timer) => write!(text, " {timer}"),
-        Event::Deliver(_, k) => write!(text, " {k}"),
+        Event::Receive(_, room) => push_word_number(text, " ", *room as u64),
+        Event::Timer(_, timer) => {
+            text.push_str(" ")?;
+            text.push_str(timer.name())
+        }
+        Event::Deliver(_, k) => push_word_number(text, " ", *k as u64),
         Event::Damage(_, k, place, value) => write!(text, " {k} {place} {value}"),
         _ => Ok(()),
     }
@@ -28,8 +32,8 @@ pub(crate) fn push_event<A: Allocator>(
 ) -> Result<(), AllocError>
     ensures { OnOk result (string_bytes text.new ≡ string_bytes text.old ++ event_text (event_content event.now)) }
 {
-    let kind = kind_name(kind_of(event));
-    let side = event.side();
-    write!(text, "{kind} {side}")?;
+    text.push_str(kind_name(kind_of(event)))?;
+    text.push_str(" ")?;
+    text.push_str(event.side().name())?;
     push_others(text, event)
 }

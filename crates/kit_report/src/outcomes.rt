@@ -5,6 +5,7 @@ ghost use Rattle.kit_report.specs.Outcomes.{call_text, address_of_side, emission
 
 use crate::answers::{push_arrival, push_receive, push_refused, push_segment, push_send};
 use crate::names::yes_or_no;
+use kit_text::push_number_word;
 use std::alloc::{AllocError, Allocator};
 use tcp_conn::{CallError, Phase};
 use tcp_replay::{Outcome, Side, StepError, World};
@@ -44,7 +45,10 @@ fn push_call<A: Allocator>(
     ensures { OnOk result (string_bytes text.new ≡ string_bytes text.old ++ call_text answer phase) }
 {
     match answer {
-        Ok(()) => write!(text, "ok {phase}"),
+        Ok(()) => {
+            text.push_str("ok ")?;
+            text.push_str(phase.name())
+        }
         Err(error) => push_refused(text, error.number()),
     }
 }
@@ -60,7 +64,7 @@ fn push_emission<A: Allocator>(
     let Some(k) = emitted else {
         return text.push_str("none");
     };
-    write!(text, "{k} ")?;
+    push_number_word(text, k as u64, " ")?;
     let src = address_of(world, side);
     let dst = address_of(world, other(side));
     push_segment(text, src, dst, segment_at(world, side, k))
@@ -99,7 +103,8 @@ fn push_outcome<A: Allocator + Copy>(
         Outcome::Arrived(arrival) => {
             push_arrival(text, arrival)?;
             let phase = world.endpoint(other(side)).phase();
-            write!(text, " {phase}")
+            text.push_str(" ")?;
+            text.push_str(phase.name())
         }
     }
 }

@@ -9,6 +9,7 @@ ghost use Rattle.kit_report.specs.Report.{event_line, event_in_turn, turns_from,
 use crate::events::push_event;
 use crate::outcomes::{StepResult, is_refused, push_step_result};
 use kit_script::Turn;
+use kit_text::push_number_word;
 use std::alloc::{AllocError, Allocator};
 use tcp_replay::{Event, StepError, World};
 
@@ -42,7 +43,7 @@ fn push_event_line<A: Allocator + Copy>(
     let side = event.side();
     let had = world.delivered(side).len();
     let answer = apply(world, event)?;
-    write!(text, "{number} ")?;
+    push_number_word(text, number as u64, " ")?;
     push_event(text, event)?;
     text.push_str(" ")?;
     push_step_result(alloc, text, world, side, had, answer)?;

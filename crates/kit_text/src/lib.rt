@@ -27,6 +27,6 @@ pub use faults::{push_fault, push_named_fault};
 pub use line::LineError;
 pub use lines::Lines;
 pub use meaning::push_meaning;
-pub use numbers::read_number;
+pub use numbers::{push_number_word, push_word_number, read_number};
 pub use options::{push_blocks, push_options};
 pub use segments::{push_fields, push_raw_summary, push_summary};

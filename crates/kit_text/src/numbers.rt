@@ -1,6 +1,9 @@
 //! Numbers in text.
-ghost use Rattle.std.specs.Prelude.{◌≡◌, ◌≤◌, ◌+◌, ◌-◌, ◌*◌, ◌^◌, IfSome, IfNone};
+ghost use Rattle.std.specs.Prelude.{◌≡◌, ◌≤◌, ◌+◌, ◌++◌, ◌-◌, ◌*◌, ◌^◌, IfSome, IfNone, OnOk, decimal, length, string_bytes};
 ghost use Rattle.kit_text.specs.Words.{has_leading_zero, number_of};
+
+use crate::room::{ROOM, push_from, put, put_number};
+use std::alloc::{AllocError, Allocator};
 
 fn has_leading_zero(word: &[u8]) -> bool
     ensures { result ≡ has_leading_zero word.now }
@@ -36,4 +39,34 @@ pub fn read_number(word: &[u8], most: u64) -> Option<u64>
         return None;
     }
     Some(value)
+}
+
+/// Appends a word and then a number in decimal digits.
+pub fn push_word_number<A: Allocator>(
+    text: &mut String<A>,
+    word: &str,
+    number: u64,
+) -> Result<(), AllocError>
+    requires { length word.now ≤ 32 }
+    ensures { OnOk result (string_bytes text.new ≡ string_bytes text.old ++ (word.now ++ decimal number)) }
+{
+    let mut room = [0u8; ROOM];
+    let at = put_number(&mut room, ROOM, number);
+    let at = put(&mut room, at, word);
+    push_from(text, &room, at)
+}
+
+/// Appends a number in decimal digits and then a word.
+pub fn push_number_word<A: Allocator>(
+    text: &mut String<A>,
+    number: u64,
+    word: &str,
+) -> Result<(), AllocError>
+    requires { length word.now ≤ 32 }
+    ensures { OnOk result (string_bytes text.new ≡ string_bytes text.old ++ (decimal number ++ word.now)) }
+{
+    let mut room = [0u8; ROOM];
+    let at = put(&mut room, ROOM, word);
+    let at = put_number(&mut room, at, number);
+    push_from(text, &room, at)
 }
