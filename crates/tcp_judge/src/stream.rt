@@ -4,29 +4,42 @@ ghost use Rattle.std.specs.Vec.{vec_len};
 ghost use Rattle.tcp_judge.specs.Stream.{nothing_sent, count_sent, count_taken, with_text, agrees, changes_bytes, count_covered, without_front};
 
 use std::alloc::{AllocError, Allocator, Global};
+use std::fmt;
 use std::marker::Model;
 
 /// The greatest count of bytes that a stream has.
 const MAX_COUNT: u64 = (1 << 63) - 1;
 
 /// What an end sent, from the first byte on that isn't acknowledged.
-#[derive(Debug, Drop)]
+#[derive(Drop)]
 pub(crate) struct Stream<A: Allocator = Global> {
     /// How many bytes come before that.
     released: u64,
-    /// The bytes from there on, as far as they were sent without a gap.
-    sent: Vec<u8, A>,
+    /// How many of these still lie at the front of `bytes`.
+    start: usize,
+    /// These, and the bytes from there on, as far as they were sent without a gap.
+    bytes: Vec<u8, A>,
 }
 
 impl<A: Allocator> Model for Stream<A> {
-    ghost use Rattle.std.specs.Prelude.{◌+◌, ◌<◌, ◌^◌, length};
+    ghost use Rattle.std.specs.Prelude.{◌+◌, ◌<◌, ◌≤◌, ◌^◌, length, drop};
     ghost use Rattle.tcp_judge.specs.Stream.{Stream};
 
     ghost Value = { Stream };
 
-    ghost view = { λ d. record { released = d.released; sent = d.sent.items } };
+    ghost view = { λ d. record { released = d.released; sent = drop d.start d.bytes.items } };
 
-    ghost invariant = { λ d. d.released + length d.sent.items < 2 ^ 63 };
+    ghost invariant = { λ d. (d.start ≤ length d.bytes.items) × (d.released + length d.bytes.items < d.start + 2 ^ 63) };
+}
+
+impl<A: Allocator> fmt::Debug for Stream<A> {
+    fn fmt<W: fmt::Write>(&self, f: &mut fmt::Formatter<W>) -> fmt::Result {
+        let sent = &self.bytes[self.start..];
+        f.debug_struct("Stream")
+            .field("released", &self.released)
+            .field("sent", &sent)
+            .finish()
+    }
 }
 
 /// Whether the two are equal as far as both go.
@@ -53,7 +66,32 @@ impl<A: Allocator + Copy> Stream<A> {
     {
         Stream {
             released: 0,
-            sent: Vec::new(alloc),
+            start: 0,
+            bytes: Vec::new(alloc),
+        }
+    }
+
+    /// The bytes that are kept.
+    fn sent(&self) -> &[u8]
+        ensures { result.now ≡ self.now.sent }
+    {
+        &self.bytes[self.start..]
+    }
+
+    /// How many bytes are kept.
+    fn count_kept(&self) -> usize
+        ensures { result ≡ length self.now.sent }
+    {
+        self.bytes.len() - self.start
+    }
+
+    /// Moves the bytes that are kept to the front.
+    fn compact(&mut self)
+        ensures { self.new ≡ self.old }
+    {
+        if self.start > 0 {
+            remove_front(&mut self.bytes, self.start);
+            self.start = 0;
         }
     }
 
@@ -62,7 +100,7 @@ impl<A: Allocator + Copy> Stream<A> {
         ensures count { result ≡ count_sent self.now }
         ensures most { result < 2 ^ 63 }
     {
-        self.released + self.sent.len() as u64
+        self.released + self.count_kept() as u64
     }
 
     /// How many positions were sent without a gap, the SYN's and the FIN's among them.
@@ -78,14 +116,28 @@ impl<A: Allocator + Copy> Stream<A> {
         ensures { result ≡ changes_bytes self.now place text.now }
     {
         let first = 1 + self.released;
-        if place == 0 || place > self.released + self.sent.len() as u64 {
+        if place == 0 || place > self.count() {
             return false;
         }
         if place >= first {
-            return !agrees(&self.sent[(place - first) as usize..], text);
+            return !agrees(&self.sent()[(place - first) as usize..], text);
         }
         let before = (first - place) as usize;
-        before < text.len() && !agrees(&self.sent, &text[before..])
+        before < text.len() && !agrees(self.sent(), &text[before..])
+    }
+
+    /// Makes room for `n` bytes more, as far as there is memory. Where a third of the vector is forgotten, or it can't
+    /// grow, the bytes that are kept are moved in place of that.
+    fn make_room(&mut self, n: usize)
+        ensures { self.new ≡ self.old }
+    {
+        let spare = self.bytes.capacity() - self.bytes.len();
+        if n <= spare {
+            return;
+        }
+        if self.start >= self.count_kept() / 2 || self.bytes.reserve(n).is_err() {
+            self.compact();
+        }
     }
 
     /// Extends the stream by what a text has beyond its end. Memory is allocated first; a stream of 2^63 bytes has none.
@@ -93,7 +145,7 @@ impl<A: Allocator + Copy> Stream<A> {
         ensures sent { OnOk result (self.new ≡ with_text self.old place text.now) }
         ensures err { OnErr result (self.new ≡ self.old) }
     {
-        let count = self.released + self.sent.len() as u64;
+        let count = self.count();
         if place == 0 || place > 1 + count {
             return Ok(());
         }
@@ -102,8 +154,8 @@ impl<A: Allocator + Copy> Stream<A> {
             if (text.len() - known) as u64 > MAX_COUNT - count {
                 return Err(AllocError);
             }
-            self.sent.reserve(text.len() - known)?;
-            let _ = self.sent.extend_from_slice(&text[known..]);
+            self.make_room(text.len() - known);
+            self.bytes.extend_from_slice(&text[known..])?;
         }
         Ok(())
     }
@@ -117,16 +169,20 @@ impl<A: Allocator + Copy> Stream<A> {
             return 0;
         }
         let covered = position - (1 + self.released);
-        self.sent.len().min(covered as usize)
+        self.count_kept().min(covered as usize)
     }
 
-    /// Forgets the first bytes that are kept.
+    /// Forgets the first bytes that are kept. The others are moved once no more of them are left than were forgotten since
+    /// the last time.
     pub(crate) fn release(&mut self, n: usize)
         requires { n ≤ length self.old.sent }
         ensures { self.new ≡ without_front self.old n }
     {
         self.released += n as u64;
-        remove_front(&mut self.sent, n);
+        self.start += n;
+        if self.start >= self.count_kept() {
+            self.compact();
+        }
     }
 
     /// Forgets all that was sent.
@@ -134,6 +190,7 @@ impl<A: Allocator + Copy> Stream<A> {
         ensures { self.new ≡ nothing_sent }
     {
         self.released = 0;
-        self.sent.clear();
+        self.start = 0;
+        self.bytes.clear();
     }
 }
