@@ -1,6 +1,7 @@
 pub mod Log
 pub mod Taken
 pub mod Heard
+pub mod Run
 pub mod Reports
 pub mod Stream
 pub mod Known

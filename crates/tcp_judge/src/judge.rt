@@ -13,11 +13,12 @@ ghost use Rattle.tcp_judge.specs.Taken.{taken_of};
 use crate::finding::Finding;
 use crate::form::form_finding;
 use crate::heard::{
-    carries_ack, forget_passed, goes_further, is_of_came, keep_span, keep_syn, offers_sack,
-    offers_scale, oversteps,
+    carries_ack, goes_further, is_of_came, keep_span, keep_syn, offers_sack, offers_scale,
+    oversteps,
 };
 use crate::passage::Passage;
 use crate::reports::{any_report, options_finding};
+use crate::spans::Spans;
 use crate::stream::Stream;
 use crate::taken::read_taken;
 use std::alloc::{AllocError, Allocator, Global};
@@ -37,7 +38,7 @@ pub struct Judge<A: Allocator = Global> {
     /// Whether its SYN was acknowledged.
     acked: bool,
     /// The number of each segment that came, and how many numbers it takes, as far as they aren't acknowledged.
-    spans: Vec<(Seq, u32), A>,
+    spans: Spans<A>,
     /// The number of each SYN that came before anything was acknowledged, or behind a reset, since the last
     /// acknowledgement.
     syns: Vec<Seq, A>,
@@ -56,7 +57,7 @@ impl<A: Allocator> Model for Judge<A> {
 
     ghost Value = { Known };
 
-    ghost view = { λ j. record { initial = j.initial; stream = j.stream; fin = j.fin; acked = j.acked; heard = record { spans = j.spans.items; syns = j.syns.items; acked_number = j.acked_number; reset = j.reset; scaling = j.scaling; sack = j.sack } } };
+    ghost view = { λ j. record { initial = j.initial; stream = j.stream; fin = j.fin; acked = j.acked; heard = record { spans = j.spans; syns = j.syns.items; acked_number = j.acked_number; reset = j.reset; scaling = j.scaling; sack = j.sack } } };
 }
 
 fn is_syn(segment: &Segment<'_>) -> bool
@@ -133,7 +134,7 @@ impl<A: Allocator + Copy> Judge<A> {
             stream: Stream::new(alloc),
             fin: None,
             acked: false,
-            spans: Vec::new(alloc),
+            spans: Spans::new(alloc),
             syns: Vec::new(alloc),
             acked_number: None,
             reset: false,
@@ -239,7 +240,7 @@ impl<A: Allocator + Copy> Judge<A> {
     {
         goes_further(
             self.acked_number,
-            self.spans.as_slice(),
+            &self.spans,
             self.syns.as_slice(),
             segment,
         )
@@ -264,11 +265,7 @@ impl<A: Allocator + Copy> Judge<A> {
         if any_report(options) && !self.sack {
             return Some(Finding::Unpermitted);
         }
-        options_finding(
-            self.acked_number_after(segment),
-            self.spans.as_slice(),
-            options,
-        )
+        options_finding(self.acked_number_after(segment), &self.spans, options)
     }
 
     /// Whether the acknowledgement covers what didn't come, or is less than an earlier one.
@@ -278,10 +275,19 @@ impl<A: Allocator + Copy> Judge<A> {
         carries_ack(segment)
             && !is_of_came(
                 self.acked_number,
-                self.spans.as_slice(),
+                &self.spans,
                 self.syns.as_slice(),
                 segment.header.ack,
             )
+    }
+
+    /// Readies what came for what is asked of it, where the segment has an acknowledgement.
+    fn note_spans(&mut self, segment: &Segment<'_>)
+        ensures { self.new ≡ self.old }
+    {
+        if carries_ack(segment) {
+            self.spans.note();
+        }
     }
 
     /// Adds the acknowledgement of a segment that was sent, and forgets what came before it.
@@ -291,7 +297,7 @@ impl<A: Allocator + Copy> Judge<A> {
         if !self.goes_further(segment) {
             return;
         }
-        forget_passed(&mut self.spans, segment.header.ack);
+        self.spans.forget(segment.header.ack);
         self.syns.clear();
         self.acked_number = Some(segment.header.ack);
     }
@@ -370,9 +376,8 @@ impl<A: Allocator + Copy> Judge<A> {
         let Some(segment) = read_taken(src, dst, bytes) else {
             return Ok(());
         };
-        self.spans.reserve(1)?;
         self.syns.reserve(1)?;
-        keep_span(&mut self.spans, &segment);
+        keep_span(&mut self.spans, &segment)?;
         keep_syn(self.acked_number, self.reset, &mut self.syns, &segment);
         self.follow(&segment);
         self.reset = self.reset || segment.header.flags.is_rst();
@@ -398,6 +403,7 @@ impl<A: Allocator + Copy> Judge<A> {
             Ok(segment) => segment,
             Err(fault) => return Ok(Some(Finding::Unreadable(fault))),
         };
+        self.note_spans(&segment);
         let place = self.place(&segment);
         let finding = self.finding(place, &segment);
         self.learn(place, &segment)?;

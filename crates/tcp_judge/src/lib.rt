@@ -20,8 +20,11 @@ mod headline;
 mod heard;
 mod judge;
 mod judging;
+mod lookup;
 mod passage;
 mod reports;
+mod run_list;
+mod spans;
 mod stream;
 mod taken;
 

@@ -4,7 +4,9 @@ ghost use Rattle.tcp_wire.specs.View.{block, option_content};
 ghost use Rattle.tcp_judge.specs.Reports.{is_report, any_report, is_ahead, is_block, block_finding, option_finding, options_finding};
 
 use crate::finding::Finding;
-use crate::heard::{goes_on, is_from};
+use crate::lookup::is_from;
+use crate::spans::Spans;
+use std::alloc::Allocator;
 use tcp_wire::{Seq, TcpOption};
 
 fn is_report(option: &TcpOption<'_>) -> bool
@@ -39,17 +41,20 @@ fn is_ahead(acked_number: Option<Seq>, edges: (Seq, Seq)) -> bool
 }
 
 /// Whether a block is of what came, as far as that isn't forgotten.
-fn is_block(acked_number: Option<Seq>, spans: &[(Seq, u32)], edges: (Seq, Seq)) -> bool
+fn is_block<A: Allocator + Copy>(
+    acked_number: Option<Seq>,
+    spans: &Spans<A>,
+    edges: (Seq, Seq),
+) -> bool
     ensures { result ≡ is_block acked_number spans.now (block edges) }
 {
-    is_from(edges.0, edges.1)
-        && (!is_ahead(acked_number, edges) || goes_on(spans, edges.0, edges.1))
+    is_from(edges.0, edges.1) && (!is_ahead(acked_number, edges) || spans.goes_on(edges.0, edges.1))
 }
 
 /// The first block of what didn't come.
-fn block_finding(
+fn block_finding<A: Allocator + Copy>(
     acked_number: Option<Seq>,
-    spans: &[(Seq, u32)],
+    spans: &Spans<A>,
     blocks: &[(Seq, Seq)],
 ) -> Option<Finding>
     ensures { result ≡ block_finding acked_number spans.now (map block blocks.now) }
@@ -62,9 +67,9 @@ fn block_finding(
     None
 }
 
-fn option_finding(
+fn option_finding<A: Allocator + Copy>(
     acked_number: Option<Seq>,
-    spans: &[(Seq, u32)],
+    spans: &Spans<A>,
     option: &TcpOption<'_>,
 ) -> Option<Finding>
     ensures { result ≡ option_finding acked_number spans.now (option_content option.now) }
@@ -76,9 +81,9 @@ fn option_finding(
 }
 
 /// The first block of all options that is of what didn't come. Blocks before `acked_number` are passed over.
-pub(crate) fn options_finding(
+pub(crate) fn options_finding<A: Allocator + Copy>(
     acked_number: Option<Seq>,
-    spans: &[(Seq, u32)],
+    spans: &Spans<A>,
     options: &[TcpOption<'_>],
 ) -> Option<Finding>
     ensures { result ≡ options_finding acked_number spans.now (map option_content options.now) }

@@ -6,4 +6,4 @@ use Rattle.tcp_judge.proofs.reports.block_finding.Given as goal
 
 -- it is asked of the blocks that are left
 abbrev pub invariant-loop-edges : goal.invariant-loop-edges
-invariant-loop-edges l = block_finding l.acked_number l.spans (map block l.blocks) ≡ block_finding l.acked_number l.spans (map block (drop l.edges-index l.blocks))
+invariant-loop-edges g l = block_finding l.acked_number l.spans (map block l.blocks) ≡ block_finding l.acked_number l.spans (map block (drop l.edges-index l.blocks))

@@ -6,5 +6,5 @@ use Rattle.tcp_judge.proofs.reports.options_finding.Given as goal
 
 -- it is asked of the options that are left
 abbrev pub invariant-loop-option : goal.invariant-loop-option
-invariant-loop-option l =
+invariant-loop-option g l =
     options_finding l.acked_number l.spans (map option_content l.options) ≡ options_finding l.acked_number l.spans (map option_content (drop l.option-index l.options))

@@ -4,7 +4,7 @@ use Rattle.std.proofs.lemmas.Bool.{cases_lt}
 use Rattle.tcp_wire.specs.Position.{number}
 use Rattle.tcp_judge.specs.Heard.{has_come}
 use Rattle.tcp_judge.proofs.Numbers.{all-came, one-missing, number-on}
-use Rattle.tcp_judge.proofs.heard.all_came.Goals as goal
+use Rattle.tcp_judge.proofs.lookup.all_came.Goals as goal
 
 pub returns : goal.returns
 returns c = sym (all-came c.args.spans.now c.args.from.0 c.args.count (λ j less. c.loop-i.invariant.0 j (omega (arith, c.loop-i-test.false, less))))

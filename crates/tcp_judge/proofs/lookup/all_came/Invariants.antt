@@ -2,7 +2,7 @@ use Rattle.std.proofs.Common.{◌≡◌, ℕ, ◌-◌, ◌<◌, ◌≤◌, lengt
 use Rattle.std.specs.Prelude.{true}
 use Rattle.tcp_wire.specs.Position.{number}
 use Rattle.tcp_judge.specs.Heard.{has_come}
-use Rattle.tcp_judge.proofs.heard.all_came.Given as goal
+use Rattle.tcp_judge.proofs.lookup.all_came.Given as goal
 
 -- each number so far came
 abbrev pub invariant-loop-i : goal.invariant-loop-i

@@ -1,6 +1,6 @@
 use Rattle.tcp_wire.specs.Position.{number}
 use Rattle.tcp_judge.proofs.Numbers.{come-at}
-use Rattle.tcp_judge.proofs.heard.left_in.Goals as goal
+use Rattle.tcp_judge.proofs.lookup.left_in.Goals as goal
 
 pub returns-then-left-gt0-clause-came : goal.returns-then-left-gt0-clause-came
 returns-then-left-gt0-clause-came c j less =

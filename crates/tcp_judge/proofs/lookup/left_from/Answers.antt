@@ -4,7 +4,7 @@ use Rattle.tcp_numbers.specs.declared.seq.Seq.{Seq}
 use Rattle.tcp_wire.specs.Position.{number}
 use Rattle.tcp_judge.specs.Heard.{has_come}
 use Rattle.tcp_judge.proofs.Numbers.{come-behind, come-before, come-neither}
-use Rattle.tcp_judge.proofs.heard.left_from.Goals as goal
+use Rattle.tcp_judge.proofs.lookup.left_from.Goals as goal
 
 -- the rest of a slice is all behind an index
 rest : (spans : List (Seq × ℕ)) (at : ℕ) → take (length spans - at) (drop at spans) ≡ drop at spans
