@@ -1,8 +1,8 @@
 //! The rule of acknowledgements: what came, as numbers.
-ghost use Rattle.std.specs.Prelude.{◌≡◌, ◌<◌, ◌≤◌, ◌&&◌, ◌++◌, OnOk, OnErr, not, length, map};
+ghost use Rattle.std.specs.Prelude.{◌≡◌, ◌<◌, ◌≤◌, ◌&&◌, ◌++◌, OnOk, OnErr, not, length};
 ghost use Rattle.std.specs.Vec.{vec_len, vec_capacity};
 ghost use Rattle.tcp_wire.specs.Flags.{syn, ack, has};
-ghost use Rattle.tcp_wire.specs.View.{content, option_content};
+ghost use Rattle.tcp_wire.specs.View.{raw_content, option_content};
 ghost use Rattle.tcp_wire.specs.Wire.{max_text_len};
 ghost use Rattle.tcp_conn.specs.Judgement.{count_numbers};
 ghost use Rattle.tcp_judge.specs.Heard.{is_scale, any_scale, is_permission, any_permission, begins, is_of_came, carries_ack, is_further, spans_of, may_open, syns_of};
@@ -10,12 +10,12 @@ ghost use Rattle.tcp_judge.specs.Heard.{is_scale, any_scale, is_permission, any_
 use crate::lookup::is_from;
 use crate::spans::Spans;
 use std::alloc::{AllocError, Allocator};
-use tcp_wire::{Segment, Seq, TcpOption};
+use tcp_wire::{OptionsLeft, RawSegment, Seq, TcpOption};
 
 /// How many numbers SYN, text and FIN take, SEG.LEN (RFC 9293, 3.4).
-fn count_numbers(segment: &Segment<'_>) -> u32
+fn count_numbers(segment: &RawSegment<'_>) -> u32
     requires { length segment.now.text.now ≤ max_text_len }
-    ensures { result ≡ count_numbers (content segment.now) }
+    ensures { result ≡ count_numbers (raw_content segment.now) }
 {
     let flags = segment.header.flags;
     let mut count = segment.text.len() as u32;
@@ -28,8 +28,8 @@ fn count_numbers(segment: &Segment<'_>) -> u32
     count
 }
 
-pub(crate) fn carries_ack(segment: &Segment<'_>) -> bool
-    ensures { result ≡ carries_ack (content segment.now) }
+pub(crate) fn carries_ack(segment: &RawSegment<'_>) -> bool
+    ensures { result ≡ carries_ack (raw_content segment.now) }
 {
     segment.header.flags.is_ack() && !segment.header.flags.is_rst()
 }
@@ -44,11 +44,12 @@ fn is_scale(option: &TcpOption<'_>) -> bool
 }
 
 /// Whether a window scale is among the options.
-fn any_scale(options: &[TcpOption<'_>]) -> bool
-    ensures { result ≡ any_scale (map option_content options.now) }
+fn any_scale(options: OptionsLeft<'_>) -> bool
+    ensures { result ≡ any_scale options.entry }
 {
-    for option in options {
-        if is_scale(option) {
+    let mut left = options;
+    while let Some(option) = left.next() {
+        if is_scale(&option) {
             return true;
         }
     }
@@ -65,11 +66,12 @@ fn is_permission(option: &TcpOption<'_>) -> bool
 }
 
 /// Whether selective acknowledgement is permitted by one of the options.
-fn any_permission(options: &[TcpOption<'_>]) -> bool
-    ensures { result ≡ any_permission (map option_content options.now) }
+fn any_permission(options: OptionsLeft<'_>) -> bool
+    ensures { result ≡ any_permission options.entry }
 {
-    for option in options {
-        if is_permission(option) {
+    let mut left = options;
+    while let Some(option) = left.next() {
+        if is_permission(&option) {
             return true;
         }
     }
@@ -77,25 +79,25 @@ fn any_permission(options: &[TcpOption<'_>]) -> bool
 }
 
 /// Whether it is a SYN with a window scale.
-pub(crate) fn offers_scale(segment: &Segment<'_>) -> bool
-    ensures { result ≡ (has syn (content segment.now).flags && any_scale (content segment.now).options) }
+pub(crate) fn offers_scale(segment: &RawSegment<'_>) -> bool
+    ensures { result ≡ (has syn (raw_content segment.now).flags && any_scale (raw_content segment.now).options) }
 {
-    segment.header.flags.is_syn() && any_scale(segment.options.as_slice())
+    segment.header.flags.is_syn() && any_scale(segment.options_left())
 }
 
 /// Whether it is a SYN that permits selective acknowledgement.
-pub(crate) fn offers_sack(segment: &Segment<'_>) -> bool
-    ensures { result ≡ (has syn (content segment.now).flags && any_permission (content segment.now).options) }
+pub(crate) fn offers_sack(segment: &RawSegment<'_>) -> bool
+    ensures { result ≡ (has syn (raw_content segment.now).flags && any_permission (raw_content segment.now).options) }
 {
-    segment.header.flags.is_syn() && any_permission(segment.options.as_slice())
+    segment.header.flags.is_syn() && any_permission(segment.options_left())
 }
 
 /// Whether a SYN that acknowledges another has a window scale that wasn't offered.
-pub(crate) fn oversteps(scaling: bool, segment: &Segment<'_>) -> bool
-    ensures { result ≡ ((has syn (content segment.now).flags && has ack (content segment.now).flags) && (any_scale (content segment.now).options && not scaling)) }
+pub(crate) fn oversteps(scaling: bool, segment: &RawSegment<'_>) -> bool
+    ensures { result ≡ ((has syn (raw_content segment.now).flags && has ack (raw_content segment.now).flags) && (any_scale (raw_content segment.now).options && not scaling)) }
 {
     let is_answer = segment.header.flags.is_syn() && segment.header.flags.is_ack();
-    is_answer && (any_scale(segment.options.as_slice()) && !scaling)
+    is_answer && (any_scale(segment.options_left()) && !scaling)
 }
 
 fn begins<A: Allocator + Copy>(spans: &Spans<A>, syns: &[Seq], acked_number: Seq) -> bool
@@ -144,9 +146,9 @@ pub(crate) fn goes_further<A: Allocator + Copy>(
     last: Option<Seq>,
     spans: &Spans<A>,
     syns: &[Seq],
-    segment: &Segment<'_>,
+    segment: &RawSegment<'_>,
 ) -> bool
-    ensures { result ≡ (carries_ack (content segment.now) && is_further last spans.now syns.now (content segment.now).ack) }
+    ensures { result ≡ (carries_ack (raw_content segment.now) && is_further last spans.now syns.now (raw_content segment.now).ack) }
 {
     carries_ack(segment) && is_further(last, spans, syns, segment.header.ack)
 }
@@ -154,10 +156,10 @@ pub(crate) fn goes_further<A: Allocator + Copy>(
 /// Adds a segment that came, where it takes a number.
 pub(crate) fn keep_span<A: Allocator + Copy>(
     spans: &mut Spans<A>,
-    segment: &Segment<'_>,
+    segment: &RawSegment<'_>,
 ) -> Result<(), AllocError>
     requires { length segment.now.text.now ≤ max_text_len }
-    ensures kept { OnOk result (spans.new ≡ spans.old ++ spans_of (content segment.now)) }
+    ensures kept { OnOk result (spans.new ≡ spans.old ++ spans_of (raw_content segment.now)) }
     ensures err { OnErr result (spans.new ≡ spans.old) }
 {
     let count = count_numbers(segment);
@@ -182,10 +184,10 @@ pub(crate) fn keep_syn<A: Allocator>(
     acked_number: Option<Seq>,
     reset: bool,
     syns: &mut Vec<Seq, A>,
-    segment: &Segment<'_>,
+    segment: &RawSegment<'_>,
 )
     requires room { vec_len syns.old < vec_capacity syns.old }
-    ensures { syns.new.items ≡ syns.old.items ++ syns_of acked_number reset (content segment.now) }
+    ensures { syns.new.items ≡ syns.old.items ++ syns_of acked_number reset (raw_content segment.now) }
 {
     if segment.header.flags.is_syn() && may_open(acked_number, reset) {
         syns.push_reserved(segment.header.seq);

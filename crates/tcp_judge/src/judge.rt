@@ -1,7 +1,7 @@
 //! What is known of an end's own direction, and the rules of positions.
 ghost use Rattle.std.specs.Prelude.{◌≡◌, ◌+◌, ◌<◌, ◌≤◌, ◌^◌, IfOk, OnOk, OnErr, length};
 ghost use Rattle.tcp_wire.specs.Decoded.{decode_answer};
-ghost use Rattle.tcp_wire.specs.View.{content};
+ghost use Rattle.tcp_wire.specs.View.{raw_content};
 ghost use Rattle.tcp_wire.specs.Wire.{max_text_len};
 ghost use Rattle.tcp_judge.specs.Known.{nothing_known, is_syn, initial_after, place_of, is_keep_alive, known_after, count_acked, acks_syn, known_with};
 ghost use Rattle.tcp_judge.specs.Heard.{acks_beyond, goes_further, acked_number_after, after_went};
@@ -23,7 +23,7 @@ use crate::stream::Stream;
 use crate::taken::read_taken;
 use std::alloc::{AllocError, Allocator, Global};
 use std::marker::Model;
-use tcp_wire::{Addr, Segment, Seq, decode};
+use tcp_wire::{Addr, RawSegment, Seq};
 
 /// Takes the segments of one connection in the order of the end that is judged. It keeps what isn't acknowledged of what
 /// was sent, and of what came. A clause sees it as what is known up to now.
@@ -60,14 +60,14 @@ impl<A: Allocator> Model for Judge<A> {
     ghost view = { λ j. record { initial = j.initial; stream = j.stream; fin = j.fin; acked = j.acked; heard = record { spans = j.spans; syns = j.syns.items; acked_number = j.acked_number; reset = j.reset; scaling = j.scaling; sack = j.sack } } };
 }
 
-fn is_syn(segment: &Segment<'_>) -> bool
-    ensures { result ≡ is_syn (content segment.now) }
+fn is_syn(segment: &RawSegment<'_>) -> bool
+    ensures { result ≡ is_syn (raw_content segment.now) }
 {
     segment.header.flags.is_syn() && !segment.header.flags.is_rst()
 }
 
-fn initial_after(known: Option<Seq>, segment: &Segment<'_>) -> Option<Seq>
-    ensures { result ≡ initial_after known (content segment.now) }
+fn initial_after(known: Option<Seq>, segment: &RawSegment<'_>) -> Option<Seq>
+    ensures { result ≡ initial_after known (raw_content segment.now) }
 {
     match known {
         Some(number) => Some(number),
@@ -81,8 +81,8 @@ fn initial_after(known: Option<Seq>, segment: &Segment<'_>) -> Option<Seq>
     }
 }
 
-fn initial_by(known: Option<Seq>, segment: &Segment<'_>) -> Option<Finding>
-    ensures { result ≡ initial_by known (content segment.now) }
+fn initial_by(known: Option<Seq>, segment: &RawSegment<'_>) -> Option<Finding>
+    ensures { result ≡ initial_by known (raw_content segment.now) }
 {
     let Some(first) = known else {
         return None;
@@ -95,8 +95,8 @@ fn initial_by(known: Option<Seq>, segment: &Segment<'_>) -> Option<Finding>
 }
 
 /// The FIN's rule, where text is known to end before `behind` and the segment ends before `end`.
-fn fin_by(known: Option<u64>, behind: u64, end: u64, segment: &Segment<'_>) -> Option<Finding>
-    ensures { result ≡ fin_by known behind end (content segment.now) }
+fn fin_by(known: Option<u64>, behind: u64, end: u64, segment: &RawSegment<'_>) -> Option<Finding>
+    ensures { result ≡ fin_by known behind end (raw_content segment.now) }
 {
     let is_fin = segment.header.flags.is_fin();
     match known {
@@ -144,8 +144,8 @@ impl<A: Allocator + Copy> Judge<A> {
     }
 
     /// The position where the segment's text begins, or 0.
-    fn place(&self, segment: &Segment<'_>) -> u64
-        ensures place { result ≡ place_of self.now (content segment.now) }
+    fn place(&self, segment: &RawSegment<'_>) -> u64
+        ensures place { result ≡ place_of self.now (raw_content segment.now) }
         ensures most { result < 2 ^ 63 + 2 ^ 32 }
     {
         let Some(number) = initial_after(self.initial, segment) else {
@@ -163,10 +163,10 @@ impl<A: Allocator + Copy> Judge<A> {
         }
     }
 
-    fn fin_finding(&self, place: u64, segment: &Segment<'_>) -> Option<Finding>
+    fn fin_finding(&self, place: u64, segment: &RawSegment<'_>) -> Option<Finding>
         requires place { place < 2 ^ 63 + 2 ^ 32 }
         requires short { length segment.now.text.now ≤ max_text_len }
-        ensures { result ≡ fin_finding self.now place (content segment.now) }
+        ensures { result ≡ fin_finding self.now place (raw_content segment.now) }
     {
         if place == 0 {
             return None;
@@ -176,9 +176,9 @@ impl<A: Allocator + Copy> Judge<A> {
     }
 
     /// Whether it is a keep-alive with a byte (RFC 9293, 3.8.4).
-    fn is_keep_alive(&self, place: u64, segment: &Segment<'_>) -> bool
+    fn is_keep_alive(&self, place: u64, segment: &RawSegment<'_>) -> bool
         requires { place < 2 ^ 63 + 2 ^ 32 }
-        ensures { result ≡ is_keep_alive self.now place (content segment.now) }
+        ensures { result ≡ is_keep_alive self.now place (raw_content segment.now) }
     {
         let flags = segment.header.flags;
         (segment.text.len() == 1 && place + 1 == self.stream.count_taken(self.fin.is_some()))
@@ -186,10 +186,10 @@ impl<A: Allocator + Copy> Judge<A> {
     }
 
     /// The first rule of text and FIN that the segment breaks.
-    fn text_finding(&self, place: u64, segment: &Segment<'_>) -> Option<Finding>
+    fn text_finding(&self, place: u64, segment: &RawSegment<'_>) -> Option<Finding>
         requires place { place < 2 ^ 63 + 2 ^ 32 }
         requires short { length segment.now.text.now ≤ max_text_len }
-        ensures { result ≡ text_finding self.now place (content segment.now) }
+        ensures { result ≡ text_finding self.now place (raw_content segment.now) }
     {
         if self.stream.changes_bytes(place, segment.text) {
             return Some(Finding::OtherByte(segment.header.seq));
@@ -198,10 +198,10 @@ impl<A: Allocator + Copy> Judge<A> {
     }
 
     /// The first rule of positions that the segment breaks.
-    fn position_finding(&self, place: u64, segment: &Segment<'_>) -> Option<Finding>
+    fn position_finding(&self, place: u64, segment: &RawSegment<'_>) -> Option<Finding>
         requires place { place < 2 ^ 63 + 2 ^ 32 }
         requires short { length segment.now.text.now ≤ max_text_len }
-        ensures { result ≡ position_finding self.now place (content segment.now) }
+        ensures { result ≡ position_finding self.now place (raw_content segment.now) }
     {
         if let Some(finding) = initial_by(self.initial, segment) {
             return Some(finding);
@@ -213,11 +213,11 @@ impl<A: Allocator + Copy> Judge<A> {
     }
 
     /// The first rule that the segment breaks.
-    fn finding(&self, place: u64, segment: &Segment<'_>) -> Option<Finding>
-        requires place { place ≡ place_of self.now (content segment.now) }
+    fn finding(&self, place: u64, segment: &RawSegment<'_>) -> Option<Finding>
+        requires place { place ≡ place_of self.now (raw_content segment.now) }
         requires most { place < 2 ^ 63 + 2 ^ 32 }
         requires short { length segment.now.text.now ≤ max_text_len }
-        ensures { result ≡ finding_of self.now (content segment.now) }
+        ensures { result ≡ finding_of self.now (raw_content segment.now) }
     {
         if let Some(finding) = form_finding(segment) {
             return Some(finding);
@@ -235,8 +235,8 @@ impl<A: Allocator + Copy> Judge<A> {
     }
 
     /// Whether the acknowledgement is the furthest one from then on.
-    fn goes_further(&self, segment: &Segment<'_>) -> bool
-        ensures { result ≡ goes_further self.now.heard (content segment.now) }
+    fn goes_further(&self, segment: &RawSegment<'_>) -> bool
+        ensures { result ≡ goes_further self.now.heard (raw_content segment.now) }
     {
         goes_further(
             self.acked_number,
@@ -247,8 +247,8 @@ impl<A: Allocator + Copy> Judge<A> {
     }
 
     /// The furthest acknowledgement, that of this segment included.
-    fn acked_number_after(&self, segment: &Segment<'_>) -> Option<Seq>
-        ensures { result ≡ acked_number_after self.now.heard (content segment.now) }
+    fn acked_number_after(&self, segment: &RawSegment<'_>) -> Option<Seq>
+        ensures { result ≡ acked_number_after self.now.heard (raw_content segment.now) }
     {
         if self.goes_further(segment) {
             Some(segment.header.ack)
@@ -258,19 +258,22 @@ impl<A: Allocator + Copy> Judge<A> {
     }
 
     /// The first rule of blocks that the segment breaks.
-    fn report_finding(&self, segment: &Segment<'_>) -> Option<Finding>
-        ensures { result ≡ report_finding self.now.heard (content segment.now) }
+    fn report_finding(&self, segment: &RawSegment<'_>) -> Option<Finding>
+        ensures { result ≡ report_finding self.now.heard (raw_content segment.now) }
     {
-        let options = segment.options.as_slice();
-        if any_report(options) && !self.sack {
+        if any_report(segment.options_left()) && !self.sack {
             return Some(Finding::Unpermitted);
         }
-        options_finding(self.acked_number_after(segment), &self.spans, options)
+        options_finding(
+            self.acked_number_after(segment),
+            &self.spans,
+            segment.options_left(),
+        )
     }
 
     /// Whether the acknowledgement covers what didn't come, or is less than an earlier one.
-    fn acks_beyond(&self, segment: &Segment<'_>) -> bool
-        ensures { result ≡ acks_beyond self.now.heard (content segment.now) }
+    fn acks_beyond(&self, segment: &RawSegment<'_>) -> bool
+        ensures { result ≡ acks_beyond self.now.heard (raw_content segment.now) }
     {
         carries_ack(segment)
             && !is_of_came(
@@ -282,7 +285,7 @@ impl<A: Allocator + Copy> Judge<A> {
     }
 
     /// Readies what came for what is asked of it, where the segment has an acknowledgement.
-    fn note_spans(&mut self, segment: &Segment<'_>)
+    fn note_spans(&mut self, segment: &RawSegment<'_>)
         ensures { self.new ≡ self.old }
     {
         if carries_ack(segment) {
@@ -291,8 +294,8 @@ impl<A: Allocator + Copy> Judge<A> {
     }
 
     /// Adds the acknowledgement of a segment that was sent, and forgets what came before it.
-    fn tell(&mut self, segment: &Segment<'_>)
-        ensures { self.new ≡ record self.old { heard = after_went self.old.heard (content segment.now) } }
+    fn tell(&mut self, segment: &RawSegment<'_>)
+        ensures { self.new ≡ record self.old { heard = after_went self.old.heard (raw_content segment.now) } }
     {
         if !self.goes_further(segment) {
             return;
@@ -303,11 +306,11 @@ impl<A: Allocator + Copy> Judge<A> {
     }
 
     /// Adds a segment that was sent to what is known.
-    fn learn(&mut self, place: u64, segment: &Segment<'_>) -> Result<(), AllocError>
-        requires place { place ≡ place_of self.old (content segment.now) }
+    fn learn(&mut self, place: u64, segment: &RawSegment<'_>) -> Result<(), AllocError>
+        requires place { place ≡ place_of self.old (raw_content segment.now) }
         requires most { place < 2 ^ 63 + 2 ^ 32 }
         requires short { length segment.now.text.now ≤ max_text_len }
-        ensures known { OnOk result (self.new ≡ known_after self.old (content segment.now)) }
+        ensures known { OnOk result (self.new ≡ known_after self.old (raw_content segment.now)) }
         ensures err { OnErr result (self.new ≡ self.old) }
     {
         if !self.is_keep_alive(place, segment) {
@@ -322,8 +325,8 @@ impl<A: Allocator + Copy> Judge<A> {
     }
 
     /// How many of the bytes that are kept a segment that came acknowledges.
-    fn count_acked(&self, segment: &Segment<'_>) -> usize
-        ensures count { result ≡ count_acked self.now (content segment.now) }
+    fn count_acked(&self, segment: &RawSegment<'_>) -> usize
+        ensures count { result ≡ count_acked self.now (raw_content segment.now) }
         ensures most { result ≤ length self.now.stream.sent }
     {
         let Some(number) = self.initial else {
@@ -337,8 +340,8 @@ impl<A: Allocator + Copy> Judge<A> {
     }
 
     /// Whether a segment that came acknowledges the SYN, and no more than was sent.
-    fn acks_syn(&self, segment: &Segment<'_>) -> bool
-        ensures { result ≡ acks_syn self.now (content segment.now) }
+    fn acks_syn(&self, segment: &RawSegment<'_>) -> bool
+        ensures { result ≡ acks_syn self.now (raw_content segment.now) }
     {
         let Some(number) = self.initial else {
             return false;
@@ -352,8 +355,8 @@ impl<A: Allocator + Copy> Judge<A> {
 
     /// What a segment that came changes of what was sent: what it acknowledges is forgotten, and all where it leads back
     /// to where nothing is sent.
-    fn follow(&mut self, segment: &Segment<'_>)
-        ensures { self.new ≡ record (known_with self.old (content segment.now)) { heard = self.old.heard } }
+    fn follow(&mut self, segment: &RawSegment<'_>)
+        ensures { self.new ≡ record (known_with self.old (raw_content segment.now)) { heard = self.old.heard } }
     {
         let acks_syn = self.acks_syn(segment);
         if segment.header.flags.is_rst() && !self.acked {
@@ -399,7 +402,7 @@ impl<A: Allocator + Copy> Judge<A> {
         ensures known { OnOk result (self.new ≡ known_read self.old (decode_answer src.0 dst.0 bytes.now)) }
         ensures err { OnErr result (self.new ≡ self.old) }
     {
-        let segment = match decode(src, dst, bytes) {
+        let segment = match RawSegment::parse(src, dst, bytes) {
             Ok(segment) => segment,
             Err(fault) => return Ok(Some(Finding::Unreadable(fault))),
         };

@@ -7,7 +7,7 @@ use crate::finding::Finding;
 use crate::lookup::is_from;
 use crate::spans::Spans;
 use std::alloc::Allocator;
-use tcp_wire::{Seq, TcpOption};
+use tcp_wire::{OptionsLeft, Seq, TcpOption};
 
 fn is_report(option: &TcpOption<'_>) -> bool
     ensures { result ≡ is_report (option_content option.now) }
@@ -19,11 +19,12 @@ fn is_report(option: &TcpOption<'_>) -> bool
 }
 
 /// Whether blocks are reported by one of the options.
-pub(crate) fn any_report(options: &[TcpOption<'_>]) -> bool
-    ensures { result ≡ any_report (map option_content options.now) }
+pub(crate) fn any_report(options: OptionsLeft<'_>) -> bool
+    ensures { result ≡ any_report options.entry }
 {
-    for option in options {
-        if is_report(option) {
+    let mut left = options;
+    while let Some(option) = left.next() {
+        if is_report(&option) {
             return true;
         }
     }
@@ -84,12 +85,13 @@ fn option_finding<A: Allocator + Copy>(
 pub(crate) fn options_finding<A: Allocator + Copy>(
     acked_number: Option<Seq>,
     spans: &Spans<A>,
-    options: &[TcpOption<'_>],
+    options: OptionsLeft<'_>,
 ) -> Option<Finding>
-    ensures { result ≡ options_finding acked_number spans.now (map option_content options.now) }
+    ensures { result ≡ options_finding acked_number spans.now options.entry }
 {
-    for option in options {
-        if let Some(finding) = option_finding(acked_number, spans, option) {
+    let mut left = options;
+    while let Some(option) = left.next() {
+        if let Some(finding) = option_finding(acked_number, spans, &option) {
             return Some(finding);
         }
     }
