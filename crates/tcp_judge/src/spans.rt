@@ -5,7 +5,7 @@ ghost use Rattle.tcp_judge.specs.Heard.{goes_on, without_passed};
 
 use crate::lookup::{all_came, is_passed, left_of};
 use crate::run_list::{add_spans, count_up_to, cut};
-use std::alloc::{AllocError, Allocator, Global};
+use std::alloc::{AllocError, Allocator};
 use std::fmt;
 use std::marker::Model;
 use tcp_wire::Seq;
