@@ -1,4 +1,5 @@
 pub mod AsciiLoads
+pub mod Blocks
 pub mod Cuts
 pub mod Decoding
 pub mod DigitPairs
@@ -6,5 +7,6 @@ pub mod Digits
 pub mod Encoding
 pub mod LaneByLane
 pub mod LineCounts
+pub mod PairLanes
 pub mod WordCounts
 pub mod WrittenParts

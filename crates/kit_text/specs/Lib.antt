@@ -1,4 +1,5 @@
 pub mod HexLanes
+pub mod Cutting
 pub mod Lines
 pub mod Segments
 pub mod Texts

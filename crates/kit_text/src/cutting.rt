@@ -1,6 +1,6 @@
-ghost use Rattle.std.specs.Prelude.{◌≡◌, ◌∷◌, ◌==◌, ◌<◌, ◌≤◌, length, IfSome};
+ghost use Rattle.std.specs.Prelude.{◌≡◌, ◌∷◌, ◌==◌, ◌<◌, ◌≤◌, length, slice_index, IfSome};
 ghost use Rattle.std.specs.List.{slice_split};
-ghost use Rattle.memchr.specs.Find.{IsFirst, IsFirstByte, Passes, is_byte};
+ghost use Rattle.kit_text.specs.Cutting.{IsNowhere, FindsWithin, any_below};
 ghost use Rattle.kit_text.specs.Words.{further_pieces};
 
 /// The separator of the words of a line.
@@ -10,16 +10,21 @@ pub(crate) const DOT: u8 = b'.';
 /// The end of a line.
 pub(crate) const LINE_FEED: u8 = b'\n';
 
-/// As many bytes are looked at one by one: most words and many lines end in these.
+/// As many bytes are looked at one by one first: most words and many lines end in these.
 const NEAR: usize = 16;
 
-/// The offset of the first byte `at` among the first `count`.
+/// As many are looked at together, behind those.
+const BLOCK: usize = 16;
+
+/// The offset of the first byte `at`, which isn't before `from`, among the first `to`.
 #[inline(always)]
-fn first_of(at: u8, bytes: &[u8], count: usize) -> Option<usize>
-    requires { count ≤ length bytes.now }
-    ensures { IsFirst (Passes (is_byte at) bytes.now) 0 count result }
+fn first_between(at: u8, bytes: &[u8], from: usize, to: usize) -> Option<usize>
+    requires order { from ≤ to }
+    requires within { to ≤ length bytes.now }
+    requires none { IsNowhere at bytes.now from }
+    ensures { FindsWithin at bytes.now to result }
 {
-    for i in 0..count {
+    for i in from..to {
         if bytes[i] == at {
             return Some(i);
         }
@@ -27,47 +32,89 @@ fn first_of(at: u8, bytes: &[u8], count: usize) -> Option<usize>
     None
 }
 
-/// The offset of the first byte `at`, which is likely to be far.
-#[inline(never)]
-fn first_far(at: u8, bytes: &[u8]) -> Option<usize>
-    ensures { IsFirstByte (is_byte at) bytes.now result }
+/// Whether the byte `at` is among the first 16. They are compared without a branch for each, so that the compiler takes
+/// vectors where the machine has them, and a machine without them is faster than with a loop, too.
+#[inline(always)]
+fn is_in_block(at: u8, bytes: &[u8]) -> bool
+    requires { 16 ≤ length bytes.now }
+    ensures { result ≡ any_below (λ k. slice_index bytes.now k == at) 16 }
 {
-    memchr::memchr(at, bytes)
+    (bytes[0] == at)
+        | (bytes[1] == at)
+        | (bytes[2] == at)
+        | (bytes[3] == at)
+        | (bytes[4] == at)
+        | (bytes[5] == at)
+        | (bytes[6] == at)
+        | (bytes[7] == at)
+        | (bytes[8] == at)
+        | (bytes[9] == at)
+        | (bytes[10] == at)
+        | (bytes[11] == at)
+        | (bytes[12] == at)
+        | (bytes[13] == at)
+        | (bytes[14] == at)
+        | (bytes[15] == at)
+}
+
+/// The offset of the block that has the first byte `at`, or of the last bytes, which are no whole block.
+fn pass_blocks(at: u8, bytes: &[u8], from: usize) -> usize
+    requires within { from ≤ length bytes.now }
+    requires none { IsNowhere at bytes.now from }
+    ensures within { result ≤ length bytes.now }
+    ensures none { IsNowhere at bytes.now result }
+{
+    let mut i = from;
+    while bytes.len() - i >= BLOCK && !is_in_block(at, &bytes[i..]) {
+        i += BLOCK;
+    }
+    i
+}
+
+/// The offset of the first byte `at`, which isn't before `from`.
+#[inline(never)]
+fn first_far(at: u8, bytes: &[u8], from: usize) -> Option<usize>
+    requires within { from ≤ length bytes.now }
+    requires none { IsNowhere at bytes.now from }
+    ensures { FindsWithin at bytes.now (length bytes.now) result }
+{
+    let block = pass_blocks(at, bytes, from);
+    first_between(at, bytes, block, bytes.len())
 }
 
 /// The offset of the first byte `at`, in a line: its words are short and few, so that a plain loop finds most.
 #[inline(always)]
 fn first_in_line(at: u8, bytes: &[u8]) -> Option<usize>
-    ensures { IsFirstByte (is_byte at) bytes.now result }
+    ensures { FindsWithin at bytes.now (length bytes.now) result }
 {
     let near = bytes.len().min(NEAR);
-    if let Some(i) = first_of(at, bytes, near) {
+    if let Some(i) = first_between(at, bytes, 0, near) {
         return Some(i);
     }
     if near == bytes.len() {
         return None;
     }
-    first_far(at, bytes)
+    first_far(at, bytes, near)
 }
 
-/// The offset of the first byte `at`, in a text: that it is long is tested once, for all of the first bytes.
+/// The offset of the first byte `at`, in a text: mostly it is long, so that its length is tested once.
 #[inline(always)]
 fn first_in_text(at: u8, text: &[u8]) -> Option<usize>
-    ensures { IsFirstByte (is_byte at) text.now result }
+    ensures { FindsWithin at text.now (length text.now) result }
 {
     if text.len() < NEAR {
-        return first_of(at, text, text.len());
+        return first_between(at, text, 0, text.len());
     }
-    if let Some(i) = first_of(at, text, NEAR) {
+    if let Some(i) = first_between(at, text, 0, NEAR) {
         return Some(i);
     }
-    first_far(at, text)
+    first_far(at, text, NEAR)
 }
 
 /// The piece before the first byte `at`, which is at `place`, and what follows that byte.
 #[inline(always)]
 fn parted(at: u8, bytes: &[u8], place: Option<usize>) -> (&[u8], Option<&[u8]>)
-    requires { IsFirstByte (is_byte at) bytes.now place }
+    requires { FindsWithin at bytes.now (length bytes.now) place }
     ensures pieces { slice_split (λ b. b == at) bytes.now ≡ result.0.now ∷ further_pieces at result.1 }
     ensures within { length result.0.now ≤ length bytes.now }
     ensures shorter { IfSome result.1 (λ rest. length rest.now < length bytes.now) }
