@@ -113,8 +113,14 @@ fn put<A: Allocator>(runs: &mut Vec<(Seq, u32), A>, acked_number: Seq, run: (Seq
     put_between(runs, from, to, whole)
 }
 
-/// Adds the spans from an index on, until so many runs were moved as there are spans, and returns the index of the first
-/// that isn't added. Where there is no memory none is added.
+/// How many runs a search among so many looks at, at most.
+fn search_len(runs: usize) -> usize {
+    (usize::BITS - runs.leading_zeros()) as usize
+}
+
+/// Adds the spans from an index on, until so many runs were looked at and moved as there are spans, and returns the index
+/// of the first that isn't added: so a call takes no longer than a look at each span. Where there is no memory none is
+/// added.
 pub(crate) fn add_spans<A: Allocator>(
     runs: &mut Vec<(Seq, u32), A>,
     acked_number: Seq,
@@ -124,11 +130,12 @@ pub(crate) fn add_spans<A: Allocator>(
     ensures { All (IsRun acked_number.0 spans.now) runs.old.items → All (IsRun acked_number.0 spans.now) runs.new.items }
 {
     let mut at = first;
-    let mut moved = 0;
-    while at < spans.len() && moved <= spans.len() && runs.reserve(1).is_ok() {
+    let mut steps = 0usize;
+    while at < spans.len() && steps <= spans.len() && runs.reserve(1).is_ok() {
         let run = ahead_of(acked_number, spans[at]);
+        steps = steps.saturating_add(search_len(runs.len()));
         if run.1 > 0 {
-            moved = put(runs, acked_number, run).saturating_add(moved);
+            steps = put(runs, acked_number, run).saturating_add(steps);
         }
         at += 1;
     }
