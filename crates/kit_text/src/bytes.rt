@@ -37,6 +37,7 @@ pub fn push_bytes<A: Allocator + Copy>(
     if bytes.is_empty() {
         return text.push_str("-");
     }
+    // The digits go into the text itself, so that no memory is asked for on the way.
     let _ = alloc;
     push_digits(text, bytes)
 }
