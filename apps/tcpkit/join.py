@@ -72,7 +72,7 @@ def main():
     name, out = sys.argv[2], pathlib.Path(sys.argv[3])
     what, program = PROGRAMS[name]
     text = pathlib.Path(sys.argv[1]).read_text()
-    join.KNOWN |= {"I32_ROTL", "I64_ROTL", "i32_load8_s"}
+    join.KNOWN |= {"I32_ROTL", "I64_ROTL", "I64_CLZ", "i32_load8_s"}
     declared, body = join.functions(text, "tcp_web")
     own = (HERE / "common.c").read_text() + "\n" + (HERE / program).read_text()
     declared, body = needed(declared, body, own)

@@ -1,6 +1,16 @@
 /* What the module's functions name beside memory.c. */
 #define I32_ROTL(x, y) ((x) << ((y) & 31) | (x) >> ((32 - (y)) & 31))
 #define I64_ROTL(x, y) ((x) << ((y) & 63) | (x) >> ((64 - (y)) & 63))
+#define I64_CLZ(x) leading_zeros(x)
+
+/* How many bits come before the highest one that is set: 64 where none is. It is called with small numbers. */
+static inline u64 leading_zeros(u64 x)
+{
+    u64 count = 64;
+    for (; x; x >>= 1)
+        count--;
+    return count;
+}
 
 static inline u32 i32_load8_s(const Memory *memory, u64 address)
 {
