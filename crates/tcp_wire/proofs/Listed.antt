@@ -55,6 +55,12 @@ none_left bytes reads none =
     let padding = options_in_none 40 20 bytes none in
     ap (λ (r : Result Read DecodeError). (result_unwrap_or r ([], 0)).0) (padding ∙ is_padding 20 bytes (ap is_ok (sym padding) ∙ reads))
 
+-- and is nothing but padding
+pub none_padded : (bytes : List ℕ) → IsReadable bytes → option_at bytes ≡ None → (options_of bytes).1 ≡ length bytes
+none_padded bytes reads none =
+    let padding = options_in_none 40 20 bytes none in
+    ap (λ (r : Result Read DecodeError). (result_unwrap_or r ([], 0)).1) (padding ∙ is_padding 20 bytes (ap is_ok (sym padding) ∙ reads))
+
 -- after its first option comes an area that can be read, with the other options
 first_and_others : (o : OptionContent) (area inner behind : Result Read DecodeError)
     → area ≡ with_first o inner → ((r : Read) → inner ≡ Ok r → behind ≡ Ok r) → IsOk area
@@ -73,6 +79,26 @@ first_left bytes behind o few reads found =
     let len = option_length bytes o behind found in
     let least = spelling_length o in
     first_and_others o (options_in 40 20 bytes) (options_in 39 (20 + length (spelling o)) behind) (options_in 40 20 behind)
+    (options_in_some 39 20 bytes behind o found)
+    (λ r e. read_elsewhere 39 40 (20 + length (spelling o)) 20 behind (option_at behind) r refl
+    (omega (arith, few, len, least)) (omega (arith, few, len, least)) e)
+    reads
+
+-- which has the same padding
+same_padding : (o : OptionContent) (area inner behind : Result Read DecodeError)
+    → area ≡ with_first o inner → ((r : Read) → inner ≡ Ok r → behind ≡ Ok r) → IsOk area
+    → (result_unwrap_or area ([], 0)).1 ≡ (result_unwrap_or behind ([], 0)).1
+same_padding o area (Ok r) behind is same reads =
+    ap (λ (read : Result Read DecodeError). (result_unwrap_or read ([], 0)).1) is
+    ∙ ap (λ (read : Result Read DecodeError). (result_unwrap_or read ([], 0)).1) (sym (same r refl))
+same_padding o area (Err e) behind is same reads = let no : false ≡ true = sym (ap is_ok is) ∙ reads in absurd cc
+
+pub padding_left : (bytes behind : List ℕ) (o : OptionContent) → length bytes ≤ 40 → IsReadable bytes → option_at bytes ≡ Some (o, behind)
+    → (options_of bytes).1 ≡ (options_of behind).1
+padding_left bytes behind o few reads found =
+    let len = option_length bytes o behind found in
+    let least = spelling_length o in
+    same_padding o (options_in 40 20 bytes) (options_in 39 (20 + length (spelling o)) behind) (options_in 40 20 behind)
     (options_in_some 39 20 bytes behind o found)
     (λ r e. read_elsewhere 39 40 (20 + length (spelling o)) 20 behind (option_at behind) r refl
     (omega (arith, few, len, least)) (omega (arith, few, len, least)) e)

@@ -135,6 +135,19 @@ pub(crate) fn read_options(area: &[u8]) -> (ArrayVec<TcpOption<'_>, 40>, u8)
     (options, rest.len() as u8)
 }
 
+/// How many zeros come after the options in this area. No option is made.
+pub(crate) fn padding_len(area: &[u8]) -> u8
+    requires fits { length area.now ≤ 40 }
+    requires reads { IsReadable area.now }
+    ensures { result ≡ (options_of area.now).1 }
+{
+    let mut rest = area;
+    while let Some(len) = first_len(rest) {
+        rest = &rest[len..];
+    }
+    rest.len() as u8
+}
+
 /// Whether these bytes, which begin at the offset `at` of the segment, are at most `left` options, and zeros alone
 /// after them. No list is made.
 pub(crate) fn check_options(bytes: &[u8], at: usize, left: usize) -> Result<(), DecodeError>

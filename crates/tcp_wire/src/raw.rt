@@ -4,7 +4,7 @@ ghost use Rattle.tcp_wire.specs.Decoded.{IsReadable};
 
 use crate::header::Header;
 use crate::option::TcpOption;
-use crate::option_reading::read_options;
+use crate::option_reading::{padding_len, read_options};
 use crate::options_left::OptionsLeft;
 use crate::segment::Segment;
 use arrayvec::ArrayVec;
@@ -51,6 +51,13 @@ impl<'a> RawSegment<'a> {
         ensures { result ≡ (raw_content self.now).options }
     {
         OptionsLeft::of(self.area)
+    }
+
+    /// How many zero bytes come after the options. No list is made of those.
+    pub fn pad(&self) -> u8
+        ensures { result ≡ (raw_content self.now).pad }
+    {
+        padding_len(self.area)
     }
 
     /// The segment with its options listed.
