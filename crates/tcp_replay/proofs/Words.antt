@@ -120,7 +120,7 @@ unfoldable pub use Rattle.tcp_sendq.specs.SendQueue.{after_mark, can_mark, last_
 pub use Rattle.tcp_wire.proofs.RoundTrip.{IsWire_encoded, decoded_damaged, decoded_encoded, decoded_valid, differs_set, length_encoded}
 unfoldable pub use Rattle.tcp_wire.specs.Decoded.{decode_answer, layout_of, option_at, options_in, padding_at}
 pub use Rattle.tcp_wire.specs.Options.{Mss}
-pub use Rattle.tcp_wire.specs.Wire.{Content, IsValid, IsWire, wire_length}
+pub use Rattle.tcp_wire.specs.Wire.{Content, header_len, IsValid, IsWire, wire_length}
 unfoldable pub use Rattle.tcp_wire.specs.Wire.{encoded_bytes}
 pub use Rattle.tcp_wire.specs.declared.fault.DecodeError.{DecodeError}
 pub use Rattle.tcp_wire.specs.declared.fault.DecodeError.TheVariants.{BadChecksum}
@@ -139,7 +139,7 @@ pub use Rattle.tcp_replay.specs.SoloEvents.{Arrive, HasRanges, SoloContent, solo
 pub use Rattle.tcp_replay.specs.Sound.{AreBlocksBehind, AreOwn, AreSoundEnds, DeliversPrefix, IsBlockBehind, IsOwn, IsSound, IsSoundEnd, IsSoundPair}
 pub use Rattle.tcp_replay.specs.Sound.{KeepBothHints, KeepsHints, SpeaksTo, Takes}
 pub use Rattle.tcp_replay.specs.Truthful.{HasPosition, IsOfUser, IsTrueAck, IsTrueBlock, IsTruthful, StandsAt, Witness}
-pub use Rattle.tcp_replay.specs.World.{acks_late, address_of, age_refusal, arrival_outcome, both, bytes_with_damage, count_delivered, damage_refusal}
+pub use Rattle.tcp_replay.specs.World.{acks_late, address_of, age_refusal, arrival_outcome, both, bytes_with_damage, damage_refusal}
 pub use Rattle.tcp_replay.specs.World.{delivery_refusal, Effect, flags_in, front_taken, grows_for, HasFault, is_end_of_stream, is_expired, is_late}
 pub use Rattle.tcp_replay.specs.World.{is_missing, KeepsAllSegments, later, max_life, NamesFault, new_party, new_world, new_world_with, other, outcome_of}
 pub use Rattle.tcp_replay.specs.World.{outcome_out, party_of, party_out, PartyState, refusal_of, segment_at, sent_at, sent_by, SentSegment, seq_in}

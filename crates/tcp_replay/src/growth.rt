@@ -2,28 +2,17 @@
 //! changes nothing.
 ghost use Rattle.std.specs.Prelude.{◌≡◌, ◌<◌, ◌≤◌, ◌++◌, length, IfOk, IfErr, OnOk, OnErr, IfSome, option_map, vec_len, vec_capacity};
 ghost use Rattle.tcp_wire.specs.Checksum.{AreBytes};
-ghost use Rattle.tcp_wire.specs.Wire.{header_len, wire_length};
+ghost use Rattle.tcp_wire.specs.Wire.{header_len};
 ghost use Rattle.tcp_conn.specs.Calls.{send_answer, after_send, receive_answer, received_bytes, after_receive};
-ghost use Rattle.tcp_conn.specs.Emission.{after_due, buffer_with};
-ghost use Rattle.tcp_conn.specs.Forms.{segment_of};
-ghost use Rattle.tcp_conn.specs.Writing.{destination_of};
+ghost use Rattle.tcp_conn.specs.Due.{ack_alone, due_of};
+ghost use Rattle.tcp_conn.specs.Emission.{after_due};
 ghost use Rattle.tcp_replay.specs.Emissions.{due_for, segment_as};
-ghost use Rattle.tcp_replay.specs.World.{front_taken, count_delivered};
+ghost use Rattle.tcp_replay.specs.World.{front_taken};
 
 use crate::outcome::StepError;
-use std::alloc::Allocator;
-use tcp_conn::{CallError, EMIT_ROOM, Endpoint, Received};
+use std::alloc::{AllocError, Allocator};
+use tcp_conn::{CallError, EMIT_ROOM, Endpoint, HEADER_ROOM, Received};
 use tcp_wire::Addr;
-
-/// How many bytes a `receive` with this answer delivered.
-fn count_delivered(answer: Result<Received, CallError>) -> usize
-    ensures { result ≡ count_delivered answer }
-{
-    match answer {
-        Ok(Received::Bytes(count)) => count,
-        _ => 0,
-    }
-}
 
 /// The user sends, and what the end accepts is appended. Memory for all of the text is allocated first.
 pub(crate) fn send_from<A: Allocator>(
@@ -46,10 +35,9 @@ pub(crate) fn send_from<A: Allocator>(
     Ok(answer)
 }
 
-/// The user receives at most `room` bytes, and what the end delivers is appended. Memory for the unread bytes is
+/// The user receives at most `room` bytes, and what the end delivers is appended from where it lies. Memory for it is
 /// allocated first.
 pub(crate) fn receive_to<A: Allocator>(
-    alloc: A,
     endpoint: &mut Endpoint<A>,
     room: usize,
     delivered: &mut Vec<u8, A>,
@@ -62,45 +50,95 @@ pub(crate) fn receive_to<A: Allocator>(
 {
     let count = room.min(endpoint.unread());
     delivered.reserve(count)?;
-    let mut out = vec![in alloc; 0u8; count]?;
-    let answer = endpoint.receive(&mut out);
-    let _ = delivered.extend_from_slice(&out[..count_delivered(answer)]);
-    Ok(answer)
-}
-
-/// The length of the segment that is due, or of the acknowledgement alone, if there is one.
-#[tactic(auto, unfolding(tcp_conn::specs::Emission::pending_length, tcp_conn::specs::Emission::ack_alone_length))]
-fn pending<A: Allocator>(endpoint: &Endpoint<A>, alone: bool) -> Option<usize>
-    ensures value { result ≡ option_map (λ due. wire_length (segment_of endpoint.now due)) (due_for alone endpoint.now) }
-    ensures least { IfSome result (λ len. header_len ≤ len) }
-    ensures most { IfSome result (λ len. len ≤ EMIT_ROOM) }
-{
-    if alone {
-        endpoint.pending_acknowledgement()
-    } else {
-        endpoint.pending()
+    if count == 0 {
+        return Ok(endpoint.receive(&mut []));
     }
+    let lent = match endpoint.peek() {
+        Ok(lent) => lent,
+        Err(refusal) => return Ok(Err(refusal)),
+    };
+    let first = count.min(lent.front.len());
+    let _ = delivered.extend_from_slice(&lent.front[..first]);
+    let _ = delivered.extend_from_slice(&lent.back[..count - first]);
+    Ok(endpoint.consume(count).map(Received::Bytes))
 }
 
-/// The end writes it into `out`: where it goes, and its length.
-#[tactic(auto, unfolding(tcp_conn::specs::Emission::destination, tcp_conn::specs::Emission::ack_alone_destination, tcp_conn::specs::Emission::buffer_after, tcp_conn::specs::Emission::buffer_after_ack_alone, tcp_conn::specs::Emission::after_emission, tcp_conn::specs::Emission::after_ack_alone, tcp_conn::specs::Emission::pending_length, tcp_conn::specs::Emission::ack_alone_length, tcp_conn::specs::Transmission::transmit_ack_alone))]
-fn write_out<A: Allocator>(
+/// The bytes of a segment, in one list: its header, and its text in two parts. Memory for all of it is allocated first.
+fn joined<A: Allocator>(
+    alloc: A,
+    header: &[u8],
+    first: &[u8],
+    second: &[u8],
+) -> Result<Vec<u8, A>, AllocError>
+    ensures { IfOk result (λ bytes. bytes.items ≡ header.now ++ (first.now ++ second.now)) }
+{
+    // The sum never gets so large that it has to saturate: a header is short, and a text comes from a queue.
+    let len = header
+        .len()
+        .saturating_add(first.len())
+        .saturating_add(second.len());
+    let mut bytes = Vec::with_capacity(alloc, len)?;
+    let _ = bytes.extend_from_slice(header);
+    let _ = bytes.extend_from_slice(first);
+    let _ = bytes.extend_from_slice(second);
+    Ok(bytes)
+}
+
+/// The end emits what is due: where it goes, and its bytes, for which the list has room. Memory for both is allocated
+/// before the end counts it as sent. Its text is copied once, from where it lies.
+#[tactic(auto, unfolding(tcp_conn::specs::Emission::destination, tcp_conn::specs::Emission::emitted_bytes, tcp_conn::specs::Emission::after_emission))]
+fn emit_due<A: Allocator, T>(
+    alloc: A,
     endpoint: &mut Endpoint<A>,
-    alone: bool,
-    out: &mut [u8],
-) -> Option<(Addr, usize)>
-    requires { EMIT_ROOM ≤ length out.old }
-    ensures destination { option_map (λ sent. sent.0.0) result ≡ option_map (λ due. (destination_of endpoint.old due).addr.0) (due_for alone endpoint.old) }
-    ensures len { option_map (λ sent. sent.1) result ≡ option_map (λ due. wire_length (segment_of endpoint.old due)) (due_for alone endpoint.old) }
-    ensures bytes { out.new ≡ buffer_with endpoint.old (due_for alone endpoint.old) out.old }
-    ensures state { endpoint.new ≡ after_due endpoint.old (due_for alone endpoint.old) }
+    list: &mut Vec<T, A>,
+) -> Result<Option<(Addr, Vec<u8, A>)>, StepError>
+    ensures state { OnOk result (endpoint.new ≡ after_due endpoint.old (due_of endpoint.old)) }
+    ensures segment { IfOk result (λ sent. option_map (λ segment. (segment.0.0, segment.1.items)) sent ≡ segment_as endpoint.old (due_of endpoint.old)) }
+    ensures least { IfOk result (λ sent. IfSome sent (λ segment. header_len ≤ length segment.1.items)) }
+    ensures list { list.new.items ≡ list.old.items }
+    ensures place { IfOk result (λ sent. IfSome sent (λ _. vec_len list.new < vec_capacity list.new)) }
+    ensures err { OnErr result (endpoint.new ≡ endpoint.old) }
+    ensures memory { IfErr result (λ e. e ≡ StepError.NoMemory) }
 {
-    if alone {
-        let sent = endpoint.emit_acknowledgement(out)?;
-        Some((sent.to, sent.len))
-    } else {
-        endpoint.emit(out)
-    }
+    let mut header = [0u8; HEADER_ROOM];
+    let Some(parts) = endpoint.parts(&mut header) else {
+        return Ok(None);
+    };
+    list.reserve(1)?;
+    let to = parts.to;
+    let bytes = joined(alloc, &header[..parts.header], parts.first, parts.second)?;
+    endpoint.sent();
+    Ok(Some((to, bytes)))
+}
+
+/// The end emits the acknowledgement alone, as `emit_due` does what is due. It is written into room for the longest
+/// segment: the function stands apart, so that what is due doesn't wait until that room is zeroed.
+#[inline(never)]
+#[tactic(auto, unfolding(tcp_conn::specs::Emission::ack_alone_destination, tcp_conn::specs::Emission::buffer_after_ack_alone, tcp_conn::specs::Emission::after_ack_alone, tcp_conn::specs::Emission::ack_alone_length))]
+fn emit_alone<A: Allocator, T>(
+    alloc: A,
+    endpoint: &mut Endpoint<A>,
+    list: &mut Vec<T, A>,
+) -> Result<Option<(Addr, Vec<u8, A>)>, StepError>
+    ensures state { OnOk result (endpoint.new ≡ after_due endpoint.old (ack_alone endpoint.old)) }
+    ensures segment { IfOk result (λ sent. option_map (λ segment. (segment.0.0, segment.1.items)) sent ≡ segment_as endpoint.old (ack_alone endpoint.old)) }
+    ensures least { IfOk result (λ sent. IfSome sent (λ segment. header_len ≤ length segment.1.items)) }
+    ensures list { list.new.items ≡ list.old.items }
+    ensures place { IfOk result (λ sent. IfSome sent (λ _. vec_len list.new < vec_capacity list.new)) }
+    ensures err { OnErr result (endpoint.new ≡ endpoint.old) }
+    ensures memory { IfErr result (λ e. e ≡ StepError.NoMemory) }
+{
+    let Some(len) = endpoint.pending_acknowledgement() else {
+        return Ok(None);
+    };
+    list.reserve(1)?;
+    let mut bytes = Vec::with_capacity(alloc, len)?;
+    let mut room = [0u8; EMIT_ROOM];
+    let Some(sent) = endpoint.emit_acknowledgement(&mut room) else {
+        return Ok(None);
+    };
+    let _ = bytes.extend_from_slice(&room[..len]);
+    Ok(Some((sent.to, bytes)))
 }
 
 /// The end emits what is due, or the acknowledgement alone: where it goes, and its bytes, for which the list
@@ -119,15 +157,9 @@ pub(crate) fn emit_for<A: Allocator, T>(
     ensures err { OnErr result (endpoint.new ≡ endpoint.old) }
     ensures memory { IfErr result (λ e. e ≡ StepError.NoMemory) }
 {
-    let Some(len) = pending(endpoint, alone) else {
-        return Ok(None);
-    };
-    list.reserve(1)?;
-    let mut bytes = Vec::with_capacity(alloc, len)?;
-    let mut room = [0u8; EMIT_ROOM];
-    let Some((to, _)) = write_out(endpoint, alone, &mut room) else {
-        return Ok(None);
-    };
-    let _ = bytes.extend_from_slice(&room[..len]);
-    Ok(Some((to, bytes)))
+    if alone {
+        emit_alone(alloc, endpoint, list)
+    } else {
+        emit_due(alloc, endpoint, list)
+    }
 }

@@ -91,13 +91,13 @@ impl<A: Allocator + Copy> Party<A> {
 
     /// The user receives at most `room` bytes. Memory for the unread bytes is allocated first.
     #[tactic(auto, unfolding(crate::specs::World::party_after_receive))]
-    pub(crate) fn receive(&mut self, alloc: A, room: usize) -> Result<Outcome, StepError>
+    pub(crate) fn receive(&mut self, room: usize) -> Result<Outcome, StepError>
         ensures state { OnOk result (self.new ≡ party_after_receive self.old room) }
         ensures outcome { IfOk result (λ o. o ≡ Outcome.Got (receive_answer self.old.endpoint room)) }
         ensures err { OnErr result (self.new ≡ self.old) }
         ensures memory { IfErr result (λ e. e ≡ StepError.NoMemory) }
     {
-        let answer = receive_to(alloc, &mut self.endpoint, room, &mut self.delivered)?;
+        let answer = receive_to(&mut self.endpoint, room, &mut self.delivered)?;
         self.ended = ended_by(self.ended, answer);
         Ok(Outcome::Got(answer))
     }

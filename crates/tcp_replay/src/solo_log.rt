@@ -73,7 +73,7 @@ impl<A: Allocator + Copy> SoloLog<A> {
     }
 
     /// The user receives at most `room` bytes.
-    fn receive(&mut self, alloc: A, room: usize) -> Result<Outcome, StepError>
+    fn receive(&mut self, room: usize) -> Result<Outcome, StepError>
         ensures endpoint { OnOk result (self.new.endpoint ≡ after_receive self.old.endpoint room) }
         ensures delivered { OnOk result (self.new.delivered.items ≡ self.old.delivered.items ++ received_bytes self.old.endpoint room) }
         ensures ended { OnOk result (self.new.ended ≡ (self.old.ended || is_end_of_stream (receive_answer self.old.endpoint room))) }
@@ -81,7 +81,7 @@ impl<A: Allocator + Copy> SoloLog<A> {
         ensures others { (self.new.accepted ≡ self.old.accepted) × (self.new.emitted ≡ self.old.emitted) × (self.new.outcomes ≡ self.old.outcomes) }
         ensures memory { IfErr result (λ e. e ≡ StepError.NoMemory) }
     {
-        let answer = receive_to(alloc, &mut self.endpoint, room, &mut self.delivered)?;
+        let answer = receive_to(&mut self.endpoint, room, &mut self.delivered)?;
         self.ended = ended_by(self.ended, answer);
         Ok(Outcome::Got(answer))
     }
@@ -124,7 +124,7 @@ impl<A: Allocator + Copy> SoloLog<A> {
                 let answer = send_from(&mut self.endpoint, text, &mut self.accepted)?;
                 Ok(Outcome::Sent(answer))
             }
-            SoloEvent::Receive(room) => self.receive(alloc, *room),
+            SoloEvent::Receive(room) => self.receive(*room),
             SoloEvent::Close => Ok(Outcome::Call(self.endpoint.close())),
             SoloEvent::Abort => Ok(Outcome::Call(self.endpoint.abort())),
             SoloEvent::Acknowledge => {

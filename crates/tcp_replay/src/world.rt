@@ -58,7 +58,7 @@ fn step_at<A: Allocator + Copy, E: Allocator>(
         Event::Connect(_) => Ok(connect(here, there)),
         Event::Listen(_) => Ok(here.listen()),
         Event::Send(_, bytes) => here.send(bytes),
-        Event::Receive(_, room) => here.receive(alloc, *room),
+        Event::Receive(_, room) => here.receive(*room),
         Event::Close(_) => Ok(here.close()),
         Event::Abort(_) => Ok(here.abort()),
         Event::Acknowledge(_) => Ok(here.acknowledge()),

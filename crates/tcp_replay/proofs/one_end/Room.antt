@@ -1,5 +1,5 @@
 -- THE ROOM of the half that receives: what is unread and the places of the window make up the capacity, whatever is placed, read or given up.
-use Rattle.tcp_replay.proofs.Words.{◌+◌, ◌++◌, [], after_delivering, after_place, after_text, arith, Bool, bytes_in_order, capacity_placed, capacity_read}
+use Rattle.tcp_replay.proofs.Words.{◌+◌, ◌++◌, [], after_delivering, after_place, after_text, arith, bytes_in_order, capacity_placed, capacity_read}
 use Rattle.tcp_replay.proofs.Words.{Cell, cond_both, drop, greatest_stamp, HoldsWithin, Inbox, is_refused, length, length-append, length-drop, List, None}
 use Rattle.tcp_replay.proofs.Words.{Option, overlay, overlay_of, piece, Receiving, refl, Run, runs, Some, suc, sym, whole_empty, whole_read}
 use Rattle.tcp_replay.proofs.Words.{whole_without_held, with_fin, with_overlay, with_ranks, with_ranks_from, without_bytes, zero, ℕ, ℤ, ◌∙◌, ◌∷◌, ◌≡◌, ◌≤◌}

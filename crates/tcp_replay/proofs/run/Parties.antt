@@ -1,50 +1,29 @@
 -- What a party's methods do, step by step, is what the definitions say.
-use Rattle.tcp_replay.proofs.Words.{◌&&◌, ◌++◌, ◌==◌, A, advertised_window, after_due, after_read, after_receive, answer_unless, ap, arith, B, Bool}
-use Rattle.tcp_replay.proofs.Words.{buffer_with, Bytes, bytes_of, bytes_unless, CallError, cond_both, Config, ConfigError, count_delivered, destination_of}
-use Rattle.tcp_replay.proofs.Words.{drop, drop_min, Due, EndOfStream, eqb-true, Err, HasBadCapacity, HasBadLimit, HasBadMss, HasBadShift, HasFault}
-use Rattle.tcp_replay.proofs.Words.{if◌then◌else◌, Inbox, IsGoodConfig, length, length-take, length_encoded, List, min, NamesFault, nat_lt, None, Nothing}
-use Rattle.tcp_replay.proofs.Words.{Ok, Option, option_map, option_to_list, outcome_out, party_out, PartyState, receive_answer, receive_refusal, Received}
-use Rattle.tcp_replay.proofs.Words.{received_bytes, received_value, refl, replicate, Result, segment_as, segment_of, sent_by, SentSegment, Side, Some}
-use Rattle.tcp_replay.proofs.Words.{State, state_unless, subst, sym, take, take_at, takes_text, wire_length, with_bytes_received, WorldError, WorldState}
-use Rattle.tcp_replay.proofs.Words.{◌||◌, ℕ, ◌↔◌, ◌∙◌, ◌≡◌}
+use Rattle.tcp_replay.proofs.Words.{◌&&◌, ◌++◌, ◌-◌, ◌==◌, ◌||◌, ◌↔◌, ◌∙◌, ◌∷◌, ◌≡◌, ◌≤◌, [], A, advertised_window, after_due, after_read, after_receive, ap}
+use Rattle.tcp_replay.proofs.Words.{arith, B, bytes_of, bytes_unless, Config, ConfigError, destination_of, drop, drop_min, Due, due_of, emitted_bytes, Err}
+use Rattle.tcp_replay.proofs.Words.{HasBadCapacity, HasBadLimit, HasBadMss, HasBadShift, HasFault, header_len, Inbox, IsGoodConfig, length, length_encoded}
+use Rattle.tcp_replay.proofs.Words.{List, min, NamesFault, nat_lt, None, Ok, Option, option_map, option_to_list, outcome_out, party_out, PartyState}
+use Rattle.tcp_replay.proofs.Words.{receive_refusal, received_bytes, refl, replicate, Result, segment_as, segment_of, sent_by, SentSegment, Side, Some, State}
+use Rattle.tcp_replay.proofs.Words.{state_unless, suc, sym, take, take_min, takes_text, with_bytes_received, WorldError, WorldState, zero, ℕ}
 use Rattle.tcp_halves.specs.declared.config.ConfigError.TheVariants as faults
 use Rattle.tcp_replay.specs.declared.outcome.WorldError.TheVariants as worlds
 use Rattle.tcp_replay.specs.declared.outcome.Outcome.TheVariants as outcomes
 
--- EMISSION, by what goes out: where nothing does, nothing changes
-pub emits_nothing : (s : State) (due : Option Due) → option_map (λ d. wire_length (segment_of s d)) due ≡ None
-    → (s ≡ after_due s due) × (None ≡ segment_as s due)
-emits_nothing s None e = (refl, refl)
-emits_nothing s (Some due) e = absurd (cc)
-
--- the bytes in front are the segment's
-front-bytes : (s : State) (due : Due) (out : List ℕ)
-    → take (wire_length (segment_of s due)) (bytes_of s due ++ drop (wire_length (segment_of s due)) out) ≡ bytes_of s due
+-- EMISSION: what goes out has a header
+least-due : (s : State) (due : Option Due) (bytes : List ℕ) → Some bytes ≡ option_map (bytes_of s) due → header_len ≤ length bytes
 unfolding bytes_of
-front-bytes s due out =
-    take_at (bytes_of s due) (drop (wire_length (segment_of s due)) out) (wire_length (segment_of s due))
-    (length_encoded s.config.addr.0 (destination_of s due).addr.0 (segment_of s due))
+least-due s None bytes e = absurd (cc)
+least-due s (Some due) bytes e =
+    let is : bytes ≡ bytes_of s due = cc in
+    omega (arith, ap length is, length_encoded s.config.addr.0 (destination_of s due).addr.0 (segment_of s due))
+
+pub emitted-least : (s : State) (bytes : List ℕ) → Some bytes ≡ emitted_bytes s → header_len ≤ length bytes
+unfolding emitted_bytes
+emitted-least s bytes e = least-due s (due_of s) bytes e
 
 -- the address and the bytes of a segment that goes out
 abbrev pub segment_to : List ℕ → List ℕ → Option (List ℕ × List ℕ)
 segment_to to bytes = Some (to, bytes)
-
-something-written : (s : State) (due : Option Due) (len : ℕ) (to room bytes : List ℕ) → option_map (λ d. wire_length (segment_of s d)) due ≡ Some len
-    → Some to ≡ option_map (λ d. (destination_of s d).addr.0) due → bytes ≡ take len (buffer_with s due room)
-    → segment_to to bytes ≡ segment_as s due
-something-written s None len to room bytes e f h = absurd (cc)
-something-written s (Some due) len to room bytes e f h =
-    let is : wire_length (segment_of s due) ≡ len = cc in
-    let there : to ≡ (destination_of s due).addr.0 = cc in
-    let text : bytes ≡ bytes_of s due = h ∙ ap (λ n. take n (buffer_with s (Some due) room)) (sym is) ∙ front-bytes s due room in
-    ap (λ (a : List ℕ). segment_to a bytes) there ∙ ap (λ (b : List ℕ). segment_to (destination_of s due).addr.0 b) text
-
--- where something does, what is put out is its segment
-pub emits_something : (s : State) (due : Option Due) (len : ℕ) (to room out bytes : List ℕ)
-    → option_map (λ d. wire_length (segment_of s d)) due ≡ Some len → Some to ≡ option_map (λ d. (destination_of s d).addr.0) due
-    → out ≡ buffer_with s due room → bytes ≡ take len out
-    → segment_to to bytes ≡ segment_as s due
-emits_something s due len to room out bytes e f g h = something-written s due len to room bytes e f (h ∙ ap (take len) g)
 
 -- of what goes out a party keeps the bytes
 due-bytes : (s : State) (due : Option Due) → option_map (bytes_of s) due ≡ option_map (λ (segment : List ℕ × List ℕ). segment.1) (segment_as s due)
@@ -74,7 +53,7 @@ outcome_is p due n segment is count =
     ∙ ap outcomes.Emitted (counts-segment (segment_as p.endpoint due) (length p.sent)) ∙ ap (λ o. outcomes.Emitted (option_map (λ _. length p.sent) o))
     (sym (due-bytes p.endpoint due))
 
--- RECEIVE: a buffer as long as what is unread serves as well as a longer one
+-- RECEIVE: a room as large as what is unread serves as well as a larger one
 same-read : (q : Inbox) (room : ℕ) → after_read q (min room (length q.unread)) ≡ after_read q room
 unfolding after_read
 same-read q room =
@@ -90,51 +69,29 @@ same-received s room =
       pending = record s.pending { ack = s.pending.ack || (takes_text s.phase && ((advertised_window s s.receiving.inbox == 0) && nat_lt 0 (advertised_window s q))) };
     }) (same-read s.receiving.inbox room)
 
-same-count : (n m : ℕ) → min (min n m) m ≡ min n m
-same-count n m = omega arith
-
-same-bytes : (s : State) (room : ℕ) → received_bytes s (min room (length s.receiving.inbox.unread)) ≡ received_bytes s room
-same-bytes s room = ap (λ n. bytes_unless (receive_refusal s) (take n s.receiving.inbox.unread)) (same-count room (length s.receiving.inbox.unread))
-
--- as many bytes are put out as the answer says
-delivered-value : (unread : List ℕ) (finished : Bool) (room : ℕ) (value : Received)
-    → value ≡ (if length unread == 0 then (if finished then EndOfStream else Nothing) else Bytes (min room (length unread)))
-    → count_delivered (Ok value) ≡ length (take (min room (length unread)) unread)
-delivered-value unread finished room value e =
-    subst (λ (value : Received). count_delivered (Ok value) ≡ length (take (min room (length unread)) unread)) (sym e)
-    (cond_both (length unread == 0) (if finished then EndOfStream else Nothing) (Bytes (min room (length unread)))
-    (λ (value : Received). count_delivered (Ok value) ≡ length (take (min room (length unread)) unread))
-    (λ none. cond_both finished EndOfStream Nothing (λ (value : Received). count_delivered (Ok value) ≡ length (take (min room (length unread)) unread))
-    (λ _. omega (arith, eqb-true (length unread) 0 none, length-take (min room (length unread)) unread))
-    (λ _. omega (arith, eqb-true (length unread) 0 none, length-take (min room (length unread)) unread)))
-    (λ _. omega (arith, length-take (min room (length unread)) unread)))
-
-delivered-unless : (o : Option CallError) (value : Received) (bytes : List ℕ) → count_delivered (Ok value) ≡ length bytes
-    → count_delivered (answer_unless o value) ≡ length (bytes_unless o bytes)
-delivered-unless None value bytes e = e
-delivered-unless (Some error) value bytes e = refl
-
-delivered-is : (s : State) (room : ℕ) → count_delivered (receive_answer s room) ≡ length (received_bytes s room)
-delivered-is s room =
-    let unread = s.receiving.inbox.unread in
-    delivered-unless (receive_refusal s) (received_value s room) (take (min room (length unread)) unread)
-    (delivered-value unread s.receiving.finished room (received_value s room) refl)
-
 -- the end after a read of so many bytes is that after a read with this room
 pub received-state : (s end : State) (room n : ℕ) → n ≡ min room (length s.receiving.inbox.unread) → end ≡ after_receive s n → end ≡ after_receive s room
 unfolding after_receive
 received-state s end room n size f =
     f ∙ ap (λ n. state_unless (receive_refusal s) s (with_bytes_received s n)) size ∙ ap (state_unless (receive_refusal s) s) (same-received s room)
 
--- and what was put out is what it hands over
-pub received-text : (s : State) (room delivery : ℕ) (answer : Result Received CallError) (out old : List ℕ)
-    → length old ≡ min room (length s.receiving.inbox.unread) → answer ≡ receive_answer s (length old)
-    → out ≡ received_bytes s (length old) ++ drop (length (received_bytes s (length old))) old → delivery ≡ count_delivered answer
-    → take delivery out ≡ received_bytes s room
-received-text s room delivery answer out old size is g count =
-    let bytes = received_bytes s (length old) in
-    let all : delivery ≡ length bytes = count ∙ ap count_delivered is ∙ delivered-is s (length old) in
-    ap (take delivery) g ∙ take_at bytes (drop (length bytes) old) delivery (sym all) ∙ ap (received_bytes s) size ∙ same-bytes s room
+-- the first bytes of two parts
+take-parts : (n : ℕ) (front back : List ℕ) → take n front ++ take (n - length front) back ≡ take n (front ++ back)
+take-parts zero front back = let none : zero - length front ≡ zero = omega arith in ap (λ k. take k back) none
+take-parts (suc n) [] back = let all : suc n - length {A = ℕ} [] ≡ suc n = omega arith in ap (λ k. take k back) all
+take-parts (suc n) (x ∷ front) back =
+    let less : suc n - length (x ∷ front) ≡ n - length front = omega arith in
+    ap (λ xs. x ∷ xs) (ap (λ k. take n front ++ take k back) less ∙ take-parts n front back)
+
+-- the first of the unread bytes, which are lent in two parts, are what it hands over
+pub lent-text : (s : State) (room n : ℕ) (front back : List ℕ) → receive_refusal s ≡ None → front ++ back ≡ s.receiving.inbox.unread
+    → n ≡ min room (length s.receiving.inbox.unread)
+    → take (min n (length front)) front ++ take (n - min n (length front)) back ≡ received_bytes s room
+lent-text s room n front back taken lent count =
+    let unread = s.receiving.inbox.unread in
+    let less : n - min n (length front) ≡ n - length front = omega arith in
+    ap (λ xs. xs ++ take (n - min n (length front)) back) (take_min n front) ∙ ap (λ k. take n front ++ take k back) less
+    ∙ take-parts n front back ∙ ap (take n) lent ∙ ap (λ k. take k unread) count ∙ sym (ap (λ refusal. bytes_unless refusal (take (min room (length unread)) unread)) taken)
 
 -- A FAULT of a Config is the one that is named
 abbrev pub refused_for : ConfigError → Result PartyState ConfigError
