@@ -1,3 +1,7 @@
+//! Pieces between separators. Three searches in turn look for the byte that ends a piece: the first bytes go one by one,
+//! since most words and many lines end there; the next go by blocks, for words and lines of middle length; and only what
+//! is behind those goes by loads of four blocks, by which a long line, as one with a text in hexadecimal, is passed the
+//! fastest.
 ghost use Rattle.std.specs.Prelude.{◌≡◌, ◌∷◌, ◌==◌, ◌<◌, ◌≤◌, length, slice_index, IfSome};
 ghost use Rattle.std.specs.List.{slice_split};
 ghost use Rattle.kit_text.specs.Cutting.{IsNowhere, FindsWithin, any_below};
@@ -15,6 +19,13 @@ const NEAR: usize = 16;
 
 /// As many are looked at together, behind those.
 const BLOCK: usize = 16;
+
+/// As many are looked at by blocks. The load that has the end of a word or line is looked through once more, which pays
+/// only for one that is longer than these.
+const MIDDLE: usize = 192;
+
+/// As many are looked at together, behind all those.
+const LOAD: usize = 64;
 
 /// The offset of the first byte `at`, which isn't before `from`, among the first `to`.
 #[inline(always)]
@@ -57,29 +68,78 @@ fn is_in_block(at: u8, bytes: &[u8]) -> bool
         | (bytes[15] == at)
 }
 
-/// The offset of the block that has the first byte `at`, or of the last bytes, which are no whole block.
-fn pass_blocks(at: u8, bytes: &[u8], from: usize) -> usize
+/// The offset of the block that has the first byte `at`, or of the last bytes before `to`, which are no whole block.
+#[inline(always)]
+fn pass_blocks(at: u8, bytes: &[u8], from: usize, to: usize) -> usize
+    requires order { from ≤ to }
+    requires within { to ≤ length bytes.now }
+    requires none { IsNowhere at bytes.now from }
+    ensures order { result ≤ to }
+    ensures none { IsNowhere at bytes.now result }
+{
+    let mut i = from;
+    while to - i >= BLOCK && !is_in_block(at, &bytes[i..]) {
+        i += BLOCK;
+    }
+    i
+}
+
+/// Whether the byte `at` is among the first 64. These are four blocks with one branch for all, and not a comparison of
+/// lanes, which takes twice as long where the machine has none.
+#[inline(always)]
+fn is_in_load(at: u8, bytes: &[u8]) -> bool
+    requires { 64 ≤ length bytes.now }
+    ensures { result ≡ any_below (λ k. slice_index bytes.now k == at) 64 }
+{
+    is_in_block(at, bytes)
+        | is_in_block(at, &bytes[16..])
+        | is_in_block(at, &bytes[32..])
+        | is_in_block(at, &bytes[48..])
+}
+
+/// The offset of the load that has the first byte `at`, or of the last bytes, which are no whole load.
+fn pass_loads(at: u8, bytes: &[u8], from: usize) -> usize
     requires within { from ≤ length bytes.now }
     requires none { IsNowhere at bytes.now from }
     ensures within { result ≤ length bytes.now }
     ensures none { IsNowhere at bytes.now result }
 {
     let mut i = from;
-    while bytes.len() - i >= BLOCK && !is_in_block(at, &bytes[i..]) {
-        i += BLOCK;
+    while bytes.len() - i >= LOAD && !is_in_load(at, &bytes[i..]) {
+        i += LOAD;
     }
     i
 }
 
-/// The offset of the first byte `at`, which isn't before `from`.
+/// The offset of the first byte `at`, which isn't before `from`, in a long word or line: by loads, and at the end, or in
+/// the load that has the byte, by blocks and one by one.
+#[inline(never)]
+fn first_farther(at: u8, bytes: &[u8], from: usize) -> Option<usize>
+    requires within { from ≤ length bytes.now }
+    requires none { IsNowhere at bytes.now from }
+    ensures { FindsWithin at bytes.now (length bytes.now) result }
+{
+    let load = pass_loads(at, bytes, from);
+    let block = pass_blocks(at, bytes, load, bytes.len());
+    first_between(at, bytes, block, bytes.len())
+}
+
+/// The offset of the first byte `at`, which isn't before `from`: by blocks, as far as most words and lines go.
 #[inline(never)]
 fn first_far(at: u8, bytes: &[u8], from: usize) -> Option<usize>
     requires within { from ≤ length bytes.now }
     requires none { IsNowhere at bytes.now from }
     ensures { FindsWithin at bytes.now (length bytes.now) result }
 {
-    let block = pass_blocks(at, bytes, from);
-    first_between(at, bytes, block, bytes.len())
+    let middle = bytes.len().min(from + MIDDLE);
+    let block = pass_blocks(at, bytes, from, middle);
+    if let Some(i) = first_between(at, bytes, block, middle) {
+        return Some(i);
+    }
+    if middle == bytes.len() {
+        return None;
+    }
+    first_farther(at, bytes, middle)
 }
 
 /// The offset of the first byte `at`, in a line: its words are short and few, so that a plain loop finds most.
