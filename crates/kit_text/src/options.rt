@@ -6,7 +6,7 @@ ghost use Rattle.kit_text.specs.Texts.{block_text, blocks_text, option_text, opt
 use crate::bytes::push_bytes;
 use crate::room::{ROOM, push_from, put, put_number};
 use std::alloc::{AllocError, Allocator};
-use tcp_wire::{Seq, TcpOption};
+use tcp_wire::{OptionsLeft, Seq, TcpOption};
 
 fn push_block<A: Allocator>(text: &mut String<A>, edges: &(Seq, Seq)) -> Result<(), AllocError>
     ensures { OnOk result (string_bytes text.new ≡ string_bytes text.old ++ block_text (block edges.now)) }
@@ -86,6 +86,27 @@ pub fn push_options<A: Allocator + Copy>(
     for option in others {
         text.push_str(",")?;
         push_option(alloc, text, option)?;
+    }
+    Ok(())
+}
+
+/// Appends the same of options where they are, one by one, without a list.
+#[tactic(auto, unfolding(crate::specs::Texts::options_text))]
+pub(crate) fn push_options_left<A: Allocator + Copy>(
+    alloc: A,
+    text: &mut String<A>,
+    options: OptionsLeft<'_>,
+) -> Result<(), AllocError>
+    ensures { OnOk result (string_bytes text.new ≡ string_bytes text.old ++ options_text options.entry) }
+{
+    let mut left = options;
+    let Some(first) = left.next() else {
+        return text.push_str("-");
+    };
+    push_option(alloc, text, &first)?;
+    while let Some(option) = left.next() {
+        text.push_str(",")?;
+        push_option(alloc, text, &option)?;
     }
     Ok(())
 }

@@ -1,30 +1,31 @@
 //! Segments (RFC 9293, 3.1): all fields, or a summary.
-ghost use Rattle.std.specs.Prelude.{◌≡◌, ◌++◌, OnOk, string_bytes, map, codes, decimal, length};
-ghost use Rattle.tcp_wire.specs.View.{content, raw_content, option_content, block};
-ghost use Rattle.kit_text.specs.Texts.{blocks_text};
+ghost use Rattle.std.specs.Prelude.{◌≡◌, ℕ, ◌++◌, List, [], OnOk, string_bytes, map, codes, decimal, length};
+ghost use Rattle.tcp_wire.specs.Options.{OptionContent};
+ghost use Rattle.tcp_wire.specs.View.{content, content_of, raw_content, option_content, block};
+ghost use Rattle.kit_text.specs.Texts.{blocks_text, bytes_text};
 ghost use Rattle.kit_text.specs.Segments.{numbers_text, control_text, rest_text, fields_text, first_blocks, summary_text};
 
 use crate::bytes::push_bytes;
 use crate::control_bits::push_flags;
-use crate::options::{push_blocks, push_options};
+use crate::options::{push_blocks, push_options, push_options_left};
 use crate::room::{ROOM, push_from, put, put_number};
 use std::alloc::{AllocError, Allocator};
 use tcp_wire::{Header, OptionsLeft, RawSegment, Segment, Seq, TcpOption};
 
 /// Ports and numbers.
 #[tactic(auto, unfolding(crate::specs::Segments::numbers_text))]
-fn push_numbers<A: Allocator>(text: &mut String<A>, segment: &Segment<'_>) -> Result<(), AllocError>
-    ensures { OnOk result (string_bytes text.new ≡ string_bytes text.old ++ numbers_text (content segment.now)) }
+fn push_numbers<A: Allocator>(text: &mut String<A>, header: &Header) -> Result<(), AllocError>
+    ensures { OnOk result (string_bytes text.new ≡ string_bytes text.old ++ numbers_text (content_of header.now [] 0 [])) }
 {
-    let (seq, ack) = (segment.header.seq.0, segment.header.ack.0);
+    let (seq, ack) = (header.seq.0, header.ack.0);
     let mut room = [0u8; ROOM];
     let at = put_number(&mut room, ROOM, u64::from(ack));
     let at = put(&mut room, at, " ack ");
     let at = put_number(&mut room, at, u64::from(seq));
     let at = put(&mut room, at, " seq ");
-    let at = put_number(&mut room, at, u64::from(segment.header.dst_port));
+    let at = put_number(&mut room, at, u64::from(header.dst_port));
     let at = put(&mut room, at, " > ");
-    let at = put_number(&mut room, at, u64::from(segment.header.src_port));
+    let at = put_number(&mut room, at, u64::from(header.src_port));
     push_from(text, &room, at)
 }
 
@@ -57,12 +58,21 @@ fn push_window<A: Allocator>(
 
 /// The other fields of the fixed header.
 #[tactic(auto, unfolding(crate::specs::Segments::control_text))]
-fn push_control<A: Allocator>(text: &mut String<A>, segment: &Segment<'_>) -> Result<(), AllocError>
-    ensures { OnOk result (string_bytes text.new ≡ string_bytes text.old ++ control_text (content segment.now)) }
+fn push_control<A: Allocator>(text: &mut String<A>, header: &Header) -> Result<(), AllocError>
+    ensures { OnOk result (string_bytes text.new ≡ string_bytes text.old ++ control_text (content_of header.now [] 0 [])) }
 {
-    push_reserved(text, segment.header.reserved)?;
-    push_flags(text, segment.header.flags)?;
-    push_window(text, segment.header.window, segment.header.urgent)
+    push_reserved(text, header.reserved)?;
+    push_flags(text, header.flags)?;
+    push_window(text, header.window, header.urgent)
+}
+
+/// The fields of the fixed header, which are the same whatever comes after it.
+#[tactic(auto, unfolding(crate::specs::Segments::numbers_text, crate::specs::Segments::control_text))]
+fn push_header<A: Allocator>(text: &mut String<A>, header: &Header) -> Result<(), AllocError>
+    ensures { (options : List OptionContent) (pad : ℕ) (body : List ℕ) → OnOk result (string_bytes text.new ≡ string_bytes text.old ++ (numbers_text (content_of header.now options pad body) ++ control_text (content_of header.now options pad body))) }
+{
+    push_numbers(text, header)?;
+    push_control(text, header)
 }
 
 /// How many zero bytes fill the header, up to the text.
@@ -76,6 +86,19 @@ fn push_pad<A: Allocator>(text: &mut String<A>, pad: u8) -> Result<(), AllocErro
     push_from(text, &room, at)
 }
 
+/// The zeros that fill the header, and the text.
+fn push_end<A: Allocator + Copy>(
+    alloc: A,
+    text: &mut String<A>,
+    pad: u8,
+    bytes: &[u8],
+) -> Result<(), AllocError>
+    ensures { OnOk result (string_bytes text.new ≡ string_bytes text.old ++ (codes " pad " ++ (decimal pad ++ (codes " text " ++ bytes_text bytes.now)))) }
+{
+    push_pad(text, pad)?;
+    push_bytes(alloc, text, bytes)
+}
+
 /// What comes after the fixed header.
 #[tactic(auto, unfolding(crate::specs::Segments::rest_text))]
 fn push_rest<A: Allocator + Copy>(
@@ -87,8 +110,21 @@ fn push_rest<A: Allocator + Copy>(
 {
     text.push_str(" options ")?;
     push_options(alloc, text, segment.options.as_slice())?;
-    push_pad(text, segment.pad)?;
-    push_bytes(alloc, text, segment.text)
+    push_end(alloc, text, segment.pad, segment.text)
+}
+
+/// The same of a segment whose options stay where they came.
+#[tactic(auto, unfolding(crate::specs::Segments::rest_text))]
+fn push_raw_rest<A: Allocator + Copy>(
+    alloc: A,
+    text: &mut String<A>,
+    segment: &RawSegment<'_>,
+) -> Result<(), AllocError>
+    ensures { OnOk result (string_bytes text.new ≡ string_bytes text.old ++ rest_text (raw_content segment.now)) }
+{
+    text.push_str(" options ")?;
+    push_options_left(alloc, text, segment.options_left())?;
+    push_end(alloc, text, segment.pad(), segment.text)
 }
 
 /// Appends all fields of a segment but its checksum (RFC 9293, 3.1).
@@ -99,9 +135,21 @@ pub fn push_fields<A: Allocator + Copy>(
 ) -> Result<(), AllocError>
     ensures { OnOk result (string_bytes text.new ≡ string_bytes text.old ++ fields_text (content segment.now)) }
 {
-    push_numbers(text, segment)?;
-    push_control(text, segment)?;
+    push_header(text, &segment.header)?;
     push_rest(alloc, text, segment)
+}
+
+/// Appends the same of a segment whose options stay where they came: few have any, and a list of them has room for forty
+/// to be filled and moved.
+pub(crate) fn push_raw_fields<A: Allocator + Copy>(
+    alloc: A,
+    text: &mut String<A>,
+    segment: &RawSegment<'_>,
+) -> Result<(), AllocError>
+    ensures { OnOk result (string_bytes text.new ≡ string_bytes text.old ++ fields_text (raw_content segment.now)) }
+{
+    push_header(text, &segment.header)?;
+    push_raw_rest(alloc, text, segment)
 }
 
 /// The blocks that the first option with blocks reports (RFC 2018, 3).
