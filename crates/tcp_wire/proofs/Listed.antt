@@ -61,44 +61,27 @@ none_padded bytes reads none =
     let padding = options_in_none 40 20 bytes none in
     ap (λ (r : Result Read DecodeError). (result_unwrap_or r ([], 0)).1) (padding ∙ is_padding 20 bytes (ap is_ok (sym padding) ∙ reads))
 
--- after its first option comes an area that can be read, with the other options
+-- after its first option comes an area that can be read, with the other options and the same padding
 first_and_others : (o : OptionContent) (area inner behind : Result Read DecodeError)
     → area ≡ with_first o inner → ((r : Read) → inner ≡ Ok r → behind ≡ Ok r) → IsOk area
     → IsOk behind × ((result_unwrap_or area ([], 0)).0 ≡ o ∷ (result_unwrap_or behind ([], 0)).0)
+    × ((result_unwrap_or area ([], 0)).1 ≡ (result_unwrap_or behind ([], 0)).1)
 first_and_others o area (Ok r) behind is same reads =
     let there = same r refl in (
       ap is_ok there,
       ap (λ (read : Result Read DecodeError). (result_unwrap_or read ([], 0)).0) is
           ∙ ap (λ (read : Result Read DecodeError). o ∷ (result_unwrap_or read ([], 0)).0) (sym there),
+      ap (λ (read : Result Read DecodeError). (result_unwrap_or read ([], 0)).1) is
+          ∙ ap (λ (read : Result Read DecodeError). (result_unwrap_or read ([], 0)).1) (sym there),
     )
 first_and_others o area (Err e) behind is same reads = let no : false ≡ true = sym (ap is_ok is) ∙ reads in absurd cc
 
 pub first_left : (bytes behind : List ℕ) (o : OptionContent) → length bytes ≤ 40 → IsReadable bytes → option_at bytes ≡ Some (o, behind)
-    → IsReadable behind × ((options_of bytes).0 ≡ o ∷ (options_of behind).0)
+    → IsReadable behind × ((options_of bytes).0 ≡ o ∷ (options_of behind).0) × ((options_of bytes).1 ≡ (options_of behind).1)
 first_left bytes behind o few reads found =
     let len = option_length bytes o behind found in
     let least = spelling_length o in
     first_and_others o (options_in 40 20 bytes) (options_in 39 (20 + length (spelling o)) behind) (options_in 40 20 behind)
-    (options_in_some 39 20 bytes behind o found)
-    (λ r e. read_elsewhere 39 40 (20 + length (spelling o)) 20 behind (option_at behind) r refl
-    (omega (arith, few, len, least)) (omega (arith, few, len, least)) e)
-    reads
-
--- which has the same padding
-same_padding : (o : OptionContent) (area inner behind : Result Read DecodeError)
-    → area ≡ with_first o inner → ((r : Read) → inner ≡ Ok r → behind ≡ Ok r) → IsOk area
-    → (result_unwrap_or area ([], 0)).1 ≡ (result_unwrap_or behind ([], 0)).1
-same_padding o area (Ok r) behind is same reads =
-    ap (λ (read : Result Read DecodeError). (result_unwrap_or read ([], 0)).1) is
-    ∙ ap (λ (read : Result Read DecodeError). (result_unwrap_or read ([], 0)).1) (sym (same r refl))
-same_padding o area (Err e) behind is same reads = let no : false ≡ true = sym (ap is_ok is) ∙ reads in absurd cc
-
-pub padding_left : (bytes behind : List ℕ) (o : OptionContent) → length bytes ≤ 40 → IsReadable bytes → option_at bytes ≡ Some (o, behind)
-    → (options_of bytes).1 ≡ (options_of behind).1
-padding_left bytes behind o few reads found =
-    let len = option_length bytes o behind found in
-    let least = spelling_length o in
-    same_padding o (options_in 40 20 bytes) (options_in 39 (20 + length (spelling o)) behind) (options_in 40 20 behind)
     (options_in_some 39 20 bytes behind o found)
     (λ r e. read_elsewhere 39 40 (20 + length (spelling o)) 20 behind (option_at behind) r refl
     (omega (arith, few, len, least)) (omega (arith, few, len, least)) e)

@@ -53,7 +53,8 @@ impl<'a> RawSegment<'a> {
         OptionsLeft::of(self.area)
     }
 
-    /// How many zero bytes come after the options. No list is made of those.
+    /// How many bytes of padding come after the options, from the end-of-option-list byte on, which counts as one of them
+    /// (RFC 9293, 3.1): 0 to 40, all zero. It is counted in place, without a list of the options.
     pub fn pad(&self) -> u8
         ensures { result ≡ (raw_content self.now).pad }
     {
