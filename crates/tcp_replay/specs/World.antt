@@ -105,11 +105,7 @@ party_after_send p text = record p {
   accepted = p.accepted ++ front_taken (send_answer p.endpoint text) text;
 }
 
--- RECEIVE: delivered are the bytes that the call delivered, as many as it answers
-abbrev pub count_delivered : Result Received CallError → ℕ
-count_delivered (Ok (Bytes count)) = count
-count_delivered other = 0
-
+-- RECEIVE: delivered are the bytes that the call delivered
 abbrev pub is_end_of_stream : Result Received CallError → Bool
 is_end_of_stream (Ok EndOfStream) = true
 is_end_of_stream other = false
