@@ -1,17 +1,7 @@
 -- Where the first byte above 7f is, behind loads that have none.
-use Rattle.std.proofs.Common.{◌≡◌, ℕ, zero, suc, ◌+◌, ◌-◌, ◌≤◌, ltb, leb, Bool, true, false, not, cond, List, [], ◌∷◌, length, take, drop, refl, sym, ap, ◌∙◌, arith, length-drop, drop-drop}
+use Rattle.std.proofs.Common.{◌≡◌, ℕ, zero, suc, ◌+◌, ◌-◌, ◌≤◌, ltb, Bool, true, false, List, [], ◌∷◌, length, take, drop, refl, sym, ap, ◌∙◌, arith, length-drop, drop-drop}
 use Rattle.std.specs.List.{position_or_len, list_all}
 use Rattle.std.proofs.lemmas.Bool.{and_parts, ltb-true}
-use lib.Lanes.{top}
-
-pub set_where_high : (x : ℕ) → top 7 (cond (leb 128 x) 255 0) ≡ not (ltb x 128)
-set_where_high x = go (leb 128 x) (ltb x 128) refl refl
-  where
-    go : (a b : Bool) → leb 128 x ≡ a → ltb x 128 ≡ b → top 7 (cond a 255 0) ≡ not b
-    go true false p q = refl
-    go false true p q = refl
-    go true true p q = absurd (grind arith)
-    go false false p q = absurd (grind arith)
 
 low_fails : (x : ℕ) → ltb x 128 ≡ true → ltb 127 x ≡ false
 low_fails x low = go (ltb 127 x) refl

@@ -10,7 +10,7 @@ use lib.Lanes.{zip2, put_chunk, Each1}
 use Rattle.hex.specs.Hex.{decode_pairs, digit_or_error, hex_digit_value, pair_value, value_at}
 use Rattle.hex.specs.declared.error.FromHexError.{FromHexError}
 use Rattle.hex.proofs.Pairs.{cons_byte, decode_pairs-ok_pair, decode_pairs-err_pair}
-use Rattle.kit_text.proofs.PairLanes.{loaded}
+use Rattle.tcp_numbers.proofs.LaneSums.{loaded}
 use Rattle.kit_text.specs.HexLanes.{lane_of, joined_pairs, with_front}
 
 -- two values in a lane, as one byte

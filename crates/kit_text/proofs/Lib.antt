@@ -5,8 +5,8 @@ pub mod Decoding
 pub mod DigitPairs
 pub mod Digits
 pub mod Encoding
+pub mod HighBits
 pub mod LaneByLane
 pub mod LineCounts
-pub mod PairLanes
 pub mod WordCounts
 pub mod WrittenParts

@@ -142,7 +142,9 @@ fn first_far(at: u8, bytes: &[u8], from: usize) -> Option<usize>
     first_farther(at, bytes, middle)
 }
 
-/// The offset of the first byte `at`, in a line: its words are short and few, so that a plain loop finds most.
+/// The offset of the first byte `at`, in a line. It finds what [`first_in_text`] finds, and differs in what is quick: most
+/// words are shorter than [`NEAR`], so one short loop, up to the nearer of `NEAR` and the end, is small enough to be inlined
+/// where words are cut. With the comparisons of `first_in_text` written out there, lines of short words took a fifth longer.
 #[inline(always)]
 fn first_in_line(at: u8, bytes: &[u8]) -> Option<usize>
     ensures { FindsWithin at bytes.now (length bytes.now) result }
@@ -157,7 +159,8 @@ fn first_in_line(at: u8, bytes: &[u8]) -> Option<usize>
     first_far(at, bytes, near)
 }
 
-/// The offset of the first byte `at`, in a text: mostly it is long, so that its length is tested once.
+/// The offset of the first byte `at`, in a text. Most are longer than [`NEAR`], so the length is tested once, and the
+/// comparisons up to `NEAR`, whose count is then known, are written out by the compiler.
 #[inline(always)]
 fn first_in_text(at: u8, text: &[u8]) -> Option<usize>
     ensures { FindsWithin at text.now (length text.now) result }

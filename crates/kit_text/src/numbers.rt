@@ -41,7 +41,8 @@ pub fn read_number(word: &[u8], most: u64) -> Option<u64>
     Some(value)
 }
 
-/// Appends a word and then a number in decimal digits.
+/// Appends a word of at most 32 bytes, and then a number in decimal digits without leading zeros, in one append. `Err` is
+/// want of memory.
 pub fn push_word_number<A: Allocator>(
     text: &mut String<A>,
     word: &str,
@@ -56,7 +57,8 @@ pub fn push_word_number<A: Allocator>(
     push_from(text, &room, at)
 }
 
-/// Appends a number in decimal digits and then a word.
+/// Appends a number in decimal digits without leading zeros, and then a word of at most 32 bytes, in one append. `Err` is
+/// want of memory.
 pub fn push_number_word<A: Allocator>(
     text: &mut String<A>,
     number: u64,

@@ -185,7 +185,8 @@ fn push_counts<A: Allocator>(
     push_from(text, &room, at)
 }
 
-/// Appends flags, numbers, window, the text's length and the blocks of a segment (RFC 9293, 3.1).
+/// Appends a segment's flags, numbers and window, its text's length and the blocks of its first SACK option (RFC 9293, 3.1;
+/// RFC 2018, 3): `flags ACK seq 1 ack 2 window 3 text 4 sack -`. `Err` is want of memory.
 #[tactic(auto, unfolding(crate::specs::Segments::summary_text))]
 pub fn push_summary<A: Allocator>(
     text: &mut String<A>,
@@ -215,7 +216,8 @@ fn push_first_blocks<A: Allocator>(
     push_blocks(text, &[])
 }
 
-/// Appends the same of a segment whose options stay where they came: few have any, so no list is made of them.
+/// Appends what [`push_summary`] does, of a segment whose options stay where they came. Few segments have any, so no list
+/// is made of them.
 #[tactic(auto, unfolding(crate::specs::Segments::summary_text))]
 pub fn push_raw_summary<A: Allocator>(
     text: &mut String<A>,

@@ -1,4 +1,4 @@
-use Rattle.kit_text.proofs.PairLanes.{load_is}
+use Rattle.tcp_numbers.proofs.LaneSums.{load_is}
 use Rattle.kit_text.proofs.DigitPairs.{lanes_join}
 use Rattle.kit_text.proofs.hexadecimal.join.Goals as goal
 
