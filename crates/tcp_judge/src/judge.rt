@@ -16,6 +16,7 @@ use crate::heard::{
     carries_ack, goes_further, is_of_came, keep_span, keep_syn, offers_sack, offers_scale,
     oversteps,
 };
+use crate::lookup::is_from;
 use crate::passage::Passage;
 use crate::reports::{any_report, options_finding};
 use crate::spans::Spans;
@@ -284,11 +285,20 @@ impl<A: Allocator + Copy> Judge<A> {
             )
     }
 
-    /// Readies what came for what is asked of it, where the segment has an acknowledgement.
+    /// Whether each span may be looked at where a segment acknowledges this number. An older number than the furthest one
+    /// may break a rule of form or position, and then none is.
+    fn may_look(&self, acked_number: Seq) -> bool {
+        match self.acked_number {
+            Some(last) => is_from(last, acked_number) || !self.syns.is_empty(),
+            None => true,
+        }
+    }
+
+    /// Readies what came for what is asked of it, where the segment has an acknowledgement that may ask.
     fn note_spans(&mut self, segment: &RawSegment<'_>)
         ensures { self.new ≡ self.old }
     {
-        if carries_ack(segment) {
+        if carries_ack(segment) && self.may_look(segment.header.ack) {
             self.spans.note();
         }
     }
