@@ -138,8 +138,15 @@ void loss_recovery_arrived(struct loss_recovery *recovery, const struct loss_rec
 void loss_recovery_timed_out(struct loss_recovery *recovery, const struct loss_recovery_sender *sender, uint32_t found)
 {
     uint32_t loss = found & TIMERS_TIMED_OUT ? CONGESTION_TIMED_OUT : CONGESTION_RECOVERY;
-    if (!(found & (TIMERS_TIMED_OUT | TIMERS_LOST)) || sender->is_shut)
+    if (!(found & (TIMERS_TIMED_OUT | TIMERS_LOST)))
         return;
+    if (sender->is_shut) {
+        /* No loss: the peer's window is shut, and this probes it (RFC 9293, 3.8.6.1). Where acknowledgements pace what goes out again it
+           goes out unpaced, since none comes that would let it go, if the one that opened the window was lost. */
+        if (found & TIMERS_TIMED_OUT && sender->congestion->is_ack_clocked)
+            recovery->is_resending = 0;
+        return;
+    }
     congestion_clock(sender->congestion, sender->now, timers_trip(sender->timers));
     congestion_lost(sender->congestion, loss, sender->timers->resent, sender->now);
     recovery->duplicate_acks = 0;

@@ -1,7 +1,7 @@
 /* The test of what flow.c does where a peer tells no blocks: duplicates, partial acknowledgements and silence, and of silly windows,
    Nagle's rule and keep-alives. Numbers are worked out from the RFCs; where a fault is cured the test shows it without the cure. */
+#include "made.h"
 #include "sides.h"
-#include "../segment.h"
 
 /* Segments of A's that are on their way, each of a full MSS. */
 static uint8_t flight[60][TCPCORE_EMIT_ROOM];
@@ -132,6 +132,61 @@ static void keeps_nothing_again(void)
             CHECK(place_of(segments[at]), went++);
     CHECK(went, 5);
     CHECK(a.flow.congestion.losses, 1);
+    free_both();
+}
+
+static uint32_t phase_of(const struct side *side)
+{
+    struct tcpcore_status status;
+    tcpcore_status(&side->end, &status);
+    return status.phase;
+}
+
+/* B's acknowledgement of what came before, made one of `acked` bytes more, with a window of `window` bytes. */
+static void acknowledges(const uint8_t *answer, uint32_t acked, uint16_t window)
+{
+    uint8_t made[SEGMENT_HEADER];
+    memcpy(made, answer, sizeof made);
+    write32(made + AT_ACK, read32(made + AT_ACK) + acked);
+    write16(made + AT_WINDOW, window);
+    write_checksum(made, sizeof made, 1 + 2);
+    CHECK(flow_arrive(&a.flow, &a.end, b.addr, a.addr, made, sizeof made, now), TCPCORE_DONE);
+}
+
+/* A partial acknowledgement that covers no more than went out again, and shuts the window. The one that opens it is lost: each timeout
+   probes the window all the same (RFC 9293, 3.8.6.1), and the end goes on where a probe is answered, however late. */
+static void probes_in_recovery(void)
+{
+    begin();
+    launch(10);
+    uint8_t answer[TCPCORE_EMIT_ROOM];
+    tcpcore_addr to;
+    size_t length;
+    CHECK(tcpcore_acknowledge(&b.end), TCPCORE_DONE);
+    CHECK(tcpcore_emit(&b.end, answer, sizeof answer, &to, &length), TCPCORE_DONE);
+    CHECK(length, SEGMENT_HEADER);
+    for (int duplicate = 0; duplicate < 3; duplicate++)
+        acknowledges(answer, 0, KEEPS);
+    CHECK(emit(&a), 1);
+    CHECK(place_of(segments[0]), 0);
+    now += 10;
+    acknowledges(answer, MSS, 0);
+    no_probes(&a);
+    /* What the acknowledgement lets out is lost, too. */
+    while (emit(&a) > 0)
+        now++;
+    CHECK(a.flow.congestion.is_ack_clocked, 1);
+    for (int timeout = 0; timeout < 6; timeout++) {
+        now += (uint64_t)flow_wait(&a.flow, now);
+        CHECK(emit(&a) > 0, 1);
+        CHECK(place_of(segments[0]), 1);
+    }
+    acknowledges(answer, 10 * MSS, KEEPS);
+    CHECK(phase_of(&a), TCPCORE_PHASE_ESTABLISHED);
+    CHECK(a.flow.congestion.loss, CONGESTION_OPEN);
+    CHECK(give(&a, MSS), MSS);
+    CHECK(emit(&a), 1);
+    CHECK(place_of(segments[0]), 10);
     free_both();
 }
 
@@ -401,6 +456,7 @@ int main(void)
     keeps_nothing_again();
     one_segment();
     two_segments();
+    probes_in_recovery();
     limited();
     no_duplicates();
     silence();
