@@ -48,10 +48,18 @@ python_over() {
     rm -rf "$site" python/build
     TCPCORE_PREBUILT=$2 /usr/bin/python3 -m pip install --quiet --no-index --no-deps --no-build-isolation --root-user-action=ignore \
         --target "$site" ./python
-    mkdir -p out/alone/tests
+    mkdir -p out/alone/tests out/alone/examples
     cp ../tcpcore/tests/calls.py out/alone/tests
     PYTHONPATH=$site timeout 300 /usr/bin/python3 out/alone/tests/calls.py
-    passed=$((passed + 1))
+    # The examples by themselves, as a user has them who has installed the package: they find it, and print what they print in the
+    # repository.
+    local example
+    for example in hello two_ends lossy_link; do
+        cp "../tcpcore/examples/$example.py" out/alone/examples
+        (cd out/alone/examples && env -i PATH="$PATH" PYTHONPATH="$site" timeout 300 /usr/bin/python3 "$example.py") >out/printed
+        diff out/printed "../tcpcore/tests/expected/$example"
+    done
+    passed=$((passed + 2))
 }
 if has python3-pip /usr/bin/python3 -m pip --version && has python3-setuptools /usr/bin/python3 -c 'import setuptools' &&
     has python3-wheel /usr/bin/python3 -c 'import wheel'; then

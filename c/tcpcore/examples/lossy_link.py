@@ -2,16 +2,15 @@
 
 One end sends 60 KB over 2 Mbit/s with a delay of 20 ms each way; one packet in 15 is lost on the way there. Time is simulated, so a
 run takes no second, and is the same each time. It prints what became of the transfer, and with a word draws it (matplotlib).
+The package comes by `pip install ./c/bindings/python`.
 """
 
 import heapq
-import os
 import random
 import struct
 import sys
 
-sys.path.insert(0, os.path.dirname(os.path.dirname(os.path.realpath(__file__))))
-from tcpcore import Config, End, Phase, Timer  # noqa: E402
+from tcpcore import Config, End, Phase, Timer
 
 RATE, DELAY, LOSS, SIZE, ISN = 250_000, 0.02, 1 / 15, 60_000, 1000
 TIMES = {Timer.RETRANSMIT: 0.3, Timer.REORDER: 0.05}

@@ -1,10 +1,6 @@
-"""The example two_ends.c over ctypes: it prints the same. python3 two_ends.py"""
+"""The example two_ends.c in Python: it prints the same. python3 two_ends.py, behind `pip install ./c/bindings/python`."""
 
-import os
-import sys
-
-sys.path.insert(0, os.path.dirname(os.path.dirname(os.path.realpath(__file__))))
-from tcpcore import DONE, ENDINGS, PHASES, REORDER, RETRANSMIT, TIME_WAIT, Config, End  # noqa: E402
+from tcpcore import DONE, ENDINGS, PHASES, REORDER, RETRANSMIT, TIME_WAIT, Config, End
 
 HERE = b"The first line goes from A to B, and it is longer than one segment of this wire.\n"
 BACK = b"The second line comes back from B to A.\n"
