@@ -25,7 +25,8 @@ class Small:
         self.gap = self.owed = self.rests = self.closed = self.over = False
 
     def wants(self):
-        wanted = {"retransmit": self.una < self.nxt, "reorder": self.gap, "time-wait": self.rests}
+        wanted = {"retransmit": self.una < self.nxt, "reorder": self.gap, "time-wait": self.rests,
+                  "fin-wait-2": self.closed and self.una == self.accepted and not self.rests}  # fmt: skip
         return {timer for timer, is_wanted in wanted.items() if is_wanted and not self.over}
 
     def due(self):
@@ -44,10 +45,17 @@ class Small:
         self.owed = self.owed and self.over
         return due
 
-    def acknowledge(self):
-        due = (self.nxt, 0) if self.owed and not self.over else None
+    def answers(self):
+        return self.owed and not self.over
+
+    def emit_acknowledgement(self):
+        due = (self.nxt, 0) if self.answers() else None
         self.owed = False
         return due
+
+    def acknowledge(self):
+        self.owed = True
+        return "asked"
 
     def arrive(self, ack, gap, fin):
         before, self.una = self.una, max(self.una, min(self.nxt, ack))
@@ -90,12 +98,13 @@ class Small:
 class Second:
     """What answers a line."""
 
-    def new(self, now, first, time_wait, suspect, handshake, user):
+    def new(self, now, first, time_wait, suspect, handshake, user, fin_wait_2):
         self.end, self.estimator, self.watch = Small(first), Estimator(*STANDARD), Watch()
         self.clock, self.una = min(LAST, now), first
         self.time_wait, self.suspect, self.handshake, self.user = time_wait, suspect, handshake, user
         self.deadlines, self.sent = {}, set()
         self.since, self.expiries, self.patience, self.bursts = None, 0, self.estimator.rto, False
+        self.shut, self.fin_wait_2, self.left = False, fin_wait_2, None
         self.follow()
         return "new"
 
@@ -115,6 +124,10 @@ class Second:
                 self.deadlines.pop(timer, None)
             elif timer not in self.deadlines or (is_news and timer != "time-wait"):
                 self.deadlines[timer] = self.clock + span
+        if "fin-wait-2" not in wanted:
+            self.left = None
+        elif self.left is None:
+            self.left = self.clock
         if "retransmit" not in wanted:
             self.since, self.expiries = None, 0
         elif self.since is None or is_news:
@@ -123,9 +136,13 @@ class Second:
     def given_up_at(self):
         """RFC 9293, 3.8.3: behind the first threshold, and after the time of the second."""
         limit = self.handshake if self.una == 0 else self.user
-        if self.expiries < self.suspect or self.since is None or limit is None:
-            return None
-        return self.since + min(LAST, limit)
+        times = []
+        if self.expiries >= self.suspect and self.since is not None and limit is not None:
+            times.append(self.since + min(LAST, limit))
+        # The standard has no limit for FIN-WAIT-2; where the user sets one it counts from the last that came of the peer.
+        if self.left is not None and self.fin_wait_2 is not None:
+            times.append(self.left + min(LAST, self.fin_wait_2))
+        return min(times, default=None)
 
     def all_deadlines(self):
         at = self.given_up_at()
@@ -137,12 +154,22 @@ class Second:
         if self.end.rests and flags & 4:
             return "withheld"
         self.passes(now)
+        if self.end.rests and fin == 1:
+            # RFC 9293, 3.10.7.4, eighth: the peer's FIN again starts TIME-WAIT anew.
+            self.deadlines.pop("time-wait", None)
+        if fin == 1:
+            self.left = None
         acked = self.end.arrive(ack, gap, fin)
         if self.una == 0 and self.end.una > 0 and self.expiries > 0:
             self.estimator.syn_resent()
         trip = self.watch.acked(self.end.una, self.clock)
         if trip != "-":
             self.estimator.sample(int(trip))
+        if self.shut and window > 0:
+            # RFC 9293, 3.8.6.1: what expired were probes, so that what is sent into the window has a timeout of its own.
+            self.estimator.window_opened()
+            self.deadlines.pop("retransmit", None)
+        self.shut = window == 0
         if window == 0 and self.end.una > 0:
             self.since, self.expiries = None, 0
         self.follow()
@@ -152,13 +179,14 @@ class Second:
         self.passes(now)
         due = self.end.due()
         is_past = due is not None and due[0] > self.end.una and due[1] > 0 and due[0] + due[1] > self.end.una + window
-        out = self.end.acknowledge() if is_past else self.end.transmit()
+        # What was sent before waits for an acknowledgement that is owed, which goes at SND.NXT.
+        is_again = due is not None and due[0] < self.end.nxt
+        out = self.end.emit_acknowledgement() if is_past or (is_again and self.end.answers()) else self.end.transmit()
         if out is None:
             self.bursts = False
         else:
             if out[1] and out[0] < max(self.sent, default=-1) + 1:
                 self.deadlines.pop("reorder", None)
-            self.deadlines.pop("time-wait", None)
             self.watch.sent(*out, self.clock)
             self.sent.update(range(out[0], out[0] + out[1]))
         self.follow()
@@ -179,7 +207,7 @@ class Second:
         elif timer == "reorder":
             self.patience = min(self.estimator.rto, 2 * min(self.patience, self.estimator.rto))
         elif timer == "user":
-            self.since, self.expiries = None, 0
+            self.since, self.expiries, self.left = None, 0, None
         self.end.expire(timer)
         self.follow()
         return timer
@@ -249,7 +277,7 @@ class Turns:
             self.turn("timeout")
 
 
-LIMITS = "240000000 3 180000000 300000000"
+LIMITS = "240000000 3 180000000 300000000 -"
 
 
 def worked():
@@ -274,7 +302,7 @@ def worked():
     late.turn("send 3")
     late.runs(9)
     # Nothing arrives: the path is suspect, and the end is given up once a user timeout is set. So is a SYN.
-    silent = Turns(1, "240000000 3 180000000 -", 4, lost=range(99))
+    silent = Turns(1, "240000000 3 180000000 - -", 4, lost=range(99))
     silent.turn("send 6")
     silent.runs(6)
     silent.lines.append("user-timeout 100000000")
@@ -284,18 +312,50 @@ def worked():
     unanswered.turn("send 1")
     unanswered.runs(12)
     # A peer with a shut window answers: it is there.
-    shut = Turns(1, "1000000 2 1000000 5000000", 4, lost=range(99))
+    shut = Turns(1, "1000000 2 1000000 5000000 -", 4, lost=range(99))
     shut.turn("send 1")
     for _ in range(4):
         shut.runs(2)
         shut.turn("arrive 1 0 0 0 0")
     shut.runs(6)
+    # It opens after the probes have backed the timeout off. What goes out again waits for an acknowledgement that is owed.
+    opened = Turns(1, LIMITS, 9)
+    opened.turn("send 2")
+    opened.runs(9)
+    opened.turn("arrive 3 0 0 0 0", "send 1")
+    opened.lost = range(99)
+    for _ in range(5):
+        opened.runs(1)
+    opened.turn("arrive 3 0 0 7 0", "acknowledge")
+    opened.runs(2)
+    opened.turn("send 2", "acknowledge")
+    opened.turn("arrive 3 0 1 7 0", "resend-first")
+    opened.runs(3)
+    # TIME-WAIT begins anew with the peer's FIN again, and with nothing else that comes or goes out.
+    resting = Turns(1, LIMITS, 9)
+    resting.turn("send 1", "close")
+    resting.runs(9)
+    resting.turn("arrive 3 0 1 9 0")
+    for stray in ("3 0 0 9 0", "3 1 0 9 0", "3 0 1 9 0", "3 0 0 0 0", "3 0 0 9 4"):
+        resting.now += 70 * SECOND
+        resting.turn(f"arrive {stray}", "acknowledge", "timeout")
+    resting.runs(3)
+    # FIN-WAIT-2 has a limit, which counts anew when something comes, and ends once the peer has closed.
+    alone = Turns(1, "1000000 3 180000000 300000000 60000000", 9)
+    alone.turn("send 1", "close")
+    alone.runs(9)
+    gone = Turns(1, "1000000 3 180000000 300000000 60000000", 9)
+    gone.turn("send 1", "close")
+    gone.runs(2)
+    gone.now += 50 * SECOND
+    gone.turn("arrive 3 0 1 9 0")
+    gone.runs(3)
     # Nothing is taken in a burst, no timer expires, and time doesn't go back.
-    burst = ["new 7 1 5 3 - -", "send 7 4", "emit 7 100", "emit 6 100", "timeout 1000006", "timeout 1000007", "arrive 1000008 2 0 0 9 0", "timeout 9000000",
+    burst = ["new 7 1 5 3 - - -", "send 7 4", "emit 7 100", "emit 6 100", "timeout 1000006", "timeout 1000007", "arrive 1000008 2 0 0 9 0", "timeout 9000000",
              "send 9000000 1", "emit 8000000 100", "arrive 9000000 2 0 1 9 0", "emit 9000000 1", "emit 9000000 1", "arrive 9000000 2 0 1 9 0",
              "emit 9000000 0", "resend-first 9000001", "emit 9000001 0", "emit 9000001 0", f"timeout {MOST}", f"emit {MOST} 3", f"abort {MOST}",
              f"abort {MOST}", "emit 9000002 3", "close 9000003", f"timeout {MOST}"]  # fmt: skip
-    turns = (orderly, gap, late, silent, unanswered, shut)
+    turns = (orderly, gap, late, silent, unanswered, shut, opened, resting, alone, gone)
     return [line for turn in turns for line in turn.lines] + burst
 
 
@@ -306,9 +366,9 @@ def random_calls(draw, count):
         at = draw.choice((now, now, now, max(0, now - 5000)))
         kind = draw.randrange(20)
         if kind == 0 or number == 0:
-            limits = [draw.choice(("-", draw.randrange(200 * SECOND), MOST)) for _ in range(2)]
+            limits = [draw.choice(("-", draw.randrange(200 * SECOND), MOST)) for _ in range(3)]
             time_wait = draw.choice((draw.randrange(100 * SECOND), MOST))
-            yield f"new {at} {draw.choice((0, 1, 5))} {time_wait} {draw.randrange(4)} {limits[0]} {limits[1]}"
+            yield f"new {at} {draw.choice((0, 1, 5))} {time_wait} {draw.randrange(4)} {limits[0]} {limits[1]} {limits[2]}"
         elif kind < 9:
             yield f"emit {at} {draw.choice((0, 1, 2, 5, MOST))}"
         elif kind < 12:
@@ -321,7 +381,7 @@ def random_calls(draw, count):
         elif kind < 19:
             yield f"send {at} {draw.randrange(4)}"
         else:
-            yield draw.choice((f"receive {at}", f"close {at}", f"resend-first {at}", f"abort {at}"))
+            yield draw.choice((f"receive {at}", f"acknowledge {at}", f"close {at}", f"resend-first {at}", f"abort {at}"))
 
 
 def answers_of(lines):

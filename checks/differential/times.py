@@ -43,6 +43,11 @@ class Estimator:
     def expired(self):
         self.rto = min(self.rto * 2, self.greatest)
 
+    def window_opened(self):
+        """RFC 9293, 3.8.6.1: what expired were probes of a window that was shut, and no loss of what was sent."""
+        if self.srtt is not None:
+            self.rto = self.bounded(self.srtt + max(self.granularity, K * self.rttvar))
+
     def syn_resent(self):
         if self.initial < self.after_syn:
             self.rto = self.bounded(self.after_syn)
@@ -123,6 +128,8 @@ WORKED = [
     "estimator 3000000 1000000 60000000 1000 3000000", "expired", "syn-resent",
     # The first timeout and 3 s are out of the bounds.
     "estimator 10 200 1000000 1 3000000", "syn-resent", "estimator 9000000 200 1000000 1 0",
+    # Probes of a shut window have expired: before any measurement that changes nothing, behind one the timeout is what was measured.
+    "standard", "expired", "expired", "window-opened", "sample 400000", *["expired"] * 7, "window-opened", "window-opened", "expired",
     # Each bound of sound rules, and one past it.
     "estimator 1 0 1 1 1", "estimator 1 1 1 1 1", "estimator 1 2 1 1 1", "estimator 1 1 1099511627776 1099511627776 1", "sample 1099511627776",
     "estimator 1 1 1099511627777 1 1", "estimator 1 1 1 1099511627777 1",
@@ -149,7 +156,7 @@ def random_calls(draw, count):
         elif kind < 4:
             yield f"sample {draw.choice((0, 1, draw.randrange(1000), draw.randrange(10 * SECOND), 2**draw.randrange(62)))}"
         elif kind == 4:
-            yield draw.choice(("expired", "expired", "syn-resent"))
+            yield draw.choice(("expired", "expired", "window-opened", "syn-resent"))
         elif kind < 7:
             length = draw.choice((0, 1, 3, 10))
             yield f"sent {position} {length} {now}"

@@ -81,7 +81,8 @@ class Reno:
         return self.shown()
 
     def idle(self):
-        self.cwnd = min(self.iw, self.cwnd)
+        # RFC 5681, 4.1: what was acknowledged before says nothing of the window that begins here.
+        self.cwnd, self.bytes_acked = min(self.iw, self.cwnd), 0
         return self.shown()
 
     def room(self, flight):
@@ -197,6 +198,9 @@ WORKED = [
     "may-resend", "timed-out 1000 4401", "may-resend", "resent 99", "may-resend", "resent 1", "may-resend", "timed-out 1000 4401", "resent 100",
     "may-resend", "duplicate 3401 1000 4401", "duplicate 3401 1000 4401", "duplicate 3401 1000 4401", "room 0",
     "acknowledged 100 3501 900", "may-resend", "resent 200", "may-resend", "acknowledged 900 4401 0", "may-resend", "acknowledged 100 4501 300", "timed-out 500 5001", "acknowledged 100 4601 400", "timed-out 400 5001",
+    # What congestion avoidance had counted before an idle time doesn't count behind it.
+    "reno 1000", "timed-out 4000 5001", "acknowledged 1000 6001 4000", "acknowledged 1500 7501 4000", "idle", "acknowledged 600 8101 4000",
+    "acknowledged 1400 9501 4000",
     "syn-lost", "idle", "reno 1000", *["acknowledged 1000 1001 10000"] * 3, "idle", "syn-lost", "duplicate 10001 5000 15001",
     # Both segments of a pair, a single one, one that can't wait with text and without, half segments, and none; no delay, the longest.
     "delayed 1000 500000", "delayed 0 1", "delayed 65536 1", "delayed 65535 499999", "due 0", "delayed 1000 40000", "arrived 1000 0 100", "due 40099",

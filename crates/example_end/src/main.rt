@@ -79,7 +79,7 @@ fn turn(
     a: &mut End<Global>,
     b: &mut End<Global>,
 ) -> io::Result<()> {
-    wire.deliver(now, a, b);
+    wire.deliver(now, a, b)?;
     expire(rt, now, "A", a)?;
     expire(rt, now, "B", b)?;
     if a.core().end.phase() == Phase::Established {

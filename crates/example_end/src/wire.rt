@@ -3,6 +3,7 @@ use std::alloc::Global;
 use std::collections::VecDeque;
 use std::io;
 use tcp_conn::EMIT_ROOM;
+use tcp_driver::Taken;
 use tcp_end::End;
 
 /// One way, in microseconds.
@@ -49,22 +50,29 @@ impl Wire {
         }
     }
 
-    /// What has come by now goes to the end whose address it has: A is at 10.0.0.1.
-    pub(crate) fn deliver(&mut self, now: u64, a: &mut End<Global>, b: &mut End<Global>) {
+    /// What has come by now goes to the end whose address it has: A is at 10.0.0.1. An end whose timer has expired has to
+    /// emit first, and is passed the segment again the next time.
+    pub(crate) fn deliver(
+        &mut self,
+        now: u64,
+        a: &mut End<Global>,
+        b: &mut End<Global>,
+    ) -> io::Result<()> {
         for _ in 0..1000 {
             match self.next_arrival() {
                 Some(at) if at <= now => {}
-                _ => return,
+                _ => return Ok(()),
             }
             let Some(packet) = self.packets.pop_front() else {
-                return;
+                return Ok(());
             };
-            if packet.dst[3] == 1 {
-                let _ = a.arrive(now, packet.src, packet.dst, &packet.bytes);
-            } else {
-                let _ = b.arrive(now, packet.src, packet.dst, &packet.bytes);
+            let end = if packet.dst[3] == 1 { &mut *a } else { &mut *b };
+            if let Taken::EmitFirst = end.arrive(now, packet.src, packet.dst, &packet.bytes) {
+                self.packets.push_front(packet)?;
+                return Ok(());
             }
         }
+        Ok(())
     }
 
     /// Puts on it all that an end has due, and prints each segment: its position, and how many numbers it takes.

@@ -153,9 +153,10 @@ may_resend w = nat_lt w.resent w.cwnd
 abbrev pub after_syn_resent : Window → Window
 after_syn_resent w = record w { cwnd = w.smss }
 
--- NOTHING WAS SENT for longer than the timeout: cwnd is the restart window, min (IW, cwnd) (RFC 5681, 4.1)
+-- NOTHING WAS SENT for longer than the timeout: cwnd is the restart window, min (IW, cwnd), and what was acknowledged before doesn't
+-- count (RFC 5681, 4.1)
 abbrev pub after_idle : Window → Window
-after_idle w = record w { cwnd = min (initial_window w.smss) w.cwnd }
+after_idle w = record w { cwnd = min (initial_window w.smss) w.cwnd; bytes_acked = 0 }
 
 -- LIMITED TRANSMIT (RFC 3042, 2): each of the first two duplicates lets a new segment out beyond cwnd, which stays as it is
 abbrev pub limited : Window → ℕ

@@ -210,11 +210,13 @@ impl Reno {
         self.cwnd = self.smss;
     }
 
-    /// Data are sent again after nothing was sent for longer than the timeout (RFC 5681, 4.1).
+    /// Data are sent again after nothing was sent for longer than the timeout (RFC 5681, 4.1): the window is the initial one
+    /// at most, and what was acknowledged before doesn't let it grow.
     pub fn was_idle(&mut self)
         ensures { self.new ≡ after_idle self.old }
     {
         self.cwnd = initial_window(self.smss).min(self.cwnd);
+        self.bytes_acked = 0;
     }
 
     ghost use Rattle.tcp_congestion.specs.Reno.{after_growth, begun, deflated, halved, limited, recovered};

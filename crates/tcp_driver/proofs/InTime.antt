@@ -1,13 +1,13 @@
 -- A timeout comes in time: the retransmission timer keeps its deadline while it goes on.
 use Rattle.std.proofs.Common.{◌≡◌, ℕ, ◌+◌, ◌<◌, ◌≤◌, Bool, true, false, List, [], ◌∷◌, Option, Some, None, arith, refl, sym, ◌∙◌, subst}
-use Rattle.std.specs.Prelude.{◌||◌, ◌==◌, nat_le, if◌then◌else◌, IfSome, is_some}
+use Rattle.std.specs.Prelude.{◌||◌, ◌&&◌, not, ◌==◌, nat_le, if◌then◌else◌, IfSome, is_some}
 use Rattle.std.proofs.lemmas.Bool.Decides.{Decides-eqb, nat_tests}
 use Rattle.tcp_driver.specs.declared.machine.Sent.{Sent}
 use Rattle.tcp_driver.specs.declared.machine.Timer.{Timer}
 use Rattle.tcp_driver.specs.declared.machine.Timer.TheVariants.{Retransmit, Reorder, TimeWait, User}
 use Rattle.tcp_driver.specs.Machine.{Machine}
 use Rattle.tcp_driver.specs.Deadlines.{earlier, kept, no_later}
-use Rattle.tcp_driver.specs.Times.{Times, after_expiry, after_segment, expiring, expiry, measured, user_deadline}
+use Rattle.tcp_driver.specs.Times.{Times, after_expiry, after_segment, expiring, expiry, opens, taken, user_deadline}
 use Rattle.tcp_driver.specs.Driver.{Driving, after_taken, after_time_by, at, core_after, following, is_withheld, sent_of}
 use Rattle.tcp_driver.specs.Calls.{Call, Arrives, Emits, Expires, Uses, SetsUserTimeout, after_call, after_calls, AllBy, AllEarly, AllGoOn, AllPunctual, GoesOn, IsEarly, IsPunctual, TimeoutComesInTime, ends_waiting, time_of}
 
@@ -43,14 +43,19 @@ expiry-keeps Reorder t other = (refl, refl)
 expiry-keeps TimeWait t other = (refl, refl)
 expiry-keeps User t other = absurd (cc)
 
+-- as long as no shut window opens
+unopened : (opening : Bool) (before : Option ℕ) → opening ≡ false → (if opening then None else before) ≡ before
+unopened true before e = absurd (cc)
+unopened false before e = refl
+
 arrive-goes : {S : Type 0} (m : Machine S) (d : Driving S) (now time : ℕ) (src dst bytes : List ℕ) (b : Bool) → Goes m d time
-    → (m.wants (if b then d else after_taken m d now src dst bytes).core).retransmit ≡ true
+    → (not b && opens d.times.shut (m.report d.core src dst bytes).window) ≡ false → (m.wants (if b then d else after_taken m d now src dst bytes).core).retransmit ≡ true
     → m.una (if b then d else after_taken m d now src dst bytes).core ≡ m.una d.core → Goes m (if b then d else after_taken m d now src dst bytes) time
-arrive-goes m d now time src dst bytes true h wanted same = h
-arrive-goes m d now time src dst bytes false h wanted same =
+arrive-goes m d now time src dst bytes true h shut wanted same = h
+arrive-goes m d now time src dst bytes false h shut wanted same =
     following-goes m (m.arrived d.core src dst bytes)
-    (measured d.times (m.una (m.arrived d.core src dst bytes)) (m.report d.core src dst bytes).window now) now (m.una d.core) time h.deadline h.una
-    wanted same
+    (taken d.times (m.una (m.arrived d.core src dst bytes)) (m.report d.core src dst bytes) now) now (m.una d.core) time
+    (unopened (opens d.times.shut (m.report d.core src dst bytes).window) d.times.deadlines.retransmit shut ∙ h.deadline) h.una wanted same
 
 expire-goes : {S : Type 0} (m : Machine S) (d : Driving S) (now time : ℕ) (which : Option Timer) → ends_waiting which ≡ false → Goes m d time
     → (m.wants (after_time_by m d which now).core).retransmit ≡ true → m.una (after_time_by m d which now).core ≡ m.una d.core
@@ -61,7 +66,7 @@ expire-goes m d now time (Some timer) other h wanted same =
     following-goes m (m.expired d.core timer) (after_expiry d.times timer) now (m.una d.core) time (e.0 ∙ h.deadline) (e.1 ∙ h.una) wanted same
 
 next-goes : {S : Type 0} (m : Machine S) (d : Driving S) (time : ℕ) (call : Call S) → Goes m d time → GoesOn m d call → Goes m (after_call m d call) time
-next-goes m d time (Arrives now src dst bytes) h g = arrive-goes m d (at d now) time src dst bytes (d.times.bursting || is_withheld m d.core bytes) h g.wanted g.una
+next-goes m d time (Arrives now src dst bytes) h g = arrive-goes m d (at d now) time src dst bytes (d.times.bursting || is_withheld m d.core bytes) h g.opens g.wanted g.una
 next-goes m d time (Emits now window) h g =
     let e = segment-keeps (sent_of m d.core window) d.times (at d now) in
     following-goes m (core_after m d.core window) (after_segment (sent_of m d.core window) d.times (at d now)) (at d now) (m.una d.core) time

@@ -1,9 +1,9 @@
 -- Many calls of a driver, one after another.
-use Rattle.std.specs.Prelude.{◌≡◌, ℕ, ◌+◌, ◌<◌, ◌≤◌, Bool, true, false, List, [], ◌∷◌, Option, Some, IfSome}
+use Rattle.std.specs.Prelude.{◌≡◌, ℕ, ◌+◌, ◌<◌, ◌≤◌, Bool, true, false, not, ◌&&◌, ◌||◌, List, [], ◌∷◌, Option, Some, IfSome}
 use Rattle.tcp_driver.specs.declared.machine.Timer.{Timer}
 use Rattle.tcp_driver.specs.declared.machine.Timer.TheVariants.{Retransmit, User}
-use Rattle.tcp_driver.specs.Times.{expiry, next_expiry}
-use Rattle.tcp_driver.specs.Driver.{Driving, IsTimely, after_arrival, after_emission, after_time, after_user, after_user_timeout, at, core_after, expired}
+use Rattle.tcp_driver.specs.Times.{expiry, next_expiry, opens}
+use Rattle.tcp_driver.specs.Driver.{Driving, IsTimely, after_arrival, after_emission, after_time, after_user, after_user_timeout, at, core_after, expired, is_withheld}
 use Rattle.tcp_driver.specs.Machine.{Machine}
 
 -- each at a time, but the last; an arrival with its source and destination; a user's call with what the end is after it
@@ -59,11 +59,19 @@ abbrev pub is_timeout : {S : Type 0} → Driving S → Call S → Bool
 is_timeout d (Expires now) = ends_waiting (expiry d.times (at d now))
 is_timeout d other = false
 
--- THE TIMER GOES ON over a call: the end still wants it, nothing new is acknowledged, and the call isn't its expiry
+-- A WINDOW OPENS with a segment that the driver takes
+abbrev pub is_opening : {S : Type 0} → Machine S → Driving S → Call S → Bool
+is_opening m d (Arrives now src dst bytes) =
+    not (d.times.bursting || is_withheld m d.core bytes) && opens d.times.shut (m.report d.core src dst bytes).window
+is_opening m d other = false
+
+-- THE TIMER GOES ON over a call: the end still wants it, nothing new is acknowledged, no shut window opens, and the call isn't its
+-- expiry
 pub record GoesOn {S : Type 0} (m : Machine S) (d : Driving S) (call : Call S) : Type 0 where
   pub wanted : (m.wants (after_call m d call).core).retransmit ≡ true
   pub una : m.una (after_call m d call).core ≡ m.una d.core
   pub waits : is_timeout d call ≡ false
+  pub opens : is_opening m d call ≡ false
 
 abbrev pub AllGoOn : {S : Type 0} → Machine S → Driving S → List (Call S) → Type 0
 AllGoOn m d [] = Unit {0}

@@ -7,7 +7,7 @@ use Rattle.tcp_driver.specs.declared.limits.Limits.{Limits}
 use Rattle.tcp_driver.specs.declared.machine.Sent.{Sent}
 use Rattle.tcp_driver.specs.declared.machine.Timer.{Timer}
 use Rattle.tcp_driver.specs.Deadlines.{last}
-use Rattle.tcp_driver.specs.Times.{Times, IsSoon, after_expiry, after_segment, expiry, followed, measured, new_times, time_at, with_user_timeout}
+use Rattle.tcp_driver.specs.Times.{Times, IsSoon, after_expiry, after_segment, expiry, followed, new_times, taken, time_at, with_user_timeout}
 use Rattle.tcp_driver.specs.Machine.{Machine}
 
 pub record Driving (S : Type 0) : Type 0 where
@@ -20,6 +20,7 @@ pub record IsTimely {S : Type 0} (m : Machine S) (d : Driving S) : Type 0 where
   pub una : d.times.una ≡ m.una d.core
   pub retransmit : is_some d.times.deadlines.retransmit ≡ (m.wants d.core).retransmit
   pub since : is_some d.times.since ≡ (m.wants d.core).retransmit
+  pub left : is_some d.times.left ≡ (m.wants d.core).fin_wait_2
   pub reorder : is_some d.times.deadlines.reorder ≡ (m.wants d.core).reorder
   pub time_wait : is_some d.times.deadlines.time_wait ≡ (m.wants d.core).time_wait
 
@@ -56,14 +57,15 @@ abbrev pub is_withheld : {S : Type 0} → Machine S → S → List ℕ → Bool
 is_withheld m s bytes = m.ignores_resets s && is_reset bytes
 
 -- in a burst nothing is taken
-abbrev pub arrival_answer : {S : Type 0} → Machine S → Driving S → List ℕ → List ℕ → List ℕ → Taken
-arrival_answer m d src dst bytes =
-    if d.times.bursting then EmitFirst else (if is_withheld m d.core bytes then Withheld else Done (m.report d.core src dst bytes))
+abbrev pub arrival_answer : {S T : Type 0} → Machine S → (S → List ℕ → List ℕ → List ℕ → T) → Driving S → List ℕ → List ℕ → List ℕ → Taken T
+arrival_answer m answer d src dst bytes =
+    if d.times.bursting then EmitFirst
+    else (if is_withheld m d.core bytes then Withheld else Done (m.report d.core src dst bytes) (answer d.core src dst bytes))
 
 abbrev pub after_taken : {S : Type 0} → Machine S → Driving S → ℕ → List ℕ → List ℕ → List ℕ → Driving S
 after_taken m d now src dst bytes =
     following m (m.arrived d.core src dst bytes)
-    (measured d.times (m.una (m.arrived d.core src dst bytes)) (m.report d.core src dst bytes).window now) now
+    (taken d.times (m.una (m.arrived d.core src dst bytes)) (m.report d.core src dst bytes) now) now
 
 abbrev pub after_arrival : {S : Type 0} → Machine S → Driving S → ℕ → List ℕ → List ℕ → List ℕ → Driving S
 after_arrival m d now src dst bytes = if d.times.bursting || is_withheld m d.core bytes then d else after_taken m d now src dst bytes
@@ -76,9 +78,14 @@ abbrev pub waits : Option Sent → ℕ → ℕ → Bool
 waits None una window = false
 waits (Some sent) una window = is_past una window sent
 
+-- WHAT GOES OUT AGAIN waits for a pending acknowledgement (RFC 9293, 3.8.6.3): it begins before SND.NXT
+abbrev pub goes_back : Option Sent → ℕ → ℕ → Bool
+goes_back None una flight = false
+goes_back (Some sent) una flight = nat_lt (sent.start - una) flight
+
 -- then a pending acknowledgement goes alone
 abbrev pub holds : {S : Type 0} → Machine S → S → ℕ → Bool
-holds m s window = waits (m.due s) (m.una s) window
+holds m s window = waits (m.due s) (m.una s) window || (is_some (m.alone s) && goes_back (m.due s) (m.una s) (m.flight s))
 
 abbrev pub sent_of : {S : Type 0} → Machine S → S → ℕ → Option Sent
 sent_of m s window = if holds m s window then m.alone s else m.due s
@@ -87,7 +94,7 @@ abbrev pub written_of : {S : Type 0} → Machine S → S → ℕ → List ℕ �
 written_of m s window out = if holds m s window then m.written_alone s out else m.written s out
 
 abbrev pub core_after : {S : Type 0} → Machine S → S → ℕ → S
-core_after m s window = if holds m s window then m.acknowledged s else m.emitted s
+core_after m s window = if holds m s window then m.emitted_alone s else m.emitted s
 
 abbrev pub after_emission : {S : Type 0} → Machine S → Driving S → ℕ → ℕ → Driving S
 after_emission m d now window =

@@ -1,10 +1,10 @@
 -- How long an end waits (RFC 9293, 3.4.2, 3.8.3 and 3.9.1.1). All times are whole microseconds.
-use Rattle.std.specs.Prelude.{ℕ, ◌==◌, if◌then◌else◌, Option, Some}
+use Rattle.std.specs.Prelude.{ℕ, ◌==◌, if◌then◌else◌, Option, Some, None}
 use Rattle.tcp_driver.specs.declared.limits.Limits.{Limits}
 
--- two maximum segment lifetimes, three expiries, three minutes for a SYN, and a user timeout of five minutes
+-- two maximum segment lifetimes, three expiries, three minutes for a SYN, a user timeout of five minutes, and FIN-WAIT-2 without a limit
 abbrev pub standard : Limits
-standard = record { time_wait = 240000000; suspect_after = 3; handshake = Some 180000000; user = Some 300000000 }
+standard = record { time_wait = 240000000; suspect_after = 3; handshake = Some 180000000; user = Some 300000000; fin_wait_2 = None }
 
 -- how long what begins at SND.UNA may be without an answer: the SYN is at position 0
 abbrev pub limit_of : Limits → ℕ → Option ℕ

@@ -27,7 +27,7 @@ pub record Machine (S : Type 0) : Type 0 where
   -- the same of an acknowledgement alone
   pub alone : S → Option Sent
   pub written_alone : S → List ℕ → List ℕ
-  pub acknowledged : S → S
+  pub emitted_alone : S → S
   -- whether anything is in flight, and the state after the first segment of it is to go out again
   pub can_resend : S → Bool
   pub first_resent : S → S
@@ -35,5 +35,6 @@ pub record Machine (S : Type 0) : Type 0 where
   pub sent : S → List ℕ → S
   pub read : S → List ℕ → List ℕ
   pub received : S → ℕ → S
+  pub acknowledged : S → S
   pub closed : S → S
   pub aborted : S → S

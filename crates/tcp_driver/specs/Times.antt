@@ -1,12 +1,13 @@
 -- The times of one end (RFC 6298, 5; RFC 9293, 3.8.3 and 3.10.8), whatever the end is.
-use Rattle.std.specs.Prelude.{ℕ, ◌+◌, ◌-◌, ◌*◌, ◌^◌, ◌≤◌, nat_lt, nat_le, Bool, true, false, ◌&&◌, ◌||◌, ◌==◌, if◌then◌else◌, Option, Some, None, IfSome, min, max}
+use Rattle.std.specs.Prelude.{ℕ, ◌+◌, ◌-◌, ◌*◌, ◌^◌, ◌≤◌, nat_lt, nat_le, Bool, true, false, not, ◌&&◌, ◌||◌, ◌==◌, if◌then◌else◌, Option, Some, None, IfSome, is_some, unwrap_or, min, max}
 use Rattle.tcp_timing.specs.declared.rules.Rules.{Rules}
 use Rattle.tcp_timing.specs.declared.round_trip.RoundTrip.{RoundTrip}
 use Rattle.tcp_timing.specs.declared.watch.Watch.{Watch}
-use Rattle.tcp_timing.specs.Estimate.{Estimate, IsBounded, new_estimate, after_sample, after_back_off, after_syn_resent}
+use Rattle.tcp_timing.specs.Estimate.{Estimate, IsBounded, new_estimate, after_sample, after_back_off, after_syn_resent, without_back_off}
 use Rattle.tcp_timing.specs.Watch.{new_watch, after_sent, after_acked, sample_of}
 use Rattle.tcp_driver.specs.declared.deadlines.Deadlines.{Deadlines}
 use Rattle.tcp_driver.specs.declared.limits.Limits.{Limits}
+use Rattle.tcp_driver.specs.declared.machine.Report.{Report}
 use Rattle.tcp_driver.specs.declared.machine.Sent.{Sent}
 use Rattle.tcp_driver.specs.declared.machine.Timer.{Timer}
 use Rattle.tcp_driver.specs.declared.machine.Timer.TheVariants.{Retransmit, Reorder, TimeWait, User}
@@ -27,6 +28,10 @@ pub record Times : Type 0 where
   pub resent : ℕ
   -- how long the gaps that the peer reported may take to be filled
   pub span : ℕ
+  -- whether the peer's window was shut when it was last taken
+  pub shut : Bool
+  -- in FIN-WAIT-2: since when nothing of the peer's stream has come
+  pub left : Option ℕ
   -- a timer has expired, and not all that is due then has gone out
   pub bursting : Bool
   -- the time of the last call
@@ -37,6 +42,7 @@ pub record IsSoon (t : Times) : Type 0 where
   pub bounded : IsBounded t.estimate
   pub clock : t.clock ≤ last
   pub since : IfSome t.since (λ time. time ≤ t.clock)
+  pub left : IfSome t.left (λ time. time ≤ t.clock)
   pub retransmit : IfSome t.deadlines.retransmit (λ time. time ≤ t.clock + t.estimate.rules.greatest)
   pub reorder : IfSome t.deadlines.reorder (λ time. time ≤ t.clock + t.estimate.rules.greatest)
   pub time_wait : IfSome t.deadlines.time_wait (λ time. time ≤ t.clock + t.limits.time_wait)
@@ -71,6 +77,7 @@ followed t w una now = record t {
   una = una;
   since = kept w.retransmit (una == t.una) t.since now;
   resent = if w.retransmit && una == t.una then t.resent else 0;
+  left = kept w.fin_wait_2 true t.left now;
   span = span_after (una == t.una) t.span t.estimate;
   clock = now;
 }
@@ -85,6 +92,8 @@ first_times rules limits una now = record {
   since = None;
   resent = 0;
   span = (new_estimate rules).rto;
+  shut = false;
+  left = None;
   bursting = false;
   clock = now;
 }
@@ -105,26 +114,53 @@ begins_late t una = t.una == 0 && (nat_lt 0 una && nat_lt 0 t.resent)
 abbrev pub after_handshake : Bool → Estimate → Estimate
 after_handshake late e = if late then after_syn_resent e else e
 
--- a peer whose window is shut is there all the same (RFC 9293, 3.8.6.1)
+abbrev pub measured : Times → ℕ → ℕ → Times
+measured t una now = record t {
+  estimate = after_trip (sample_of t.watch una now) (after_handshake (begins_late t una) t.estimate);
+  watch = after_acked t.watch una;
+}
+
+-- A WINDOW IS TAKEN. A peer whose window is shut is there all the same (RFC 9293, 3.8.6.1)
 abbrev pub is_shut : Option ℕ → Bool
 is_shut None = false
 is_shut (Some window) = window == 0
 
-abbrev pub measured : Times → ℕ → Option ℕ → ℕ → Times
-measured t una window now = record t {
-  estimate = after_trip (sample_of t.watch una now) (after_handshake (begins_late t una) t.estimate);
-  watch = after_acked t.watch una;
+abbrev pub shut_after : Bool → Option ℕ → Bool
+shut_after shut None = shut
+shut_after shut (Some window) = window == 0
+
+-- where it opens that was shut, what has expired since were probes: the timeout isn't backed off any more, and its timer starts anew
+abbrev pub opens : Bool → Option ℕ → Bool
+opens shut None = false
+opens shut (Some window) = shut && not (window == 0)
+
+abbrev pub after_window : Times → ℕ → Option ℕ → Times
+after_window t una window = record t {
+  estimate = if opens t.shut window then without_back_off t.estimate else t.estimate;
+  deadlines = record t.deadlines { retransmit = if opens t.shut window then None else t.deadlines.retransmit };
   since = if is_shut window && nat_lt 0 una then None else t.since;
   resent = if is_shut window && nat_lt 0 una then 0 else t.resent;
+  shut = shut_after t.shut window;
 }
 
--- ---- AN EMISSION. What goes out again is given as long as ever to be reported, and what goes out in TIME-WAIT answers the peer's FIN,
--- so that TIME-WAIT starts anew (RFC 9293, 3.10.7.4)
+-- THE PEER'S FIN AGAIN starts TIME-WAIT anew, and nothing else does (RFC 9293, 3.10.7.4, eighth)
+abbrev pub after_fin : Bool → Times → Times
+after_fin repeats_fin t = record t { deadlines = record t.deadlines { time_wait = if repeats_fin then None else t.deadlines.time_wait } }
+
+-- THE PEER IS THERE in FIN-WAIT-2 where something of its stream comes
+abbrev pub after_advance : Bool → Times → Times
+after_advance advances t = record t { left = if advances then None else t.left }
+
+abbrev pub taken : Times → ℕ → Report → ℕ → Times
+taken t una report now =
+    after_advance report.advances (after_fin report.repeats_fin (after_window (measured t una now) una report.window))
+
+-- ---- AN EMISSION. What goes out again is given as long as ever to be reported
 abbrev pub goes_again : Watch → Sent → Bool
 goes_again w sent = nat_lt 0 sent.count && nat_lt sent.start w.highest
 
 abbrev pub deadlines_sent : Bool → Deadlines → Deadlines
-deadlines_sent again d = record { retransmit = d.retransmit; reorder = if again then None else d.reorder; time_wait = None }
+deadlines_sent again d = record d { reorder = if again then None else d.reorder }
 
 abbrev pub after_segment : Option Sent → Times → ℕ → Times
 after_segment None t now = record t { bursting = false }
@@ -141,13 +177,19 @@ abbrev pub later_by : Option ℕ → Option ℕ → Option ℕ
 later_by (Some time) (Some span) = Some (time + min last span)
 later_by time span = None
 
--- THE USER TIMEOUT (RFC 9293, 3.8.3): only once the path is suspect, so that a single answer that was lost ends nothing
+-- THE USER TIMEOUT (RFC 9293, 3.8.3): only once the path is suspect, so that a single answer that was lost ends nothing; and the
+-- limit of FIN-WAIT-2, if it has one
 abbrev pub user_deadline : Times → Option ℕ
-user_deadline t = if is_suspect t then later_by t.since (limit_of t.limits t.una) else None
+user_deadline t =
+    earlier (if is_suspect t then later_by t.since (limit_of t.limits t.una) else None) (later_by t.left t.limits.fin_wait_2)
 
 -- when a timer expires next: there is such a time exactly while some timer has to run
-abbrev pub wants_any : Wants → Bool
-wants_any w = w.retransmit || (w.reorder || w.time_wait)
+abbrev pub wants_any : Wants → Limits → Bool
+wants_any w l = w.retransmit || (w.reorder || (w.time_wait || (w.fin_wait_2 && is_some l.fin_wait_2)))
+
+-- and it is no further than the longest of what may be waited for
+abbrev pub longest_wait : Times → ℕ
+longest_wait t = max t.estimate.rules.greatest (max t.limits.time_wait (unwrap_or t.limits.fin_wait_2 0))
 
 abbrev pub next_expiry : Times → Option ℕ
 next_expiry t = earlier (user_deadline t) (soonest t.deadlines)
@@ -169,7 +211,7 @@ after_expiry t Retransmit =
     record t { deadlines = without t.deadlines Retransmit; estimate = after_back_off t.estimate; resent = min (t.resent + 1) (2 ^ 32 - 1); bursting = true }
 after_expiry t Reorder = record t { deadlines = without t.deadlines Reorder; span = twice t.span t.estimate.rto; bursting = true }
 after_expiry t TimeWait = record t { deadlines = without t.deadlines TimeWait; bursting = true }
-after_expiry t User = record t { since = None; resent = 0; bursting = true }
+after_expiry t User = record t { since = None; resent = 0; left = None; bursting = true }
 
 -- the user timeout is set
 abbrev pub with_user_timeout : Times → Option ℕ → Times

@@ -1,5 +1,5 @@
-ghost use Rattle.std.specs.Prelude.{max, ◌≡◌, ◌≤◌, ◌+◌, IfSome, length};
-ghost use Rattle.tcp_driver.specs.Driver.{is_reset, waits};
+ghost use Rattle.std.specs.Prelude.{◌≡◌, ◌≤◌, ◌+◌, IfSome, length};
+ghost use Rattle.tcp_driver.specs.Driver.{goes_back, is_reset, waits};
 
 use crate::limits::Limits;
 use crate::machine::{Core, Report, Sent, Timer};
@@ -9,9 +9,9 @@ use tcp_timing::{Estimator, Rules};
 
 /// What became of an arrival.
 #[derive(Clone, Copy, Debug, PartialEq, Eq)]
-pub enum Taken {
-    /// The end has taken it.
-    Done(Report),
+pub enum Taken<T> {
+    /// The end has taken it: what the driver is told of it, and the end's own answer.
+    Done(Report, T),
     /// A timer has expired, and what is due then has to go out first: nothing has changed. Emit, and pass it again.
     EmitFirst,
     /// It is a reset that counts as lost: nothing has changed.
@@ -39,7 +39,7 @@ impl<C: Core + Drop> Model for Driver<C> {
 impl<C: Core + Drop> Driver<C> {
     ghost use Rattle.std.specs.Prelude.{is_some};
     ghost use Rattle.tcp_driver.specs.Driver.{after_arrival, after_emission, after_time, after_user, after_user_timeout, arrival_answer, at, new_driving, sent_of, written_of};
-    ghost use Rattle.tcp_driver.specs.Times.{expiry, is_suspect, next_expiry, wants_any};
+    ghost use Rattle.tcp_driver.specs.Times.{expiry, is_suspect, longest_wait, next_expiry, wants_any};
     ghost use Rattle.tcp_timing.specs.Rules.{IsSound};
 
     /// An end that was opened already (`connect`, `listen`): its timers run from now on.
@@ -55,20 +55,27 @@ impl<C: Core + Drop> Driver<C> {
     }
 
     /// When `timeout` has to be called, if nothing else happens before: there is such a time exactly while some timer has
-    /// to run, and it is at most the greatest timeout after the last call, or in TIME-WAIT its length.
+    /// to run, and it is at most the greatest timeout after the last call, or in TIME-WAIT and FIN-WAIT-2 as long as these
+    /// may last.
     #[must_use]
     pub fn poll_at(&self) -> Option<u64>
         ensures value { result ≡ next_expiry self.now.times }
-        ensures owed { is_some result ≡ wants_any (C.machine.wants self.now.core) }
-        ensures soon { IfSome result (λ time. time ≤ self.now.times.clock + max self.now.times.estimate.rules.greatest self.now.times.limits.time_wait) }
+        ensures owed { is_some result ≡ wants_any (C.machine.wants self.now.core) self.now.times.limits }
+        ensures soon { IfSome result (λ time. time ≤ self.now.times.clock + longest_wait self.now.times) }
     {
         self.timers.next_expiry()
     }
 
     /// A segment has come at a time, from the IPv4 address `src` to `dst`. In a burst it isn't taken, and some resets count
     /// as lost.
-    pub fn arrive(&mut self, now: u64, src: [u8; 4], dst: [u8; 4], bytes: &[u8]) -> Taken
-        ensures answer { result ≡ arrival_answer C.machine self.old src dst bytes.now }
+    pub fn arrive(
+        &mut self,
+        now: u64,
+        src: [u8; 4],
+        dst: [u8; 4],
+        bytes: &[u8],
+    ) -> Taken<C::Arriving>
+        ensures answer { result ≡ arrival_answer C.machine C.arrival_answer self.old src dst bytes.now }
         ensures state { self.new ≡ after_arrival C.machine self.old (at self.old now) src dst bytes.now }
     {
         if self.timers.is_bursting() {
@@ -78,15 +85,16 @@ impl<C: Core + Drop> Driver<C> {
             return Taken::Withheld;
         }
         let now = self.timers.time_at(now);
-        let report = self.core.arrive(src, dst, bytes);
+        let (report, answer) = self.core.arrive(src, dst, bytes);
         let una = self.core.una();
-        self.timers.measure(una, report.window, now);
+        self.timers.take(una, report, now);
         self.timers.follow(self.core.wants(), una, now);
-        Taken::Done(report)
+        Taken::Done(report, answer)
     }
 
     /// Writes the segment that is due, if one is. What ends more than `window` numbers past SND.UNA waits, unless nothing
-    /// before it is in flight (RFC 5681, 3.1); then a pending acknowledgement goes alone. `u64::MAX` holds nothing back. A
+    /// before it is in flight (RFC 5681, 3.1); `u64::MAX` holds nothing back. A pending acknowledgement goes alone where
+    /// what is due waits, and before anything goes out again: so it goes out at SND.NXT, where no peer finds it old. A
     /// burst is over once nothing goes out.
     pub fn emit(&mut self, now: u64, window: u64, out: &mut [u8]) -> Option<Sent>
         requires { C.machine.room ≤ length out.old }
@@ -96,8 +104,11 @@ impl<C: Core + Drop> Driver<C> {
         ensures state { self.new ≡ after_emission C.machine self.old (at self.old now) window }
     {
         let now = self.timers.time_at(now);
-        let sent = if waits(self.core.next(), self.core.una(), window) {
-            self.core.acknowledge(out)
+        let next = self.core.next();
+        let una = self.core.una();
+        let again = goes_back(next, una, self.core.flight());
+        let sent = if waits(next, una, window) || (self.core.answers() && again) {
+            self.core.emit_acknowledgement(out)
         } else {
             self.core.transmit(out)
         };
@@ -106,8 +117,8 @@ impl<C: Core + Drop> Driver<C> {
         sent
     }
 
-    /// It is `now`: the timer that has expired, if one has. Then a burst begins: all that is due goes out before anything
-    /// is taken, and before another timer expires. After the user timeout the connection is aborted.
+    /// It is `now`: the timer that has expired, if one has. Then a burst begins: until an `emit` finds nothing that may go
+    /// out, no segment is taken and no other timer expires. After the user timeout the connection is aborted.
     pub fn timeout(&mut self, now: u64) -> Option<Timer>
         ensures expired { result ≡ expiry self.old.times (at self.old now) }
         ensures state { self.new ≡ after_time C.machine self.old (at self.old now) }
@@ -199,6 +210,16 @@ impl<C: Core + Drop> Driver<C> {
         answer
     }
 
+    /// The user has read, and wants the window that is open now to be advertised (RFC 9293, 3.8.6.2.2): an acknowledgement
+    /// is due, where the peer may still send.
+    pub fn acknowledge(&mut self, now: u64)
+        ensures { self.new ≡ after_user C.machine self.old (at self.old now) (C.machine.acknowledged self.old.core) }
+    {
+        let now = self.timers.time_at(now);
+        self.core.acknowledge();
+        self.timers.follow(self.core.wants(), self.core.una(), now);
+    }
+
     /// The user has no more to send (RFC 9293, 3.10.4).
     pub fn close(&mut self, now: u64) -> C::Closing
         ensures answer { result ≡ C.close_answer self.old.core }
@@ -231,6 +252,16 @@ fn is_reset(bytes: &[u8]) -> bool
 {
     match bytes.get(13) {
         Some(flags) => *flags & RST != 0,
+        None => false,
+    }
+}
+
+/// Whether what is due was sent before.
+fn goes_back(due: Option<Sent>, una: u64, flight: u64) -> bool
+    ensures { result ≡ goes_back due una flight }
+{
+    match due {
+        Some(sent) => sent.start.saturating_sub(una) < flight,
         None => false,
     }
 }

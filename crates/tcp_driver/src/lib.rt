@@ -8,9 +8,11 @@
 //!
 //! The caller's loop, each turn at some time `now`:
 //! 1. waits for a segment or for [`Driver::poll_at`], whichever comes first,
-//! 2. passes each segment that has come to [`Driver::arrive`],
-//! 3. calls [`Driver::timeout`], and makes its own calls,
-//! 4. calls [`Driver::emit`] and sends what it writes, until it answers `None`.
+//! 2. passes each segment that has come to [`Driver::arrive`]; one that is answered by [`Taken::EmitFirst`] wasn't taken, and
+//!    is passed again behind the emissions,
+//! 3. makes its own calls,
+//! 4. calls [`Driver::emit`] and sends what it writes, until it answers `None`,
+//! 5. calls [`Driver::timeout`], and emits again where a timer has expired.
 #![tactic(auto)]
 
 mod deadlines;

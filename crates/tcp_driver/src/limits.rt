@@ -13,11 +13,14 @@ pub struct Limits {
     pub handshake: Option<u64>,
     /// The user timeout: how long all else may be, 100 s or more (RFC 9293, 3.8.3). `None` is forever.
     pub user: Option<u64>,
+    /// How long FIN-WAIT-2 may last without anything of the peer's stream. `None` is forever, as the standard has it; a
+    /// program whose user reads no more may take a minute, as Linux does.
+    pub fin_wait_2: Option<u64>,
 }
 
 impl Limits {
-    /// The values of RFC 9293: 4 minutes of TIME-WAIT, 3 expiries, 3 minutes for a SYN, and a user timeout of 5 minutes
-    /// (3.4.2, 3.8.3 and 3.9.1.1).
+    /// The values of RFC 9293: 4 minutes of TIME-WAIT, 3 expiries, 3 minutes for a SYN, a user timeout of 5 minutes (3.4.2,
+    /// 3.8.3 and 3.9.1.1), and FIN-WAIT-2 without a limit.
     pub fn standard() -> Limits
         ensures { result ≡ standard }
     {
@@ -26,6 +29,7 @@ impl Limits {
             suspect_after: 3,
             handshake: Some(180_000_000),
             user: Some(300_000_000),
+            fin_wait_2: None,
         }
     }
 }

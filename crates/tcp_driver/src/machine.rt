@@ -1,4 +1,4 @@
-ghost use Rattle.std.specs.Prelude.{◌≡◌, ◌+◌, ◌<◌, ◌≤◌, ◌^◌, IfSome, length, ℕ, List};
+ghost use Rattle.std.specs.Prelude.{◌≡◌, ◌+◌, ◌<◌, ◌≤◌, ◌^◌, IfSome, is_some, length, ℕ, List};
 
 /// A segment: the address that it goes to, its length in bytes, the position where it begins, and how many numbers it takes
 /// (RFC 9293, 3.4). A position counts from the SYN, which is at 0.
@@ -23,11 +23,12 @@ pub enum Timer {
     Reorder,
     /// The TIME-WAIT timeout: the connection ends.
     TimeWait,
-    /// The user timeout: the connection is aborted.
+    /// The user timeout, or the limit of FIN-WAIT-2: the connection is aborted.
     User,
 }
 
-/// Which timers have to run. The user timeout counts while the retransmission timer runs.
+/// Which timers have to run. The user timeout counts while the retransmission timer runs, and in FIN-WAIT-2 where that has
+/// a limit.
 #[derive(Clone, Copy, Debug, PartialEq, Eq)]
 pub struct Wants {
     /// Whether something waits for an acknowledgement, or for a window.
@@ -36,6 +37,8 @@ pub struct Wants {
     pub reorder: bool,
     /// Whether the end is in TIME-WAIT.
     pub time_wait: bool,
+    /// Whether the end is in FIN-WAIT-2, where a peer that is gone is missed by nobody.
+    pub fin_wait_2: bool,
 }
 
 /// What an arrival has brought.
@@ -49,6 +52,10 @@ pub struct Report {
     pub at_once: bool,
     /// The peer's window, in bytes, where it was taken from the segment.
     pub window: Option<u64>,
+    /// Whether it is the peer's FIN again, in TIME-WAIT, which starts that anew (RFC 9293, 3.10.7.4, eighth).
+    pub repeats_fin: bool,
+    /// Whether it brought something of the peer's stream in order.
+    pub advances: bool,
 }
 
 /// An end without a clock (RFC 9293, 3.10): which timers have to run, and what each event leads to.
@@ -61,6 +68,8 @@ pub trait Core {
     type Closing;
     /// What `abort` answers.
     type Aborting;
+    /// What an arrival answers, beside what the driver is told of it.
+    type Arriving;
 
     ghost use Rattle.tcp_driver.specs.Machine.{Machine};
 
@@ -74,6 +83,8 @@ pub trait Core {
     ghost close_answer: { Self → Self.Closing };
 
     ghost abort_answer: { Self → Self.Aborting };
+
+    ghost arrival_answer: { Self → List ℕ → List ℕ → List ℕ → Self.Arriving };
 
     /// Which timers have to run.
     fn wants(&self) -> Wants
@@ -96,9 +107,10 @@ pub trait Core {
     fn expire(&mut self, timer: Timer)
         ensures { self.new ≡ machine.expired self.old timer };
 
-    /// A segment has come from the IPv4 address `src` to `dst`.
-    fn arrive(&mut self, src: [u8; 4], dst: [u8; 4], bytes: &[u8]) -> Report
-        ensures report { result ≡ machine.report self.old src dst bytes.now }
+    /// A segment has come from the IPv4 address `src` to `dst`: what the driver is told of it, and the end's own answer.
+    fn arrive(&mut self, src: [u8; 4], dst: [u8; 4], bytes: &[u8]) -> (Report, Self::Arriving)
+        ensures report { result.0 ≡ machine.report self.old src dst bytes.now }
+        ensures answer { result.1 ≡ arrival_answer self.old src dst bytes.now }
         ensures state { self.new ≡ machine.arrived self.old src dst bytes.now };
 
     /// What is due; nothing changes.
@@ -115,13 +127,17 @@ pub trait Core {
         ensures fits { IfSome result (λ sent. sent.start + sent.count < 2 ^ 64) };
 
     /// Writes the acknowledgement alone, where one is pending.
-    fn acknowledge(&mut self, out: &mut [u8]) -> Option<Sent>
+    fn emit_acknowledgement(&mut self, out: &mut [u8]) -> Option<Sent>
         requires room { machine.room ≤ length out.old }
         ensures due { result ≡ machine.alone self.old }
         ensures written { out.new ≡ machine.written_alone self.old out.old }
-        ensures state { self.new ≡ machine.acknowledged self.old }
+        ensures state { self.new ≡ machine.emitted_alone self.old }
         ensures most { IfSome result (λ sent. sent.len ≤ machine.room) }
         ensures fits { IfSome result (λ sent. sent.start + sent.count < 2 ^ 64) };
+
+    /// Whether an acknowledgement is pending that may go alone.
+    fn answers(&self) -> bool
+        ensures { result ≡ is_some (machine.alone self.now) };
 
     /// Of what is in flight the first segment goes out again (RFC 5681, 3.2): whether anything is in flight.
     fn resend_first(&mut self) -> bool
@@ -138,6 +154,10 @@ pub trait Core {
         ensures answer { result ≡ receive_answer self.old (length out.old) }
         ensures read { out.new ≡ machine.read self.old out.old }
         ensures state { self.new ≡ machine.received self.old (length out.old) };
+
+    /// The user has read, and wants the window that is open now to be advertised (RFC 9293, 3.8.6.2.2).
+    fn acknowledge(&mut self)
+        ensures { self.new ≡ machine.acknowledged self.old };
 
     /// The user has no more to send (RFC 9293, 3.10.4).
     fn close(&mut self) -> Self::Closing

@@ -1,11 +1,11 @@
 ghost use Rattle.std.specs.Prelude.{IfSome, is_some, max, min, ◌≡◌, ◌≤◌, ◌+◌, ◌<◌, ◌*◌, ◌^◌};
 ghost use Rattle.tcp_driver.specs.Deadlines.{last};
 ghost use Rattle.tcp_driver.specs.Limits.{limit_of};
-ghost use Rattle.tcp_driver.specs.Times.{goes_again, is_shut, later_by, round_trip};
+ghost use Rattle.tcp_driver.specs.Times.{goes_again, is_shut, later_by, opens, round_trip, shut_after};
 
 use crate::deadlines::{Deadlines, LAST, earlier, kept, no_later};
 use crate::limits::Limits;
-use crate::machine::{Sent, Timer, Wants};
+use crate::machine::{Report, Sent, Timer, Wants};
 use std::marker::Model;
 use tcp_timing::{Estimator, Rules, Watch};
 
@@ -24,6 +24,10 @@ pub struct Timers {
     resent: u32,
     /// How long the gaps that the peer reported may take to be filled.
     span: u64,
+    /// Whether the peer's window was shut when it was last taken.
+    shut: bool,
+    /// In FIN-WAIT-2: since when nothing of the peer's stream has come.
+    left: Option<u64>,
     /// A timer has expired, and not all that is due then has gone out.
     bursting: bool,
     /// The time of the last call.
@@ -35,13 +39,13 @@ impl Model for Timers {
 
     ghost Value = { Times };
 
-    ghost view = { λ t. record { limits = t.limits; estimate = t.estimator; watch = t.watch; deadlines = t.deadlines; una = t.una; since = t.since; resent = t.resent; span = t.span; bursting = t.bursting; clock = t.clock } };
+    ghost view = { λ t. record { limits = t.limits; estimate = t.estimator; watch = t.watch; deadlines = t.deadlines; una = t.una; since = t.since; resent = t.resent; span = t.span; shut = t.shut; left = t.left; bursting = t.bursting; clock = t.clock } };
 
-    ghost invariant = { λ t. IsSoon (record { limits = t.limits; estimate = t.estimator; watch = t.watch; deadlines = t.deadlines; una = t.una; since = t.since; resent = t.resent; span = t.span; bursting = t.bursting; clock = t.clock }) };
+    ghost invariant = { λ t. IsSoon (record { limits = t.limits; estimate = t.estimator; watch = t.watch; deadlines = t.deadlines; una = t.una; since = t.since; resent = t.resent; span = t.span; shut = t.shut; left = t.left; bursting = t.bursting; clock = t.clock }) };
 }
 
 impl Timers {
-    ghost use Rattle.tcp_driver.specs.Times.{IsSoon, after_expiry, after_segment, expiry, first_times, followed, is_suspect, measured, next_expiry, time_at, user_deadline, with_user_timeout};
+    ghost use Rattle.tcp_driver.specs.Times.{IsSoon, after_expiry, after_segment, after_window, expiry, first_times, followed, is_suspect, measured, next_expiry, taken, time_at, user_deadline, with_user_timeout};
     ghost use Rattle.tcp_timing.specs.Rules.{IsSound};
 
     /// No timer runs.
@@ -61,6 +65,8 @@ impl Timers {
             since: None,
             resent: 0,
             span,
+            shut: false,
+            left: None,
             bursting: false,
             clock: now,
         }
@@ -108,6 +114,7 @@ impl Timers {
         ensures una { self.new.una ≡ una }
         ensures retransmit { is_some self.new.deadlines.retransmit ≡ wants.retransmit }
         ensures since { is_some self.new.since ≡ wants.retransmit }
+        ensures left { is_some self.new.left ≡ wants.fin_wait_2 }
         ensures reorder { is_some self.new.deadlines.reorder ≡ wants.reorder }
         ensures time_wait { is_some self.new.deadlines.time_wait ≡ wants.time_wait }
     {
@@ -138,12 +145,13 @@ impl Timers {
             0
         };
         self.span = span;
+        self.left = kept(wants.fin_wait_2, true, self.left, now);
         self.clock = now;
     }
 
-    /// All before `una` is acknowledged, and the peer's window was taken.
-    pub fn measure(&mut self, una: u64, window: Option<u64>, now: u64)
-        ensures { self.new ≡ measured self.old una window now }
+    /// All before `una` is acknowledged.
+    fn measure(&mut self, una: u64, now: u64)
+        ensures { self.new ≡ measured self.old una now }
     {
         if self.una == 0 && 0 < una && 0 < self.resent {
             self.estimator.syn_was_resent();
@@ -151,9 +159,34 @@ impl Timers {
         if let Some(rtt) = self.watch.acked(una, now) {
             self.estimator.sample(rtt);
         }
+    }
+
+    /// The peer's window was taken, if one was.
+    fn take_window(&mut self, una: u64, window: Option<u64>)
+        ensures { self.new ≡ after_window self.old una window }
+    {
+        if opens(self.shut, window) {
+            self.estimator.forget_back_off();
+            self.deadlines.retransmit = None;
+        }
         if is_shut(window) && 0 < una {
             self.since = None;
             self.resent = 0;
+        }
+        self.shut = shut_after(self.shut, window);
+    }
+
+    /// A segment has come: all before `una` is acknowledged after it.
+    pub fn take(&mut self, una: u64, report: Report, now: u64)
+        ensures { self.new ≡ taken self.old una report now }
+    {
+        self.measure(una, now);
+        self.take_window(una, report.window);
+        if report.repeats_fin {
+            self.deadlines.time_wait = None;
+        }
+        if report.advances {
+            self.left = None;
         }
     }
 
@@ -169,7 +202,6 @@ impl Timers {
         if goes_again(&self.watch, sent) {
             self.deadlines.reorder = None;
         }
-        self.deadlines.time_wait = None;
         self.watch.sent(sent.start, sent.count, now);
     }
 
@@ -184,11 +216,12 @@ impl Timers {
     fn user_deadline(&self) -> Option<u64>
         ensures { result ≡ user_deadline self.now }
     {
-        if self.is_suspect() {
+        let unanswered = if self.is_suspect() {
             later_by(self.since, limit_of(&self.limits, self.una))
         } else {
             None
-        }
+        };
+        earlier(unanswered, later_by(self.left, self.limits.fin_wait_2))
     }
 
     /// When a timer expires next.
@@ -235,6 +268,7 @@ impl Timers {
             Timer::User => {
                 self.since = None;
                 self.resent = 0;
+                self.left = None;
             }
         }
         self.deadlines = self.deadlines.without(timer);
@@ -276,6 +310,26 @@ fn is_shut(window: Option<u64>) -> bool
     match window {
         Some(window) => window == 0,
         None => false,
+    }
+}
+
+/// Whether a window was taken that is open, after it was shut.
+fn opens(shut: bool, window: Option<u64>) -> bool
+    ensures { result ≡ opens shut window }
+{
+    match window {
+        Some(window) => shut && window != 0,
+        None => false,
+    }
+}
+
+/// Whether the window is shut after this one was taken, if one was.
+fn shut_after(shut: bool, window: Option<u64>) -> bool
+    ensures { result ≡ shut_after shut window }
+{
+    match window {
+        Some(window) => window == 0,
+        None => shut,
     }
 }
 

@@ -1,5 +1,5 @@
 -- An end of a connection as a machine without a clock: each function is one of tcp_conn's.
-use Rattle.std.specs.Prelude.{ℕ, ◌-◌, nat_lt, Bool, false, true, ◌&&◌, ◌||◌, if◌then◌else◌, List, ◌++◌, drop, length, Option, Some, None, option_map, Result, Ok, Err}
+use Rattle.std.specs.Prelude.{ℕ, ◌-◌, nat_lt, Bool, false, true, not, ◌&&◌, ◌||◌, ◌==◌, bit_and, slice_get, if◌then◌else◌, List, ◌++◌, drop, length, Option, Some, None, option_map, Result, Ok, Err}
 use Rattle.tcp_timing.specs.declared.rules.Rules.{Rules}
 use Rattle.tcp_driver.specs.declared.limits.Limits.{Limits}
 use Rattle.tcp_driver.specs.declared.machine.Report.{Report}
@@ -10,26 +10,36 @@ use Rattle.tcp_driver.specs.declared.machine.Wants.{Wants}
 use Rattle.tcp_driver.specs.Driver.{Driving, new_driving}
 use Rattle.tcp_driver.specs.Machine.{Machine}
 use Rattle.tcp_halves.specs.declared.link.Peer.{Peer}
+use Rattle.tcp_conn.specs.declared.arrive.brought.Brought.{Brought}
+use Rattle.tcp_conn.specs.declared.arrive.brought.Brought.TheVariants.{InOrder}
+use Rattle.tcp_conn.specs.declared.arrive.judgement.Judgement.{Judgement}
+use Rattle.tcp_conn.specs.declared.arrive.judgement.Judgement.TheVariants.{TakenShut, Unacceptable}
+use Rattle.tcp_conn.specs.declared.arrive.judgement.Judgement.TheVariants as rules
+use Rattle.tcp_conn.specs.declared.arrive.report.Taken.{Taken}
 use Rattle.tcp_conn.specs.declared.emit.transmit.Transmit.{Transmit}
 use Rattle.tcp_conn.specs.declared.outcome.CallError.{CallError}
 use Rattle.tcp_conn.specs.declared.phase.Phase.{Phase}
-use Rattle.tcp_conn.specs.declared.phase.Phase.TheVariants.{Closing, LastAck}
+use Rattle.tcp_conn.specs.declared.phase.Phase.TheVariants.{Closing, FinWait2, LastAck}
 use Rattle.tcp_conn.specs.declared.phase.Timer.TheVariants.{Retransmit, Reorder, TimeWait}
 use Rattle.tcp_conn.specs.declared.timers.Timers.{Timers}
-use Rattle.tcp_conn.specs.Arrival.{after_arrival}
+use Rattle.tcp_conn.specs.Arrival.{after_arrival, arrival_answer}
 use Rattle.tcp_conn.specs.AtOnce.{answers_at_once}
-use Rattle.tcp_conn.specs.Calls.{after_abort, after_close, after_connect, after_listen, after_receive, after_send, opening_answer, received_bytes}
+use Rattle.tcp_conn.specs.Calls.{after_abort, after_acknowledge, after_close, after_connect, after_listen, after_receive, after_send, opening_answer, received_bytes}
 use Rattle.tcp_conn.specs.Emission.{after_ack_alone, after_emission, buffer_after, buffer_after_ack_alone}
 use Rattle.tcp_conn.specs.Phase.{is_time_wait}
 use Rattle.tcp_conn.specs.State.{State}
-use Rattle.tcp_conn.specs.Taking.{bytes_acked, is_duplicate, is_window_taken}
+use Rattle.tcp_conn.specs.Taking.{brought, bytes_acked, is_duplicate, is_window_taken, rule_of}
 use Rattle.tcp_conn.specs.Timers.{after_resend_first, after_timer, sends_again, timers_wanted}
 use Rattle.tcp_conn.specs.Transmission.{transmit_ack_alone, transmit_due}
 use Rattle.tcp_end.specs.declared.wired.Wired.{Wired}
 
 -- WHICH TIMERS RUN
-abbrev pub wants_by : Timers → Wants
-wants_by t = record { retransmit = t.retransmit; reorder = t.reorder; time_wait = t.time_wait }
+abbrev pub is_fin_wait_2 : Phase → Bool
+is_fin_wait_2 FinWait2 = true
+is_fin_wait_2 other = false
+
+abbrev pub wants_by : Timers → Phase → Wants
+wants_by t phase = record { retransmit = t.retransmit; reorder = t.reorder; time_wait = t.time_wait; fin_wait_2 = is_fin_wait_2 phase }
 
 -- A TIMER HAS EXPIRED: an end has no user timeout, and the connection is aborted after it (RFC 9293, 3.8.3)
 abbrev pub expired : State → Timer → State
@@ -56,12 +66,46 @@ ignores_resets s = is_time_wait s.phase || (waits_for_last_ack s.phase && nat_lt
 abbrev pub window_after : State → List ℕ → List ℕ → List ℕ → Option ℕ
 window_after s src dst bytes = if is_window_taken s src dst bytes then Some (after_arrival s src dst bytes).sending.snd_wnd else None
 
+-- THE PEER'S FIN AGAIN, in TIME-WAIT: a segment of the connection that has the bit FIN (RFC 9293, 3.1 and 3.10.7.4, eighth)
+abbrev pub has_fin_bit : Option ℕ → Bool
+has_fin_bit None = false
+has_fin_bit (Some flags) = not (bit_and flags 1 == 0)
+
+abbrev pub is_of_connection : Option Judgement → Bool
+is_of_connection (Some Unacceptable) = true
+is_of_connection (Some rules.Taken) = true
+is_of_connection (Some TakenShut) = true
+is_of_connection other = false
+
+abbrev pub repeats_fin : State → List ℕ → List ℕ → List ℕ → Bool
+repeats_fin s src dst bytes = is_time_wait s.phase && (is_of_connection (rule_of s src dst bytes) && has_fin_bit (slice_get bytes 13))
+
+-- SOMETHING OF THE PEER'S STREAM came in order
+abbrev pub is_in_order : Brought → Bool
+is_in_order InOrder = true
+is_in_order other = false
+
+-- WHAT THE DRIVER IS TOLD of an arrival
 abbrev pub report : State → List ℕ → List ℕ → List ℕ → Report
 report s src dst bytes = record {
   acked = bytes_acked s (after_arrival s src dst bytes);
   is_duplicate = is_duplicate s src dst bytes;
   at_once = answers_at_once s src dst bytes;
   window = window_after s src dst bytes;
+  repeats_fin = repeats_fin s src dst bytes;
+  advances = is_in_order (brought s src dst bytes);
+}
+
+-- THE END'S OWN ANSWER: all that `take` reports
+abbrev pub taken_of : State → List ℕ → List ℕ → List ℕ → Taken
+taken_of s src dst bytes = record {
+  arrival = arrival_answer s src dst bytes;
+  at_once = answers_at_once s src dst bytes;
+  rule = rule_of s src dst bytes;
+  acked = bytes_acked s (after_arrival s src dst bytes);
+  is_duplicate = is_duplicate s src dst bytes;
+  window_taken = is_window_taken s src dst bytes;
+  brought = brought s src dst bytes;
 }
 
 -- what a user's buffer contains after a call of `receive`
@@ -72,7 +116,7 @@ read_into s out = let bytes = received_bytes s (length out) in bytes ++ drop (le
 abbrev pub machine : {A : Type 0} → Machine (Wired A)
 machine = record {
   room = 1520;
-  wants = λ w. wants_by (timers_wanted w.end);
+  wants = λ w. wants_by (timers_wanted w.end) w.end.phase;
   una = λ w. w.end.sending.snd_una;
   flight = λ w. w.end.sending.snd_nxt - w.end.sending.snd_una;
   ignores_resets = λ w. ignores_resets w.end;
@@ -84,12 +128,13 @@ machine = record {
   emitted = λ w. record { end = after_emission w.end };
   alone = λ w. option_map sent_by (transmit_ack_alone w.end);
   written_alone = λ w out. buffer_after_ack_alone w.end out;
-  acknowledged = λ w. record { end = after_ack_alone w.end };
+  emitted_alone = λ w. record { end = after_ack_alone w.end };
   can_resend = λ w. sends_again w.end;
   first_resent = λ w. record { end = after_resend_first w.end };
   sent = λ w text. record { end = after_send w.end text };
   read = λ w out. read_into w.end out;
   received = λ w room. record { end = after_receive w.end room };
+  acknowledged = λ w. record { end = after_acknowledge w.end };
   closed = λ w. record { end = after_close w.end };
   aborted = λ w. record { end = after_abort w.end };
 }

@@ -1,9 +1,9 @@
-ghost use Rattle.std.specs.Prelude.{◌≡◌};
+ghost use Rattle.std.specs.Prelude.{◌≡◌, slice_get};
 ghost use Rattle.tcp_timing.specs.Rules.{IsSound};
-ghost use Rattle.tcp_end.specs.Wired.{connected, listening, sent_by, waits_for_last_ack};
+ghost use Rattle.tcp_end.specs.Wired.{connected, has_fin_bit, is_of_connection, listening, sent_by, waits_for_last_ack};
 
 use std::alloc::{Allocator, Global};
-use tcp_conn::{CallError, Endpoint, Phase, Received, Transmit};
+use tcp_conn::{Brought, CallError, Endpoint, Judgement, Phase, Received, Taken, Transmit};
 use tcp_driver::{Core, Driver, Limits, Report, Sent, Timer, Wants};
 use tcp_timing::Rules;
 use tcp_wire::Addr;
@@ -57,7 +57,7 @@ pub fn listen<A: Allocator>(
 
 impl<A: Allocator> Core for Wired<A> {
     ghost use Rattle.tcp_conn.specs.Calls.{abort_answer, close_answer, receive_answer, send_answer};
-    ghost use Rattle.tcp_end.specs.Wired.{machine};
+    ghost use Rattle.tcp_end.specs.Wired.{machine, taken_of};
 
     type Sending = Result<usize, CallError>;
 
@@ -66,6 +66,8 @@ impl<A: Allocator> Core for Wired<A> {
     type Closing = Result<(), CallError>;
 
     type Aborting = Result<(), CallError>;
+
+    type Arriving = Taken;
 
     ghost machine = { machine };
 
@@ -77,12 +79,15 @@ impl<A: Allocator> Core for Wired<A> {
 
     ghost abort_answer = { λ w. abort_answer w.end };
 
+    ghost arrival_answer = { λ w src dst bytes. taken_of w.end src dst bytes };
+
     fn wants(&self) -> Wants {
         let wanted = self.end.timers_wanted();
         Wants {
             retransmit: wanted.retransmit,
             reorder: wanted.reorder,
             time_wait: wanted.time_wait,
+            fin_wait_2: matches!(self.end.phase(), Phase::FinWait2),
         }
     }
 
@@ -116,10 +121,11 @@ impl<A: Allocator> Core for Wired<A> {
         }
     }
 
-    fn arrive(&mut self, src: [u8; 4], dst: [u8; 4], bytes: &[u8]) -> Report {
+    fn arrive(&mut self, src: [u8; 4], dst: [u8; 4], bytes: &[u8]) -> (Report, Taken) {
+        let rests = matches!(self.end.phase(), Phase::TimeWait);
         let taken = self.end.take(Addr(src), Addr(dst), bytes);
         let (_, snd_wnd) = self.end.windows();
-        Report {
+        let report = Report {
             acked: taken.acked,
             is_duplicate: taken.is_duplicate,
             at_once: taken.at_once,
@@ -128,7 +134,10 @@ impl<A: Allocator> Core for Wired<A> {
             } else {
                 None
             },
-        }
+            repeats_fin: rests && is_of_connection(taken.rule) && is_fin(bytes),
+            advances: matches!(taken.brought, Brought::InOrder),
+        };
+        (report, taken)
     }
 
     fn next(&self) -> Option<Sent> {
@@ -141,9 +150,14 @@ impl<A: Allocator> Core for Wired<A> {
         Some(sent_by(sent))
     }
 
-    fn acknowledge(&mut self, out: &mut [u8]) -> Option<Sent> {
+    fn emit_acknowledgement(&mut self, out: &mut [u8]) -> Option<Sent> {
         let sent = self.end.emit_acknowledgement(out)?;
         Some(sent_by(sent))
+    }
+
+    #[tactic(auto, using(crate::proofs::Pendings::pending_alone))]
+    fn answers(&self) -> bool {
+        self.end.pending_acknowledgement().is_some()
     }
 
     fn resend_first(&mut self) -> bool {
@@ -156,6 +170,10 @@ impl<A: Allocator> Core for Wired<A> {
 
     fn receive(&mut self, out: &mut [u8]) -> Result<Received, CallError> {
         self.end.receive(out)
+    }
+
+    fn acknowledge(&mut self) {
+        self.end.acknowledge();
     }
 
     fn close(&mut self) -> Result<(), CallError> {
@@ -178,6 +196,29 @@ fn sent_by(sent: Transmit) -> Sent
         start: sent.position,
         count: sent.end.saturating_sub(sent.position),
     }
+}
+
+/// FIN among the flags of a segment (RFC 9293, 3.1).
+const FIN: u8 = 1;
+
+/// Whether a segment has the bit FIN.
+fn is_fin(bytes: &[u8]) -> bool
+    ensures { result ≡ has_fin_bit (slice_get bytes.now 13) }
+{
+    match bytes.get(13) {
+        Some(flags) => *flags & FIN != 0,
+        None => false,
+    }
+}
+
+/// Whether a segment is one of the connection, in TIME-WAIT: its numbers decide no more than its answer.
+fn is_of_connection(rule: Option<Judgement>) -> bool
+    ensures { result ≡ is_of_connection rule }
+{
+    matches!(
+        rule,
+        Some(Judgement::Unacceptable | Judgement::Taken | Judgement::TakenShut)
+    )
 }
 
 /// Whether both ends have closed, and this end's FIN waits for its acknowledgement.

@@ -34,6 +34,15 @@ after_sample e r = with_trip e (trip_after e.trip (min longest r))
 abbrev pub after_back_off : Estimate → Estimate
 after_back_off e = record { rules = e.rules; trip = e.trip; rto = min e.rules.greatest (2 * e.rto) }
 
+-- the peer has answered, and what it let expire were probes of its shut window (RFC 9293, 3.8.6.1): the timeout is again what
+-- was measured (2.3), if anything was
+abbrev pub timeout_or : Rules → Option RoundTrip → ℕ → ℕ
+timeout_or rules None rto = rto
+timeout_or rules (Some t) rto = timeout rules t
+
+abbrev pub without_back_off : Estimate → Estimate
+without_back_off e = record { rules = e.rules; trip = e.trip; rto = timeout_or e.rules e.trip e.rto }
+
 -- data begin behind a SYN that was sent again (5.7): where the first timeout is below 3 s it is re-initialized to 3 s
 abbrev pub after_syn_resent : Estimate → Estimate
 after_syn_resent e = record {

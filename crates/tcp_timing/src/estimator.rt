@@ -25,8 +25,8 @@ impl Model for Estimator {
 }
 
 impl Estimator {
-    ghost use Rattle.tcp_timing.specs.Estimate.{after_back_off, after_sample, after_syn_resent, new_estimate};
-    ghost use Rattle.tcp_timing.specs.Rules.{IsSound};
+    ghost use Rattle.tcp_timing.specs.Estimate.{after_back_off, after_sample, after_syn_resent, new_estimate, timeout, without_back_off};
+    ghost use Rattle.tcp_timing.specs.Rules.{IsSound, longest};
 
     /// Nothing was measured yet (RFC 6298, 2.1). [`Rules::are_sound`] tests what it requires.
     pub fn new(rules: Rules) -> Estimator
@@ -59,6 +59,18 @@ impl Estimator {
         self.trip
     }
 
+    /// The timeout that a round trip gives (RFC 6298, 2.2 and 2.3).
+    fn timeout(&self, trip: RoundTrip) -> u64
+        requires srtt { trip.srtt ≤ longest }
+        requires rttvar { trip.rttvar ≤ longest }
+        ensures value { result ≡ timeout self.now.rules trip }
+        ensures least { self.now.rules.least ≤ result }
+        ensures most { result ≤ self.now.rules.greatest }
+    {
+        self.rules
+            .bounded(trip.srtt + self.rules.granularity.max(4 * trip.rttvar))
+    }
+
     /// A segment that was sent once was acknowledged after `rtt` (RFC 6298, 2.2 and 2.3). The timeout is computed anew, so
     /// that it isn't backed off any more. A time above [`LONGEST`] counts as that.
     pub fn sample(&mut self, rtt: u64)
@@ -70,9 +82,7 @@ impl Estimator {
             Some(trip) => trip.next(rtt),
         };
         self.trip = Some(trip);
-        self.rto = self
-            .rules
-            .bounded(trip.srtt + self.rules.granularity.max(4 * trip.rttvar));
+        self.rto = self.timeout(trip);
     }
 
     /// The retransmission timer has expired (RFC 6298, 5.5): the next timeout is twice as long.
@@ -80,6 +90,16 @@ impl Estimator {
         ensures { self.new ≡ after_back_off self.old }
     {
         self.rto = self.rules.greatest.min(2 * self.rto);
+    }
+
+    /// The peer's window opens after it was shut: what has expired since were probes (RFC 9293, 3.8.6.1), and not the loss of
+    /// what was sent. The timeout is what was measured last, if anything was, and isn't backed off any more.
+    pub fn forget_back_off(&mut self)
+        ensures { self.new ≡ without_back_off self.old }
+    {
+        if let Some(trip) = self.trip {
+            self.rto = self.timeout(trip);
+        }
     }
 
     /// The handshake is over, and its SYN was sent again because the timer had expired (RFC 6298, 5.7). Call it before any

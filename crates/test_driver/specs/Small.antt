@@ -17,8 +17,13 @@ takes_text s = not s.is_closed && is_open s
 abbrev pub is_in_flight : Small → Bool
 is_in_flight s = nat_lt s.una s.nxt && is_open s
 
+-- all that it sent is acknowledged behind its close, and the peer hasn't closed
+abbrev pub awaits_fin : Small → Bool
+awaits_fin s = (s.is_closed && s.una == s.accepted) && (not s.is_resting && is_open s)
+
 abbrev pub wants : Small → Wants
-wants s = record { retransmit = is_in_flight s; reorder = s.has_gap && is_open s; time_wait = s.is_resting && is_open s }
+wants s =
+    record { retransmit = is_in_flight s; reorder = s.has_gap && is_open s; time_wait = s.is_resting && is_open s; fin_wait_2 = awaits_fin s }
 
 abbrev pub expired : Small → Timer → Small
 expired s Retransmit = record s { again = s.una; until = s.nxt; has_gap = false }
@@ -32,8 +37,8 @@ acked_to s ack = max s.una (min s.nxt ack)
 
 abbrev pub report : Small → List ℕ → List ℕ → List ℕ → Report
 report s src dst (ack ∷ gap ∷ fin ∷ window ∷ rest) =
-    record { acked = acked_to s ack - s.una; is_duplicate = ack == s.una; at_once = fin == 1; window = Some window }
-report s src dst other = record { acked = 0; is_duplicate = false; at_once = false; window = None }
+    record { acked = acked_to s ack - s.una; is_duplicate = ack == s.una; at_once = fin == 1; window = Some window; repeats_fin = s.is_resting && fin == 1; advances = fin == 1 }
+report s src dst other = record { acked = 0; is_duplicate = false; at_once = false; window = None; repeats_fin = false; advances = false }
 
 abbrev pub arrived : Small → List ℕ → List ℕ → List ℕ → Small
 arrived s src dst (ack ∷ gap ∷ fin ∷ window ∷ rest) = record s {
@@ -89,12 +94,13 @@ machine = record {
   emitted = emitted;
   alone = alone;
   written_alone = λ s out. out;
-  acknowledged = λ s. record s { is_owed = false };
+  emitted_alone = λ s. record s { is_owed = false };
   can_resend = is_in_flight;
   first_resent = first_resent;
   sent = λ s text. accepted s (length text);
   read = λ s out. out;
   received = λ s room. record s { unread = 0 };
+  acknowledged = λ s. record s { is_owed = true };
   closed = closed;
   aborted = λ s. record s { is_over = true };
 }

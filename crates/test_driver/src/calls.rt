@@ -12,7 +12,8 @@ pub(crate) fn new_driver(words: &[u8]) -> Result<Driver<Small>, LineError> {
     let (time_wait, rest) = first_number(rest)?;
     let (suspect_after, rest) = first_byte(rest)?;
     let (handshake, rest) = first_limit(rest)?;
-    let (user, _) = first_limit(rest)?;
+    let (user, rest) = first_limit(rest)?;
+    let (fin_wait_2, _) = first_limit(rest)?;
     let end = Small {
         una: first,
         nxt: first,
@@ -31,6 +32,7 @@ pub(crate) fn new_driver(words: &[u8]) -> Result<Driver<Small>, LineError> {
         suspect_after: u32::from(suspect_after),
         handshake,
         user,
+        fin_wait_2,
     };
     Ok(Driver::new(end, Rules::standard(), limits, now))
 }
@@ -72,6 +74,10 @@ fn answer_plain(
 ) -> Result<(), LineError> {
     match word {
         b"receive" => write!(answers, "{}", driver.receive(now, &mut []))?,
+        b"acknowledge" => {
+            driver.acknowledge(now);
+            answers.push_str("asked")?;
+        }
         b"close" => write!(answers, "{}", driver.close(now))?,
         b"abort" => write!(answers, "{}", driver.abort(now))?,
         b"resend-first" => write!(answers, "{}", driver.resend_first(now))?,
@@ -106,7 +112,7 @@ fn arrives(
     let (flags, _) = first_byte(rest)?;
     let bytes = [ack, gap, fin, window, 0, 0, 0, 0, 0, 0, 0, 0, 0, flags];
     match driver.arrive(now, [10, 0, 0, 2], [10, 0, 0, 1], &bytes) {
-        Taken::Done(report) => write!(answers, "taken {}", report.acked)?,
+        Taken::Done(report, _) => write!(answers, "taken {}", report.acked)?,
         Taken::EmitFirst => answers.push_str("emit-first")?,
         Taken::Withheld => answers.push_str("withheld")?,
     }

@@ -1,9 +1,9 @@
 //! A driver of a small end, for tests: reads calls, a line each, and answers each by what the call answered, the time of
 //! `poll_at`, the retransmission timeout, what is in flight, and whether the path is suspect.
 //!
-//! `new NOW NUMBER TIME_WAIT SUSPECT HANDSHAKE USER` begins with another end, whose first number is this; a limit of `-` is
-//! none. Then `send NOW COUNT`, `receive NOW`, `close NOW`, `abort NOW`, `resend-first NOW`, `user-timeout LIMIT`, `arrive NOW
-//! ACK GAP FIN WINDOW FLAGS`, `emit NOW WINDOW` and `timeout NOW`.
+//! `new NOW NUMBER TIME_WAIT SUSPECT HANDSHAKE USER FIN_WAIT_2` begins with another end, whose first number is this; a limit of `-` is
+//! none. Then `send NOW COUNT`, `receive NOW`, `acknowledge NOW`, `close NOW`, `abort NOW`, `resend-first NOW`,
+//! `user-timeout LIMIT`, `arrive NOW ACK GAP FIN WINDOW FLAGS`, `emit NOW WINDOW` and `timeout NOW`.
 #![tactic(auto)]
 
 mod calls;
@@ -36,7 +36,7 @@ fn show(driver: &Driver<Small>, answers: &mut String) -> Result<(), LineError> {
 /// Makes the call of every line in order, and returns the answers.
 fn answer_lines(rt: &impl AllocGlobal, text: &[u8]) -> Result<String, LineError> {
     let mut answers = String::new(rt.alloc());
-    let mut driver = new_driver(b"0 0 0 0 - -")?;
+    let mut driver = new_driver(b"0 0 0 0 - - -")?;
     let lines = Lines::new(text).map_err(|_| LineError::BadForm)?;
     for (_, line) in lines {
         let (word, rest) = cut(SPACE, line);

@@ -10,6 +10,16 @@ const SEGMENT: usize = 14;
 /// The address that all of them go to.
 const PEER: [u8; 4] = [10, 0, 0, 2];
 
+/// What is reported of bytes that say nothing.
+const NOTHING: Report = Report {
+    acked: 0,
+    is_duplicate: false,
+    at_once: false,
+    window: None,
+    repeats_fin: false,
+    advances: false,
+};
+
 /// An end that sends numbers, one in a segment. What comes to it, from anywhere, is an acknowledgement, whether the peer
 /// reports a gap, the peer's FIN, and its window: a byte each. Byte 13 has the bit RST, as in a segment of RFC 9293, 3.1.
 #[derive(Clone, Copy, Debug, PartialEq, Eq)]
@@ -38,6 +48,17 @@ pub struct Small {
     pub is_over: bool,
 }
 
+impl Small {
+    ghost use Rattle.test_driver.specs.Small.{awaits_fin};
+
+    /// Whether all that it sent is acknowledged behind its close, and the peer hasn't closed.
+    fn awaits_fin(&self) -> bool
+        ensures { result ≡ awaits_fin self.now }
+    {
+        (self.is_closed && self.una == self.accepted) && (!self.is_resting && !self.is_over)
+    }
+}
+
 impl Core for Small {
     ghost use Rattle.test_driver.specs.Small.{is_open, machine, takes_text};
 
@@ -49,6 +70,8 @@ impl Core for Small {
 
     type Aborting = bool;
 
+    type Arriving = bool;
+
     ghost machine = { machine };
 
     ghost send_answer = { λ s text. takes_text s };
@@ -59,11 +82,14 @@ impl Core for Small {
 
     ghost abort_answer = { λ s. is_open s };
 
+    ghost arrival_answer = { λ s src dst bytes. is_open s };
+
     fn wants(&self) -> Wants {
         Wants {
             retransmit: self.una < self.nxt && !self.is_over,
             reorder: self.has_gap && !self.is_over,
             time_wait: self.is_resting && !self.is_over,
+            fin_wait_2: self.awaits_fin(),
         }
     }
 
@@ -94,16 +120,12 @@ impl Core for Small {
         }
     }
 
-    fn arrive(&mut self, _src: [u8; 4], _dst: [u8; 4], bytes: &[u8]) -> Report {
+    fn arrive(&mut self, _src: [u8; 4], _dst: [u8; 4], bytes: &[u8]) -> (Report, bool) {
         let [ack, gap, fin, window, ..] = bytes else {
-            return Report {
-                acked: 0,
-                is_duplicate: false,
-                at_once: false,
-                window: None,
-            };
+            return (NOTHING, !self.is_over);
         };
         let before = self.una;
+        let rested = self.is_resting;
         self.una = before.max(self.nxt.min(u64::from(*ack)));
         self.again = self.again.max(self.una);
         self.has_gap = *gap == 1;
@@ -112,12 +134,15 @@ impl Core for Small {
             self.unread = 1;
             self.is_resting = self.is_resting || self.una == self.nxt;
         }
-        Report {
+        let report = Report {
             acked: self.una.saturating_sub(before),
             is_duplicate: u64::from(*ack) == before,
             at_once: *fin == 1,
             window: Some(u64::from(*window)),
-        }
+            repeats_fin: rested && *fin == 1,
+            advances: *fin == 1,
+        };
+        (report, !self.is_over)
     }
 
     fn next(&self) -> Option<Sent> {
@@ -148,7 +173,7 @@ impl Core for Small {
         due
     }
 
-    fn acknowledge(&mut self, _out: &mut [u8]) -> Option<Sent> {
+    fn emit_acknowledgement(&mut self, _out: &mut [u8]) -> Option<Sent> {
         let is_due = self.is_owed && !self.is_over;
         self.is_owed = false;
         if is_due {
@@ -156,6 +181,10 @@ impl Core for Small {
         } else {
             None
         }
+    }
+
+    fn answers(&self) -> bool {
+        self.is_owed && !self.is_over
     }
 
     fn resend_first(&mut self) -> bool {
@@ -179,6 +208,10 @@ impl Core for Small {
         let unread = self.unread;
         self.unread = 0;
         unread
+    }
+
+    fn acknowledge(&mut self) {
+        self.is_owed = true;
     }
 
     fn close(&mut self) -> bool {

@@ -36,6 +36,7 @@ pub(crate) fn answer_estimator(
         }
         b"sample" => estimator.sample(number(rest)?),
         b"expired" => estimator.back_off(),
+        b"window-opened" => estimator.forget_back_off(),
         b"syn-resent" => estimator.syn_was_resent(),
         _ => return Err(LineError::BadForm),
     }

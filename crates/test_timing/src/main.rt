@@ -1,6 +1,6 @@
 //! Times and windows as values, for tests: reads calls, a line each, and answers each.
 //! - `estimator FIRST LEAST GREATEST GRANULARITY AFTER_SYN` begins with another estimator, or answers `unsound`; `sample
-//!   RTT`, `expired` and `syn-resent` answer SRTT, RTTVAR and RTO.
+//!   RTT`, `expired`, `window-opened` and `syn-resent` answer SRTT, RTTVAR and RTO.
 //! - `watch` begins with another watch; it takes `sent START COUNT NOW` and `acked UNA NOW`.
 //! - `reno SMSS` begins with another congestion window; `acknowledged ACKED UNA FLIGHT`, `duplicate UNA FLIGHT NXT`,
 //!   `timed-out FLIGHT NXT`, `syn-lost` and `idle` answer cwnd and ssthresh, `recovering` while fast recovery goes on, and
@@ -54,7 +54,7 @@ fn answer_line(values: &mut Values, line: &[u8], answers: &mut String) -> Result
         b"sws" | b"window" | b"segment" => {
             sending::answer_sws(&mut values.sws, word, rest, answers)?;
         }
-        b"standard" | b"estimator" | b"sample" | b"expired" | b"syn-resent" => {
+        b"standard" | b"estimator" | b"sample" | b"expired" | b"window-opened" | b"syn-resent" => {
             estimates::answer_estimator(&mut values.estimator, word, rest, answers)?;
         }
         _ => windows::answer_reno(&mut values.reno, word, rest, answers)?,
