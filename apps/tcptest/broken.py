@@ -1,6 +1,7 @@
 """What is broken about a stack, so that a row is seen to fail: a fault stands between the stack and the tester. It alters what the stack
 says, what the stack hears, or what the stack's user is told; so the two together are a stack that breaks one rule."""
 
+from calls import Gone
 from segments import ACK, FIN, NOP, RST, SYN, Segment, ahead, mss
 
 
@@ -225,15 +226,36 @@ class Later(Fault):
 
 
 class AcknowledgesItself(Fault):
-    """All text that the stack sends is acknowledged at once by somebody else, so that it sends more than its peer asked for."""
+    """All text that the stack sends, behind the first segments of it, is acknowledged at once by somebody else, so that it sends more than
+    its peer asked for."""
 
-    def __init__(self, window=65535, most=1 << 30):
-        self.window, self.most = window, most
+    def __init__(self, window=65535, after=0):
+        self.window, self.after = window, after
+
+    def begin(self, lab):
+        super().begin(lab)
+        self.left = self.after
 
     def went(self, segment):
-        if has_text(segment) and self.most > 0:
-            self.most -= 1
+        self.left -= has_text(segment)
+        if has_text(segment) and self.left < 0:
             self.lab.stack.write(reply(segment, ACK, window=self.window).packet())
+        return [segment]
+
+
+class Bursts(Fault):
+    """Where text goes out again all that went before goes out with it."""
+
+    def begin(self, lab):
+        super().begin(lab)
+        self.kept = {}
+
+    def went(self, segment):
+        if not has_text(segment):
+            return [segment]
+        if segment.seq in self.kept:
+            return [copied(one) for one in self.kept.values()]
+        self.kept[segment.seq] = segment
         return [segment]
 
 
@@ -293,6 +315,16 @@ class Answers(Fault):
             made.raw = made.bytes()
             self.lab.deliver(made)
         return [segment]
+
+
+class GivesUp(Fault):
+    """The user is told after so many seconds that the connection has failed."""
+
+    def __init__(self, seconds):
+        self.seconds = seconds
+
+    def answers(self, name, words, answer):
+        return Gone("timeout") if name == "receive" and self.lab.now() - self.lab.began > self.seconds else answer
 
 
 def reply(segment, flags, **fields):

@@ -23,7 +23,7 @@ PAGE, LIST = TOP / "docs/CONFORMANCE.md", TOP / "docs/EMBEDDING.md"
 NUMBER = re.compile(r"\b(MUST|SHLD|MAY|REC)-(\d+)(?:\s+to\s+(\d+))?")
 RULE = re.compile(r"RFC (7323|2018), ([\d.]+), rule (\d+)")
 SIGNS = {telling.MET: "met", telling.NOT_MET: "**not met**", telling.SHOULD_NOT: "SHOULD: no", telling.MAY_NOT: "MAY: no", telling.NOT_SEEN: "-"}
-ALLOWED, CALLERS = {"permitted", "application"}, "caller's, "
+ALLOWED, CALLERS, ADMITTED = {"permitted", "application"}, "caller's, ", "not met, "
 HEADS = {"linux": "Linux", "ours": "Boqtilen", "lwip": "lwIP", "gvisor": "gVisor", "slirp": "libslirp"}
 
 
@@ -47,21 +47,42 @@ def named():
 
 
 def is_of(row, number):
-    """Whether a row is about a requirement: by number, or by its section of RFC 7323 or 2018."""
+    """Whether a row is about all of a requirement: by number, or by its section of RFC 7323 or 2018."""
     return number in row.numbers or (number.startswith("RFC ") and number in re.split("; ", row.section))
 
 
+def units(file):
+    """What a file says, in wholes: the lines of a program, the sentences of its comments, and those of a page, or what stands between
+    their colons and semicolons."""
+    text = file.read_text()
+    if file.suffix in (".c", ".h"):
+        blocks = [re.sub(r"\n\s*\* ?", " ", comment) for comment in re.findall(r"/\*(.*?)\*/", text, re.DOTALL)]
+        lines = re.sub(r"/\*.*?\*/", "", text, flags=re.DOTALL).split("\n")
+    else:
+        blocks, lines = re.split(r"\n\s*\n|\n(?=\s*(?:[-|#]|\d+\.)\s)", text), []
+    parts = [part for block in blocks for part in re.split(r"(?<=[.;:])\s+", block)]
+    return {line.strip() for line in lines} | {" ".join(part.split()).strip("*.;: ") for part in parts}
+
+
 def is_cited(shown):
+    """Whether a file says just this. A test's function is also called there."""
     path, _, text = shown.partition(": ")
     file = TOP / path
-    return bool(text) and file.is_file() and " ".join(text.split()) in " ".join(file.read_text().split())
+    if not text or not file.is_file():
+        return False
+    said, function = units(file), re.fullmatch(r"static void (\w+)\(void\)", text)
+    return text in said and (function is None or f"{function[1]}();" in said)
 
 
 def state(number, shown, findings, left_out):
     """What is true of a requirement of ours, and whether that is enough."""
     mine = [findings[row.name] for row in ROWS if is_of(row, number)]
     wanting = [found.row for found in mine if found.verdict not in (telling.MET, telling.NOT_SEEN)]
-    if not wanting and any(found.verdict == telling.MET for found in mine):
+    if shown.startswith(ADMITTED):
+        return admitted(shown.removeprefix(ADMITTED), mine, wanting, [row for row in ROWS if number in row.parts])
+    cited = shown.removeprefix(CALLERS)
+    path = cited.partition(": ")[0]
+    if not wanting and any(found.verdict == telling.MET for found in mine) and shown == cited:
         return "met", True
     if number in left_out:
         return "left out, by name", True
@@ -69,11 +90,19 @@ def state(number, shown, findings, left_out):
         return "may be left out" if shown == "permitted" else "for applications", True
     if wanting:
         return f"not met by {', '.join(wanting)}, and not named", False
-    cited = shown.removeprefix(CALLERS)
     if is_cited(cited):
-        path = cited.partition(": ")[0]
         return f"the caller's, as {path} says" if shown != cited else f"shown by {path}", True
     return "neither met, nor shown, nor named" + (f" ({shown})" if shown else ""), False
+
+
+def admitted(cited, mine, wanting, partly):
+    """Of a requirement that isn't met, or in part alone, as a file says. What rows find met, all of it, may not be told to be unmet."""
+    path = cited.partition(": ")[0]
+    if not is_cited(cited):
+        return f"admitted, and {path} doesn't say so ({cited})", False
+    if not wanting and any(found.verdict == telling.MET for found in mine):
+        return "met, and admitted as not met", False
+    return f"**not met**{' in part' if partly or len(wanting) < len(mine) else ''}, as {path} has it", True
 
 
 def run_all(name):
@@ -96,11 +125,13 @@ def compared(findings):
         wrong += not is_enough
         if not is_enough:
             print(f"conformance: {number}: {words}")
+    admissions = {number for number, _, shown in requirements() if shown.startswith(ADMITTED)}
     for row in ROWS:
         found = findings[row.name]
-        lost = [number for number in row.numbers if number not in known]
-        # A row without a number is a rule of another RFC or of a section: what isn't met there has to be met.
-        bare = not row.numbers and row.level == MUST and found.verdict not in (telling.MET, telling.NOT_SEEN)
+        lost = [number for number in row.numbers + row.parts if number not in known]
+        # A row without a number is a rule of another RFC or of a section: what isn't met there has to be met, or admitted.
+        bare = not row.numbers and not any(is_of(row, number) for number in admissions)
+        bare = bare and row.level == MUST and found.verdict not in (telling.MET, telling.NOT_SEEN)
         if lost or bare or found.verdict == telling.BROKEN or found.judge:
             wrong += 1
             print(f"conformance: {row.name}: {found.verdict}: {found.evidence} {lost or ''} {found.judge or ''}")
@@ -126,7 +157,8 @@ def page(titles, columns):
     out.append(row_of(["of these accused", *(sum(len(found.judge) for found in columns[name].values()) for name in columns)]))
     out += ["", "## The rows", "", *heading("Row", "Requirement", "Section", "Asked", *heads)]
     for row in sorted(ROWS, key=order):
-        out.append(row_of([row.name, ", ".join(row.numbers) or "-", row.section, row.asks, *(sign(columns[name][row.name]) for name in columns)]))
+        signs = [sign(name, row, columns[name][row.name]) for name in columns]
+        out.append(row_of([row.name, row.requirements() or "-", row.section, row.asks, *signs]))
     out += ["", "## What was seen where a row isn't met", "", *heading("Stack", "Row", "Seen")]
     for name in columns:
         for row in sorted(ROWS, key=order):
@@ -140,8 +172,11 @@ def page(titles, columns):
     return "\n".join(out) + "\n"
 
 
-def sign(found):
-    return SIGNS.get(found.verdict, found.verdict)
+def sign(name, row, found):
+    """A verdict as the page has it. Where it is our caller that has to meet a row, the program around our end met it."""
+    callers = {number for number, _, shown in requirements() if shown.startswith(CALLERS)}
+    is_callers = name == "ours" and found.verdict == telling.MET and row.numbers and callers.issuperset(row.numbers)
+    return "met (caller)" if is_callers else SIGNS.get(found.verdict, found.verdict)
 
 
 def order(row):
@@ -157,9 +192,9 @@ def checked():
     rows = [[cell.strip() for cell in line.split("|")[1:-1]] for line in (PAGE.read_text() if PAGE.exists() else "").split("\n")]
     heads = next((cells for cells in rows if cells[:1] == ["Row"] and HEADS["ours"] in cells), [])
     for row in ROWS:
-        wanted = [row.name, ", ".join(row.numbers) or "-", row.section, row.asks]
+        wanted = [row.name, row.requirements() or "-", row.section, row.asks]
         cell = next((cells[heads.index(HEADS["ours"])] for cells in rows if heads and cells[:4] == wanted), "nothing")
-        if cell != sign(findings[row.name]):
+        if cell != sign("ours", row, findings[row.name]):
             wrong += 1
             print(f"conformance: {row.name}: the page has {cell}, and the run {findings[row.name].verdict}")
     left_out = named()

@@ -11,9 +11,10 @@ import tempfile
 from packetdrill import export_all, run_script
 from tcptest import stack_of
 
-# What no script can have: another address; a user's call that packetdrill has no word for; minutes, which pass in steps of a second.
+# What no script can have: another address; a user's call that packetdrill has no word for; minutes, which pass in steps of a second;
+# several connections of one pair of sockets.
 LEFT = {"gives_up", "gives_up_syn", "greatest_timeout", "no_open_to_many", "no_syn_to_many", "no_syn_from_many", "no_syn_from_network",
-        "initial_numbers", "keep_alive_off"}
+        "initial_numbers", "initial_numbers_clock", "keep_alive_off", "past_edge_no_timeout"}
 CALLS = ("keep_alive", "abort", "leaves_unread")
 
 

@@ -1,21 +1,47 @@
 """The tester's hand: segments to and from a stack, by hand, and the user of the stack. A row is a function of a Lab."""
 
-from segments import ACK, FIN, PSH, RST, SPACE, SYN, TESTER, TIMES, Segment, ahead, mss, read_packet, times
-from stacks import Gone, NotSeen
+from calls import Gone, NotSeen
+from segments import ACK, FIN, PSH, RST, SPACE, SYN, TESTER, TIMES, Pieces, Segment, ahead, mss, read_packet, times
 
-__all__ = ["Gone", "Lab", "NotMet", "NotSeen", "Peer", "need"]
+__all__ = ["Gone", "Lab", "NotMet", "NotSeen", "Peer", "TooLate", "by_timeouts", "given", "need", "timely"]
 
 # How long a row waits for what has to come, and for what may not come, in seconds.
-SOON, SILENCE = 1.0, 0.12
+SOON, SILENCE = 2.0, 0.12
+# The first timeout of stacks that are older than RFC 6298, in seconds (RFC 1122, 4.2.3.1), and how much longer is waited, since clocks
+# go on by ticks.
+FIRST_TIMEOUT, MARGIN = 3.0, 1.3
 
 
 class NotMet(Exception):
     """The stack doesn't do what a row asks for."""
 
 
+class TooLate(NotMet):
+    """It does so at another time: where the clock is the machine's, that may have been the machine's load."""
+
+
 def need(is_so, words):
+    """What a row asks for."""
     if not is_so:
         raise NotMet(words)
+
+
+def timely(is_so, words):
+    """What a row asks for, by time."""
+    if not is_so:
+        raise TooLate(words)
+
+
+def given(is_so, words):
+    """What a row stands on: where that isn't so, nothing can be seen of what it asks for."""
+    if not is_so:
+        raise NotSeen(words)
+
+
+def by_timeouts(count):
+    """By when a segment that isn't acknowledged has gone out again so many times: the first timeout of RFC 6298 is of 1 s, and of older
+    stacks of 3 s, and it doubles (RFC 6298, 2.1 and 5.5)."""
+    return MARGIN * FIRST_TIMEOUT * (2**count - 1)
 
 
 class Lab:
@@ -25,7 +51,7 @@ class Lab:
 
     def __init__(self, stack, fault=None):
         self.stack, self.fault, self.peers, self.strays, self.called, self.story = stack, fault, [], [], [], []
-        self.began, self.serial = stack.now(), 0
+        self.began, self.serial, self.pieces = stack.now(), 0, Pieces()
         if fault is not None:
             fault.begin(self)
 
@@ -53,8 +79,13 @@ class Lab:
     def read(self):
         """Takes all that the stack has sent to the peers."""
         for data in self.stack.read():
-            segment = read_packet(data)
+            whole, count = self.pieces.whole(data)
+            try:
+                segment = None if whole is None else read_packet(whole)
+            except ValueError as why:
+                raise NotMet(str(why)) from why
             if segment is not None:
+                segment.pieces = count
                 self.pass_on(segment)
         if self.fault is not None:
             for segment in self.fault.due(self.now()):
@@ -186,10 +217,11 @@ class Peer:
     def said(self, segment):
         return "nothing" if segment is None else segment.words(self.irs, self.iss)
 
-    def answered(self, wait=SOON):
+    def answered(self, wait=SOON, check=need):
         """What comes has to be an acknowledgement of the next number alone."""
         found = self.take(wait)
-        need(found is not None and found.flags & ~PSH == ACK and found.ack == self.nxt and not found.text, f"answered by {self.said(found)}")
+        is_answer = found is not None and found.flags & ~PSH == ACK and found.ack == self.nxt and not found.text
+        check(is_answer, f"answered by {self.said(found)}")
         return found
 
     def refused(self, seq, ack=None):
@@ -199,56 +231,69 @@ class Peer:
         need(found.seq == seq % SPACE and (ack is None or (found.flags & ACK and found.ack == ack % SPACE)), f"the reset is {self.said(found)}")
         return found
 
-    # Openings.
+    # Openings. Most rows stand on one; of those that ask about it `check` is `need`.
     def syn(self, options=mss(1460), **fields):
         self.put(SYN, self.iss, options=options, **fields)
         self.nxt = (self.iss + 1) % SPACE
 
-    def syn_answered(self):
+    def syn_answered(self, check=given):
         """Takes the SYN,ACK."""
         found = self.answer = self.until(lambda one: one.flags & (SYN | RST))
-        need(found is not None and found.flags & (SYN | ACK | RST) == SYN | ACK and found.ack == self.nxt, f"the SYN is answered by {self.said(found)}")
+        is_answer = found is not None and found.flags & (SYN | ACK | RST) == SYN | ACK and found.ack == self.nxt
+        check(is_answer, f"the SYN is answered by {self.said(found)}")
         self.irs, self.rcv = found.seq, (found.seq + 1) % SPACE
         return found
 
-    def open(self, options=mss(1460), window=65535, syn_window=None, **wishes):
+    def open(self, options=mss(1460), window=65535, syn_window=None, check=given, **wishes):
         """The stack listens, and the tester connects. Answers the stack's user."""
         self.lab.call("listen", self.port, **wishes)
-        return self.join(options, window, syn_window)
+        return self.join(options, window, syn_window, check)
 
-    def join(self, options=mss(1460), window=65535, syn_window=None):
+    def join(self, options=mss(1460), window=65535, syn_window=None, check=given):
         self.window = window
         self.syn(options, window=window if syn_window is None else syn_window)
-        self.syn_answered()
+        self.syn_answered(check)
         self.lab.wait(self.delay)
         self.put(ACK)
-        return self.accept()
+        return self.accept(check)
 
-    def accept(self):
+    def open_asked(self, *words, **how):
+        """Opens where the row asks about the SYN."""
+        return self.asked(self.open, *words, **how)
+
+    def asked(self, opens, *words, **how):
+        """What a row asks about an opening isn't to blame where a plain SYN to another port opens nothing either."""
+        try:
+            return opens(*words, check=need, **how)
+        except NotMet:
+            self.lab.peer().open()
+            raise
+
+    def accept(self, check=given):
         def is_there():
             self.user = self.lab.call("accept", self.port)
             return self.user is not None
 
-        need(self.lab.wait(SOON, is_there), "the stack's user isn't given the connection")
+        check(self.lab.wait(SOON, is_there), "the stack's user isn't given the connection")
         return self.user
 
-    def connected(self, **wishes):
+    def connected(self, check=given, **wishes):
         """The stack's user connects. Answers the SYN."""
         self.user = self.lab.call("connect", self.port, self.own, **wishes)
         found = self.take()
-        need(found is not None and found.flags & (SYN | ACK) == SYN, f"the stack's user connects, and what comes is {self.said(found)}")
+        check(found is not None and found.flags & (SYN | ACK) == SYN, f"the stack's user connects, and what comes is {self.said(found)}")
         self.irs, self.rcv = found.seq, (found.seq + 1) % SPACE
         return found
 
-    def open_by_stack(self, options=mss(1460), window=65535, **wishes):
+    def open_by_stack(self, options=mss(1460), window=65535, check=given, **wishes):
         """The stack connects, and the tester answers."""
-        first = self.connected(**wishes)
+        first = self.connected(check, **wishes)
         self.lab.wait(self.delay)
         self.window = window
         self.put(SYN | ACK, self.iss, options=options)
         self.nxt = (self.iss + 1) % SPACE
         found = self.take()
-        need(found is not None and found.flags & ACK and found.ack == self.nxt, f"the SYN,ACK is answered by {self.said(found)}")
+        check(found is not None and found.flags & ACK and found.ack == self.nxt, f"the SYN,ACK is answered by {self.said(found)}")
         return first
 
     # The stack's user.
@@ -269,14 +314,14 @@ class Peer:
         self.lab.wait(wait, is_there)
         return found[-1]
 
-    def is_told(self, text, wait=SOON):
+    def is_told(self, text, wait=SOON, check=need):
         """The user has to be handed just this text."""
         whole, end = b"", self.lab.now() + wait
         while len(whole) < len(text) and self.lab.now() < end:
             piece = self.got(0.05)
-            need(piece is None or (piece and not isinstance(piece, Gone)), f"the user is told {piece!r}")
+            check(piece is None or (piece and not isinstance(piece, Gone)), f"the user is told {heard(piece)}")
             whole += piece or b""
-        need(whole == text, f"the user is handed {whole[:60]!r}, of {len(whole)} bytes")
+        check(whole == text, f"the user is handed {whole[:60]!r}, of {len(whole)} bytes")
 
     def is_told_nothing(self, words="the user is handed text"):
         found = self.receive()

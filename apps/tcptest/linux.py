@@ -25,11 +25,16 @@ def ip(*words):
 
 
 def set_kernel(name, value):
-    """Sets a variable of the namespace's network, where the kernel has it."""
-    path = f"/proc/sys/net/ipv4/{name}"
-    if os.path.exists(path):
-        with open(path, "w") as file:
-            file.write(str(value))
+    """Sets a variable of net.ipv4 in the namespace that this process has entered, and never one of the machine's own network. Answers
+    whether the kernel has it."""
+    if not entered:
+        raise OSError(f"net.ipv4.{name} would be set for the whole machine: it is set in a network namespace of the tester's own alone")
+    path = os.path.normpath(f"/proc/sys/net/ipv4/{name}")
+    if not path.startswith("/proc/sys/net/ipv4/") or not os.path.isfile(path):
+        return False
+    with open(path, "w") as file:
+        file.write(str(value))
+    return True
 
 
 def open_tun(name, address):

@@ -7,8 +7,10 @@
 
 Read are times (0.1, +0.1, *, a~b, a...b), --tolerance_usecs, calls (socket, setsockopt, bind, listen, accept, connect, read, recv, write,
 send, shutdown, close) and segments (flags S F R P U E W and ., seq:end(length), ack, win, urg, and options mss, nop, eol, sackOK, wscale,
-sack, TS, or <...>). What else a script has, as %{ }%, commands in backquotes and ICMP, is told and passed over. Each connection's log goes
-through the proved judge. PSH isn't compared, since each stack sets it by a rule of its own. The status is 0 where all went as the scripts say."""
+sack, TS, or <...>). What else packetdrill has, as %{ }%, commands in backquotes, ICMP and other calls, is told and passed over; a file with
+a line that is none of these is refused. Each connection's log goes through the proved judge. PSH isn't compared, since each stack sets it by
+a rule of its own. The status is 0 where all went as the scripts say, 1 where something differs, and 2 where a script was refused, or where
+there is no such stack."""
 
 import argparse
 import contextlib
@@ -17,17 +19,18 @@ import re
 import struct
 import sys
 
+import building
+import calls
 import judging
 import scripting
 import telling
 from lab import Gone, Lab, NotMet, NotSeen
 from linux import set_kernel
 from segments import ACK, BLOCKS, LETTERS, MSS, NOP, PERMITTED, PSH, SCALE, SPACE, SYN, TIMES, ahead, as_sent
+from stacks import Linux
 from tcptest import chosen, stack_of
 
 BITS = {letter: bit for bit, letter in LETTERS}
-SEGMENT = re.compile(r"([SFRPUEW.]+)\s+(\d+):(\d+)\((\d+)\)(?:\s+ack\s+(\d+))?(?:\s+win\s+(\d+))?(?:\s+urg\s+(\d+))?(?:\s*<(.*)>)?$")
-CALL = re.compile(r"(\w+)\s*\((.*)\)\s*=\s*(-?\d+|\?)\s*(\w*)")
 # How much later or earlier than a script says a segment may come, in seconds, where the script says nothing of it; and how long one is
 # waited for at most whose time is free.
 TOLERANCE, FREE = 0.05, 4.0
@@ -123,10 +126,7 @@ class Runner:
         return struct.pack(">II", int(values[1]), echo % SPACE)
 
     def call(self, text):
-        found = CALL.match(text)
-        if not found:
-            print(f"  passed over: {text[:60]}")
-            return
+        found = scripting.CALL.match(text)
         name, words, wanted, fault = found[1], [word.strip() for word in found[2].split(",")], found[3], found[4]
         self.done(name, words, wanted, fault, text)
 
@@ -153,8 +153,6 @@ class Runner:
             lab.call("leave", peer.user)
         elif name == "shutdown":
             lab.call("close", peer.user)
-        elif name not in ("socket", "bind", "fcntl", "close"):
-            print(f"  passed over: {text[:60]}")
 
     def same(self, count, wanted, text):
         if wanted != "?" and count != int(wanted):
@@ -174,12 +172,8 @@ class Runner:
 
 
 def parts(text):
-    found = SEGMENT.match(text[1:].strip())
-    if not found:
-        raise Differs(f"'{text}' isn't read")
+    found = scripting.SEGMENT.match(text[1:].strip())
     numbers = [None if value is None else int(value) for value in found.groups()[1:7]]
-    if numbers[1] - numbers[0] != numbers[2]:
-        raise Differs(f"'{text}': the length isn't that of its numbers")
     return found[1], *numbers, found[8]
 
 
@@ -190,10 +184,11 @@ def plain(name, values):
 
 
 def run_script(stack, path):
-    """Whether a stack does what a script says; and why not."""
+    """Whether a stack does what a script says; and why not. NoScript where it is none."""
+    script = scripting.read(path.read_text())
     runner = Runner(stack)
     try:
-        runner.run(scripting.read(path.read_text()))
+        runner.run(script)
         return True, "as the script says", runner
     except (Differs, NotMet, NotSeen) as why:
         return False, str(why), runner
@@ -201,14 +196,15 @@ def run_script(stack, path):
         _, found = judging.judged([runner.peer.log])
         if found:
             print(f"  the judge: {found[0][1]}")
-        runner.peer.quit()
+        with contextlib.suppress(NotSeen):
+            runner.peer.quit()
         stack.stop()
 
 
 def prepared(stack, path):
     """Of a script's commands in backquotes those that set a variable of the kernel's, where the kernel is the stack."""
     for name, value in re.findall(r"`sysctl -q net\.ipv4\.(\w+)=(\d+)`", path.read_text()):
-        if not stack.has_clock:
+        if isinstance(stack, Linux):
             set_kernel(name, value)
 
 
@@ -245,17 +241,34 @@ def main():
     parser.add_argument("--pcap", type=pathlib.Path, help="a capture of each script, SCRIPT.pcap in this folder")
     parser.add_argument("scripts", nargs="*", type=pathlib.Path)
     words = parser.parse_args()
-    stack, failed = stack_of(words.stack), 0
+    try:
+        return done(words, stack_of(words.stack))
+    except (building.Lacks, calls.Misspoken, OSError) as lack:
+        print(f"packetdrill: {lack}", file=sys.stderr)
+        return 2
+
+
+def done(words, stack):
+    """What was asked for. Answers the status."""
+    failed = refused = 0
     if words.export:
-        print(export(stack, next(row for row in chosen(words.export) if row.name == words.export)), end="")
+        row = next((row for row in chosen(words.export) if row.name == words.export), None)
+        if row is None:
+            raise building.Lacks(f"no row is called {words.export}")
+        print(export(stack, row), end="")
         return 0
     if words.export_all:
         count = sum(1 for _ in export_all(stack, words.export_all))
         print(f"{count} scripts in {words.export_all}")
         return 0
     for path in words.scripts:
-        prepared(stack, path)
-        is_same, said, runner = run_script(stack, path)
+        try:
+            prepared(stack, path)
+            is_same, said, runner = run_script(stack, path)
+        except (scripting.NoScript, OSError, UnicodeDecodeError) as why:
+            refused += 1
+            print(f"{path.name:28} REFUSED: {why}")
+            continue
         failed += not is_same
         if words.pcap:
             packets = [(when, as_sent(segment)) for when, _, segment, *_ in runner.peer.story]
@@ -263,8 +276,8 @@ def main():
         print(f"{path.name:28} {said if is_same else 'DIFFERS: ' + said}")
         if not is_same:
             print("\n".join(f"    {when:8.3f} {word} {text}" for when, word, _, text, _ in runner.peer.story[-8:]))
-    print(f"{len(words.scripts)} scripts, {failed} differ")
-    return int(failed > 0 or not words.scripts)
+    print(f"{len(words.scripts)} scripts, {failed} differ" + (f", {refused} refused" if refused else ""))
+    return 2 if refused or not words.scripts else int(failed > 0)
 
 
 if __name__ == "__main__":

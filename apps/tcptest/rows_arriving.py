@@ -1,9 +1,13 @@
 """Rows: what becomes of segments that arrive in a connection (RFC 9293, 3.10.7.4; RFC 5961, 3 to 7; RFC 2018, 4; RFC 5681, 4.2)."""
 
 from broken import Answers, Fault, Hears, Says, Told, copied, drops, has_text, is_alone, is_reset, is_syn, kills, sets
-from lab import NotSeen, heard, need
+from lab import NotSeen, given, heard, need, timely
 from rows import MAY, SHOULD, row
 from segments import ACK, BLOCKS, FIN, PERMITS, PSH, RST, SYN, URG, ahead, mss
+
+
+# An acknowledgement that waits does so for longer, in seconds.
+AT_ONCE = 0.03
 
 
 class Expected(Fault):
@@ -109,6 +113,7 @@ def challenges_limited(lab):
     for _ in range(40):
         peer.put(SYN, peer.nxt + 5)
     found = peer.all()
+    given(found, "of 40 SYNs in a moment none is challenged")
     need(len(found) < 40, "each of 40 SYNs in a moment is challenged")
     return f"40 SYNs in a moment: {len(found)} challenges"
 
@@ -143,12 +148,46 @@ def out_of_order(lab):
     peer = lab.peer()
     peer.open()
     peer.text(b"def", 3)
-    peer.answered(0.02)
+    began, found = lab.now(), peer.answered()
+    timely(found.when - began < AT_ONCE, f"a duplicate acknowledgement after {1000 * (found.when - began):.0f} ms")
     peer.text(b"abc")
     peer.went_on(6)
     peer.answered()
     peer.is_told(b"abcdef")
     return "a duplicate acknowledgement; then one of all 6 bytes"
+
+
+@row("MUST-59", "3.10.7.4", "what was held behind a gap is all taken before an acknowledgement goes out",
+     lambda: FirstAlone())
+def held_taken_at_once(lab):
+    peer = lab.peer()
+    peer.open()
+    for at in 3000, 1000, 2000:
+        peer.text(b"h" * 1000, at)
+        peer.all(0.03)
+    peer.text(b"a" * 1000)
+    peer.went_on(4000)
+    found = peer.take()
+    given(found is not None, "nothing is acknowledged")
+    told = ahead(found.ack, peer.nxt) + 4000
+    need(told >= 4000, f"the first acknowledgement is of {told} of 4,000 bytes")
+    more = [one for one in peer.all(0.1) if is_alone(one)]
+    need(not more, f"{len(more)} acknowledgements more")
+    return "three segments are held; the one in front of them is answered by one acknowledgement, of all"
+
+
+class FirstAlone(Fault):
+    """Where an acknowledgement is of several segments, one of the first comes before it."""
+
+    def begin(self, lab):
+        super().begin(lab)
+        self.ack = None
+
+    def went(self, segment):
+        last, self.ack = self.ack, segment.ack
+        if not is_alone(segment) or last is None or ahead(segment.ack, last) < 2000:
+            return [segment]
+        return [sets(ack=last + 1000)(copied(segment)), copied(segment)]
 
 
 @row("", "3.10.7.4", "text that overlaps is handed over once, in order", lambda: Told("receive", lambda answer: answer and answer + answer[:2]))
@@ -173,7 +212,7 @@ def gap_filled(lab):
     peer.went_on(2000)
     began = lab.now()
     found = peer.answered()
-    need(found.when - began < 0.03, f"after {1000 * (found.when - began):.0f} ms")
+    timely(found.when - began < AT_ONCE, f"after {1000 * (found.when - began):.0f} ms")
     return f"after {1000 * (found.when - began):.1f} ms"
 
 
@@ -253,9 +292,9 @@ def delayed_less(lab):
         peer.text(b"q" * 10)
         peer.went_on(10)
         began, found = lab.now(), peer.take(0.8)
-        need(found is not None and found.ack == peer.nxt, f"within 0.8 s {peer.said(found)}")
+        timely(found is not None and found.ack == peer.nxt, f"within 0.8 s {peer.said(found)}")
         spans.append(found.when - began)
-    need(max(spans) < 0.5, f"after {max(spans):.3f} s")
+    timely(max(spans) < 0.5, f"after {max(spans):.3f} s")
     return f"at most {1000 * max(spans):.0f} ms"
 
 
@@ -265,16 +304,18 @@ def delayed(lab):
     peer.open()
     # A stack may acknowledge at once while a connection begins.
     warm_up(peer, 40)
-    for _ in range(3):
+    for _ in range(5):
         lab.wait(0.1)
         peer.all(0.01)
         peer.text(b"q" * 10)
         peer.went_on(10)
         began, found = lab.now(), peer.take(0.6)
-        need(found is not None, "no acknowledgement in 0.6 s")
+        given(found is not None, "no acknowledgement in 0.6 s")
         spans.append(found.when - began)
-    need(max(spans) > 0.005, f"after {1000 * max(spans):.1f} ms")
-    return f"up to {1000 * max(spans):.0f} ms"
+    # Of those that don't wait a loaded machine may have delayed one.
+    middle = sorted(spans)[len(spans) // 2]
+    timely(middle > 0.005, f"after {1000 * middle:.1f} ms")
+    return f"after {1000 * middle:.0f} ms"
 
 
 def warm_up(peer, count):
@@ -312,7 +353,8 @@ class Seldom(Fault):
         return [] if is_alone(segment) and self.seen % self.of else [segment]
 
 
-@row("MUST-30 MUST-31 MUST-32 MUST-62", "3.8.5", "the user is told of urgent data", lambda: Hears(sets(flags=lambda old: old & ~URG, urgent=0)))
+@row("MUST-30 MUST-31~ MUST-32 MUST-62~", "3.8.5", "the user is told of urgent data",
+     lambda: Hears(sets(flags=lambda old: old & ~URG, urgent=0)))
 def urgent_told(lab):
     peer = lab.peer()
     peer.open()

@@ -1,17 +1,23 @@
 """Rows: how connections end, and how long they last in silence (RFC 9293, 3.6, 3.8.3 and 3.8.4). What takes minutes is asked of a stack
 whose clock is the tester's."""
 
-from broken import Again, Fault, Hears, Later, Says, Told, copied, drops, has_fin, is_alone, is_reset, is_syn, sets
-from lab import Gone, is_text, need
+from broken import Again, Fault, GivesUp, Hears, Later, Says, Told, copied, drops, has_fin, is_alone, is_reset, is_syn, sets
+from lab import Gone, NotSeen, by_timeouts, given, is_text, need, timely
 from rows import MAY, SHOULD, row
 from segments import ACK, FIN, RST, SYN, ahead
 
 
-def closed_by_stack(peer):
-    """The stack's user closes; its FIN is taken."""
-    peer.lab.call("close", peer.user)
+def closed_by_stack(peer, check=given):
+    """The stack's user closes; its FIN is taken. Where the stack's calls close both ways alone, that is as good, unless the row asks."""
+    try:
+        peer.lab.call("close", peer.user)
+    except NotSeen:
+        if check is need:
+            raise
+        peer.lab.call("leave", peer.user)
+        peer.user = None
     found = peer.until(has_fin)
-    need(found is not None, "the user closes, and no FIN comes")
+    check(found is not None, "the user closes, and no FIN comes")
     peer.rcv = found.end()
     return found
 
@@ -21,7 +27,7 @@ def half_close(lab):
     peer = lab.peer()
     peer.open()
     peer.send(b"last words")
-    found = closed_by_stack(peer)
+    found = closed_by_stack(peer, need)
     need(ahead(peer.rcv, peer.irs) == 12, f"the FIN is {peer.said(found)}, behind 10 bytes")
     peer.text(b"more")
     peer.went_on(4)
@@ -35,8 +41,8 @@ def fin_again(lab):
     peer = lab.peer()
     peer.open()
     first = closed_by_stack(peer)
-    found = peer.until(has_fin, 3)
-    need(found is not None and found.end() == first.end(), f"within 3 s {peer.said(found)}")
+    found = peer.until(has_fin, by_timeouts(1))
+    need(found is not None and found.end() == first.end(), f"within {by_timeouts(1):.1f} s {peer.said(found)}")
     return f"again after {1000 * (found.when - first.when):.0f} ms"
 
 
@@ -61,8 +67,9 @@ def into_time_wait(peer):
     peer.put(ACK | FIN)
     peer.went_on(1)
     found = peer.until(lambda one: one.flags & ACK and one.ack == peer.nxt)
-    need(found is not None, "the FIN isn't acknowledged")
-    peer.lab.stack.leave(peer.user)
+    given(found is not None, "the FIN isn't acknowledged")
+    if peer.user is not None:
+        peer.lab.stack.leave(peer.user)
     return found
 
 
@@ -150,17 +157,19 @@ def is_keep_alive(peer, found):
 @row("MUST-24 MUST-27 MAY-5", "3.8.4", "on demand a silent peer is asked, at the time that was set", lambda: Says(drops, is_alone, after=0))
 def keep_alive(lab):
     peer = kept_alive(lab)
-    began, found = lab.now(), peer.take(2)
-    need(is_keep_alive(peer, found), f"within 2 s {peer.said(found)}")
-    need(0.8 < found.when - began < 1.5, f"after {found.when - began:.2f} s")
+    began, found = lab.now(), peer.take(3)
+    need(is_keep_alive(peer, found), f"within 3 s {peer.said(found)}")
+    # Clocks go on by ticks, of half a second in some stacks.
+    timely(0.8 < found.when - began < 2, f"after {found.when - began:.2f} s")
     return f"set to 1 s: after {found.when - began:.2f} s {peer.said(found)}"
 
 
 @row("SHLD-12", "3.8.4", "a keep-alive has no text", lambda: Says(sets(text=b"\0"), is_alone), SHOULD)
 def keep_alive_without_text(lab):
     peer = kept_alive(lab)
-    found = peer.take(2)
-    need(is_keep_alive(peer, found) and not found.text, peer.said(found))
+    found = peer.take(3)
+    given(is_keep_alive(peer, found), f"within 3 s {peer.said(found)}")
+    need(not found.text, peer.said(found))
     return peer.said(found)
 
 
@@ -172,8 +181,8 @@ def keep_alive_idle_only(lab):
         peer.went_on(4)
         for found in peer.all(0.4):
             need(not is_keep_alive(peer, found), f"asked by {peer.said(found)}")
-    found = peer.take(2)
-    need(is_keep_alive(peer, found), f"in silence {peer.said(found)}")
+    found = peer.take(3)
+    given(is_keep_alive(peer, found), f"in silence {peer.said(found)}")
     return "text each 0.4 s: none in 1.6 s; then silence: one"
 
 
@@ -204,8 +213,8 @@ class Repeats(Fault):
 def keep_alive_lost(lab):
     peer = kept_alive(lab)
     for _ in range(2):
-        found = peer.take(2)
-        need(is_keep_alive(peer, found), f"within 2 s {peer.said(found)}")
+        found = peer.take(3)
+        given(is_keep_alive(peer, found), f"within 3 s {peer.said(found)}")
     peer.put(ACK)
     need(lab.call("receive", peer.user) is None, "the user is told that the connection failed")
     peer.text(b"here")
@@ -241,26 +250,18 @@ def until_gone(lab, peer, most):
     return lab.now() - began
 
 
-@row("MUST-20 SHLD-11", "3.8.3", "text that isn't acknowledged is sent for 100 s at least, and then the user is told", lambda: GivesUp(50), SHOULD)
+@row("MUST-20~ SHLD-11", "3.8.3", "text that isn't acknowledged is sent for 100 s at least; then the connection is closed, and the user is told",
+     lambda: GivesUp(50), SHOULD)
 def gives_up(lab):
     peer = lab.peer()
     peer.open()
     peer.send(b"to nobody")
     span = until_gone(lab, peer, 4000)
-    need(100 <= span < 3999, f"after {span:.0f} s")
     sent = [one for one in peer.arrived if is_text(one)]
-    need(sent and sent[-1].when - lab.began > 50, "sent for less than 50 s")
+    given(sent, "the user's text isn't sent")
+    need(100 <= span < 3999, f"after {span:.0f} s")
+    need(sent[-1].when - lab.began > 50, "sent for less than 50 s")
     return f"after {span:.0f} s, and {len(sent)} segments"
-
-
-class GivesUp(Fault):
-    """The user is told after so many seconds that the connection has failed."""
-
-    def __init__(self, seconds):
-        self.seconds = seconds
-
-    def answers(self, name, words, answer):
-        return Gone("timeout") if name == "receive" and self.lab.now() - self.lab.began > self.seconds else answer
 
 
 @row("MUST-22 MUST-23", "3.8.3", "a SYN that isn't answered is sent for three minutes at least, and then the user is told", lambda: GivesUp(100))

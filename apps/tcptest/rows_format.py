@@ -1,7 +1,7 @@
 """Rows: how segments are formed and read (RFC 9293, 3.1, 3.2 and 3.7.1; RFC 7323, 2; RFC 2018, 2)."""
 
 from broken import GREATER_MSS, Hears, Says, Splits, drops, has_text, is_syn, kills, sets, without
-from lab import Gone, is_text, need
+from lab import Gone, NotMet, given, is_text, need
 from rows import SHOULD, row
 from segments import ACK, CWR, ECE, EOL, MSS, NOP, PERMITS, PERMITTED, PSH, SCALE, SYN, ahead, mss, scale, times
 
@@ -16,7 +16,7 @@ def sent_text(peer, size=5000):
     """What the stack's user has sent, as it comes."""
     peer.send(b"x" * size)
     found = [one for one in peer.all() if is_text(one)]
-    need(found, "the user's text isn't sent")
+    given(found, "the user's text isn't sent")
     return found
 
 
@@ -34,30 +34,47 @@ def checksum_sent(lab):
 def checksum_tested(lab):
     peer = lab.peer()
     peer.open()
+    taken(peer, given)
     peer.text(b"abc", harm=0x1234)
     peer.silent("the damaged segment is answered")
     peer.is_told_nothing()
+    taken(peer, need)
+    return "damaged: silence; whole: taken"
+
+
+def taken(peer, check):
+    """Text that is right has to be acknowledged, and handed over."""
     peer.text(b"abc")
     peer.went_on(3)
-    peer.answered()
-    peer.is_told(b"abc")
-    return "damaged: silence; whole: taken"
+    peer.answered(check=check)
+    peer.is_told(b"abc", check=check)
 
 
 @row("MUST-4", "3.2", "end of list, no-operation and MSS are read; nothing behind the end of the list is", lambda: Hears(without(MSS), is_syn))
 def basic_options(lab):
     peer = lab.peer()
-    peer.open(options=bytes([NOP]) + mss(300) + bytes([EOL, 0, 0]))
+    peer.open_asked(bytes([NOP]) + mss(300) + bytes([EOL, 0, 0]))
     most = longest(sent_text(peer))
     need(most <= 300, f"text of {most} bytes, and the MSS is 300")
-    return f"NOP, MSS 300, end of list: longest text {most}"
+    return f"NOP, MSS 300, end of list: longest text {most}; {behind_the_end(lab.peer())}"
+
+
+def behind_the_end(peer):
+    """What stands behind the end of the list may not be read. Zeros have to stand there (MUST-69), so such a SYN may be dropped."""
+    try:
+        peer.open(mss(300) + bytes([EOL]) + mss(1000) + bytes(3), check=need)
+    except NotMet:
+        return "with an MSS of 1,000 behind it the SYN is dropped"
+    most = longest(sent_text(peer))
+    need(most <= 300, f"text of {most} bytes, where behind the end of the list, and an MSS of 300, one of 1,000 stands")
+    return f"with an MSS of 1,000 behind it {most}"
 
 
 @row("MUST-5 MUST-6", "3.2", "options come in any segment, and unknown ones are passed over",
      lambda: Hears(drops, lambda one: b"\xfe\x04" in one.options))
 def unknown_options(lab):
     peer = lab.peer()
-    peer.open(options=mss(1460) + b"\xfd\x06abcd")
+    peer.open_asked(mss(1460) + b"\xfd\x06abcd")
     peer.text(b"hello", options=b"\xfe\x04xy")
     peer.went_on(5)
     peer.answered()
@@ -78,14 +95,14 @@ def illegal_lengths(lab):
     taken = bool(found)
     peer.text(b"zzmore")
     peer.went_on(6)
-    need(peer.until(lambda one: one.ack == peer.nxt), "nothing is acknowledged any more")
+    need(peer.until(lambda one: one.ack == peer.nxt), "text behind them isn't acknowledged")
     return f"lengths 0, 1 and 34 of 4: the connection stays, and such a segment is {'taken' if taken else 'dropped'}"
 
 
 @row("MUST-64", "3.2", "options that begin at no word's boundary are read", lambda: Hears(without(MSS), is_syn))
 def unaligned_options(lab):
     peer = lab.peer()
-    peer.open(options=bytes([NOP]) + mss(300) + bytes([NOP, NOP, NOP]))
+    peer.open_asked(bytes([NOP]) + mss(300) + bytes([NOP, NOP, NOP]))
     most = longest(sent_text(peer))
     need(most <= 300, f"text of {most} bytes, and the MSS is 300")
     return f"MSS 300 behind one NOP: longest text {most}"
@@ -131,14 +148,15 @@ def mss_of_link(lab):
     peer = lab.peer()
     peer.open()
     told = int.from_bytes(peer.answer.option(MSS) or b"", "big")
-    need(0 < told <= 1460, f"{told} where the link's packets have 1500 bytes")
+    given(told, "no MSS is told")
+    need(told <= 1460, f"{told} where the link's packets have 1500 bytes")
     return f"{told} where the link's packets have 1500 bytes"
 
 
 @row("MUST-15", "3.7.1", "where no MSS option comes, 536 is assumed", lambda: Hears(GREATER_MSS, is_syn))
 def mss_default(lab):
     peer = lab.peer()
-    peer.open(options=b"")
+    peer.open_asked(b"")
     most = longest(sent_text(peer), True)
     need(most <= 536, f"text and options of {most} bytes")
     return f"longest text {most}"
@@ -171,7 +189,7 @@ def push_at_last(lab):
     while ahead(max(ahead(one.end(), peer.irs) for one in found), 3001) < 0:
         peer.acknowledge(found[-1])
         found.append(peer.until(is_text))
-        need(found[-1] is not None, "the rest isn't sent")
+        given(found[-1] is not None, "the rest isn't sent")
     last = max(found, key=lambda one: ahead(one.seq, peer.irs))
     need(last.flags & PSH, f"the last one is {peer.said(last)}")
     return f"PSH in {sum(bool(one.flags & PSH) for one in found)} of {len(found)} segments, and in the last one"
@@ -188,7 +206,7 @@ def push_collapsed(lab):
     peer.window = 5000
     peer.put(ACK)
     found = {one.seq: one for one in peer.all(0.1) if is_text(one) and len(one.text) > 1}
-    need(found, "nothing is sent once the window opens")
+    given(found, "nothing is sent once the window opens")
     pushed = [bool(one.flags & PSH) for _, one in sorted(found.items(), key=lambda pair: ahead(pair[0], peer.irs))]
     need(sum(pushed) <= 1, f"PSH in {sum(pushed)} of {len(pushed)} segments")
     return f"three sends in {len(pushed)} segments, PSH in {sum(pushed)}"
@@ -219,7 +237,7 @@ def scale_only_offered(lab):
     peer, other = lab.peer(), lab.peer()
     peer.open()
     need(peer.answer.option(SCALE) is None, f"it has one: {peer.said(peer.answer)}")
-    other.open(options=mss(1460) + scale(3))
+    other.open_asked(mss(1460) + scale(3))
     found = other.answer.option(SCALE)
     return f"none; where one was offered {'none' if found is None else f'a shift of {found[0]}'}"
 
@@ -261,9 +279,9 @@ def ecn_does_no_harm(lab):
     lab.call("listen", peer.port)
     peer.put(SYN | ECE | CWR, options=mss(1460))
     peer.nxt += 1
-    peer.syn_answered()
+    peer.asked(peer.syn_answered)
     peer.put(ACK)
-    peer.accept()
+    peer.accept(need)
     peer.text(b"abc")
     peer.is_told(b"abc")
     return "opened, and text taken"

@@ -1,7 +1,7 @@
 """Rows: what stands around a segment, the IPv4 header and ICMP (RFC 9293, 3.9.2; RFC 1191; RFC 5927)."""
 
 from broken import Fault, Hears, Says, drops, kills, sets
-from lab import Gone, is_text, need
+from lab import Gone, by_timeouts, given, is_text, need
 from rows import SHOULD, row
 from segments import ACK, Segment, icmp_error
 
@@ -14,7 +14,7 @@ def in_flight(lab, size=100, **wishes):
         lab.call("wish", peer.user, **wishes)
     peer.send(b"x" * size)
     found = peer.until(is_text)
-    need(found is not None, "the user's text isn't sent")
+    given(found is not None, "the user's text isn't sent")
     return peer, found
 
 
@@ -85,11 +85,12 @@ def hard_errors_syn(lab):
 @row("SHLD-6 MUST-54", "RFC 1191, 4", "segments are made smaller where the path says so", lambda: Deaf(), SHOULD)
 def path_mtu(lab):
     peer, found = in_flight(lab, 1460)
-    need(len(found.text) > 1000, f"the first segment is {peer.said(found)}")
+    given(len(found.text) > 1000, f"the first segment is {peer.said(found)}")
     reported(lab, 3, 4, found, 1000)
-    again = [one for one in peer.all(0.8) if is_text(one)]
-    longest = max((len(one.text) for one in again), default=0)
-    need(again and longest <= 960, f"then the longest is {longest}")
+    again = [peer.until(is_text, by_timeouts(1))]
+    given(again[0] is not None, f"nothing is sent again within {by_timeouts(1):.1f} s")
+    longest = max(len(one.text) for one in again + peer.all(0.05))
+    need(longest <= 960, f"then the longest is {longest}")
     return f"{len(found.text)} bytes, then {longest}"
 
 
@@ -114,7 +115,8 @@ def services_changed(lab):
     lab.call("wish", peer.user, service=0x48)
     peer.send(b"more")
     found = peer.until(lambda one: is_text(one) and one.seq != first.seq)
-    need(found is not None and found.service & 0xFC == 0x48, f"set to 0x48: {found.service if found else 'nothing comes'}")
+    given(found is not None, "the user's text isn't sent")
+    need(found.service & 0xFC == 0x48, f"set to 0x48, and it is {found.service:#x}")
     return f"{first.service:#x}, then 0x48"
 
 

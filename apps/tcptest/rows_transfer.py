@@ -6,12 +6,12 @@ import random
 
 import building
 from broken import Hears, Says, Told, drops, has_fin, has_text
-from lab import need
+from lab import Gone, NotSeen, need
 from rows import row
 from segments import STACK, TESTER, as_sent, read_packet
-from stacks import Child, Gone
+from stacks import Child
 
-# One way, in seconds, and how much later what is late comes; how long a transfer may take.
+# One way, in seconds, and how much later what is late comes; after how long without another byte a transfer fails.
 DELAY, LATER, LIMIT = 0.002, 0.006, 30.0
 CLEAN, HARM = {}, {"lost": 0.02, "doubled": 0.02, "late": 0.04, "damaged": 0.01}
 
@@ -56,7 +56,15 @@ class User:
         self.read()
         if self.sent == len(self.text) and len(self.got) == len(self.wanted) and not self.has_closed:
             self.has_closed = True
+            self.close()
+
+    def close(self):
+        """Where a stack's calls close both ways alone, its user isn't told the end."""
+        try:
             self.call("close", self.handle)
+        except NotSeen:
+            self.call("leave", self.handle)
+            self.has_ended = True
 
     def read(self):
         while not self.has_ended and (piece := self.call("receive", self.handle)) is not None:
@@ -113,7 +121,7 @@ class Transfer:
                 continue
             # What the stack has sent by now it sent before this came.
             self.take()
-            segment = read_packet(packet)
+            segment = read_packet(packet, is_damaged=True)
             self.peer.note("came", segment)
             for one in [segment] if self.lab.fault is None else self.lab.fault.came(segment):
                 self.lab.stack.write(packet if one is segment else one.packet())
@@ -127,8 +135,12 @@ class Transfer:
 
     def run(self):
         self.open()
+        count, since = 0, self.began
         while not (self.stack_user.has_ended and self.own_user.has_ended):
-            need(self.lab.now() - self.began < LIMIT, f"after {LIMIT:.0f} s {len(self.stack_user.got)} and {len(self.own_user.got)} bytes have come")
+            came = len(self.stack_user.got) + len(self.own_user.got)
+            count, since = (came, self.lab.now()) if came > count else (count, since)
+            said = f"{len(self.stack_user.got)} and {len(self.own_user.got)} bytes have come, and none in {LIMIT:.0f} s"
+            need(self.lab.now() - since < LIMIT, said)
             self.take()
             self.carry()
             self.accept()

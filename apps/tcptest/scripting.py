@@ -5,8 +5,19 @@ from dataclasses import dataclass
 
 from segments import ACK, BLOCKS, LETTERS, MSS, PERMITTED, SCALE, SPACE, TIMES, ahead
 
+SEGMENT = re.compile(r"([SFRPUEW.]+)\s+(\d+):(\d+)\((\d+)\)(?:\s+ack\s+(\d+))?(?:\s+win\s+(\d+))?(?:\s+urg\s+(\d+))?(?:\s*<(.*)>)?$")
+CALL = re.compile(r"(\w+)\s*\((.*)\)\s*=\s*(-?\d+|\?)\s*(\w*)")
+# The calls that are made of a stack, and those of packetdrill's that are told and passed over.
+CALLS = {"socket", "bind", "listen", "accept", "connect", "setsockopt", "fcntl", "read", "recv", "write", "send", "sendto", "shutdown",
+         "close"}
+UNMADE = {"getsockopt", "ioctl", "poll", "epoll_create", "epoll_ctl", "epoll_wait", "readv", "writev", "recvfrom", "recvmsg", "sendmsg",
+          "sendfile", "splice", "open", "pipe", "cap_set"}
 TIME = re.compile(r"^(\*|[+]?[\d.]+(?:~[+]?[\d.]+)?(?:\.\.\.[\d.]+)?)\s+(.*)$")
 PASSED = re.compile(r"%\{.*?\}%|`.*?`", re.DOTALL)
+
+
+class NoScript(Exception):
+    """What stands in a file is no script, or has more than is read."""
 
 
 @dataclass
@@ -25,7 +36,7 @@ class Script:
 
 
 def read(text):
-    """The events of a script. What isn't read is told."""
+    """The events of a script. What is passed over is told; where something is no line of a script, there is none."""
     tolerance = re.search(r"--tolerance_usecs=(\d+)", text)
     text = re.sub(r"/\*.*?\*/", lambda found: "\n" * found[0].count("\n"), text, flags=re.DOTALL)
     for found in PASSED.findall(text):
@@ -42,11 +53,32 @@ def read(text):
         if re.fullmatch(r"[*+]?[\d.]*", words):
             continue  # what stood here was passed over
         found = TIME.match(words)
-        if found:
-            events.append(event(line, found[1], found[2]))
-        else:
+        if not found:
+            raise NoScript(f"line {line}: '{words[:60]}' has no time, so it is no event of a script")
+        if is_passed_over(found[2], line):
             print(f"  passed over: line {line}: {words[:50]}")
+        else:
+            events.append(event(line, found[1], found[2]))
+    if not events:
+        raise NoScript("no event stands in it")
     return Script(events, int(tolerance[1]) / 1e6 if tolerance else 0.0)
+
+
+def is_passed_over(text, line):
+    """Whether an event is one that isn't made. It has to be a segment, or a call that packetdrill has."""
+    if text[0] in "<>":
+        if re.match(r"[<>]\s*(icmp|udp)\b", text):
+            return True
+        found = SEGMENT.match(text[1:].strip())
+        if not found:
+            raise NoScript(f"line {line}: the segment '{text[:60]}' isn't read")
+        if int(found[3]) - int(found[2]) != int(found[4]):
+            raise NoScript(f"line {line}: '{text[:60]}': the length isn't that of its numbers")
+        return False
+    found = CALL.match(text)
+    if not found or found[1] not in CALLS | UNMADE:
+        raise NoScript(f"line {line}: '{text[:60]}' is neither a segment nor a call")
+    return found[1] in UNMADE
 
 
 def event(line, when, text):

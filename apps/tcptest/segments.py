@@ -52,8 +52,8 @@ class Segment:
         self.sport, self.dport, self.seq, self.ack, self.flags = sport, dport, seq % SPACE, ack % SPACE, flags
         self.window, self.options, self.text, self.urgent, self.reserved = window, options, text, urgent, reserved
         self.source, self.target, self.ttl, self.service, self.ip_options = TESTER, STACK, 64, 0, b""
-        # What is added to the checksum, so that it is wrong; and when the segment was seen.
-        self.harm, self.when, self.raw = 0, 0.0, None
+        # What is added to the checksum, so that it is wrong; when the segment was seen, and in how many pieces its packet came.
+        self.harm, self.when, self.raw, self.pieces = 0, 0.0, None, 1
 
     def bytes(self):
         options = self.options + b"\0" * (-len(self.options) % 4)
@@ -112,7 +112,8 @@ class Segment:
         said = f"[{names}] seq {ahead(self.seq, own)}"
         said += f" ack {ahead(self.ack, other)}" if self.flags & ACK else ""
         said += f" win {self.window}" + (f" text {len(self.text)}" if self.text else "")
-        return said + (f" options {self.options.hex()}" if self.options else "")
+        said += f" options {self.options.hex()}" if self.options else ""
+        return said + (f" in {self.pieces} fragments" if self.pieces > 1 else "")
 
     def __str__(self):
         return self.words()
@@ -126,15 +127,56 @@ def packet(source, target, body, protocol, ttl=64, service=0, options=b""):
     return head[:10] + struct.pack(">H", 65535 - ones_sum(head)) + head[12:] + body
 
 
-def read_packet(data):
-    """The TCP segment of an IPv4 packet, or None."""
-    if len(data) < 40 or data[0] >> 4 != 4 or data[9] != TCP:
+class Pieces:
+    """Puts the fragments of IPv4 packets together (RFC 791, 3.2): what a packet says is known once all of them have come."""
+
+    MORE, OFFSET, MOST = 0x2000, 0x1FFF, 64
+
+    def __init__(self):
+        self.waiting = {}
+
+    def whole(self, data):
+        """A whole packet and in how many pieces it came; None and 0 as long as one is missing."""
+        flags = int.from_bytes(data[6:8], "big")
+        if len(data) < 20 or data[0] >> 4 != 4 or not flags & (self.MORE | self.OFFSET):
+            return data, 1
+        header, total = 4 * (data[0] & 15), int.from_bytes(data[2:4], "big")
+        key = data[12:20] + data[4:6] + data[9:10]
+        pieces = self.waiting.setdefault(key, {})
+        pieces[8 * (flags & self.OFFSET)] = data[:header], data[header:total], bool(flags & self.MORE)
+        body, has_more = b"", True
+        while has_more and len(body) in pieces:
+            _, piece, has_more = pieces[len(body)]
+            if not piece:
+                break
+            body += piece
+        if has_more:
+            # A packet that never becomes whole makes way for others.
+            while len(self.waiting) > self.MOST:
+                self.waiting.pop(next(iter(self.waiting)))
+            return None, 0
+        del self.waiting[key]
+        head = pieces[0][0]
+        head = head[:2] + struct.pack(">HHH", len(head) + len(body), int.from_bytes(data[4:6], "big"), 0) + head[8:10] + b"\0\0" + head[12:]
+        return head[:10] + struct.pack(">H", 65535 - ones_sum(head)) + head[12:] + body, len(pieces)
+
+
+def read_packet(data, is_damaged=False):
+    """The TCP segment of a whole IPv4 packet; None where it has none. ValueError where what it has is no segment, unless that may be so."""
+    if len(data) < 20 or data[0] >> 4 != 4 or data[9] != TCP:
         return None
     (total,) = struct.unpack(">H", data[2:4])
     header = 4 * (data[0] & 15)
+    if not is_damaged and not is_segment(data[header:total]):
+        raise ValueError(f"what is sent as TCP is no segment: {data[header:total].hex() or 'nothing'}")
     segment = read_segment(data[header:total])
     segment.source, segment.target, segment.ttl, segment.service, segment.ip_options = data[12:16], data[16:20], data[8], data[1], data[20:header]
     return segment
+
+
+def is_segment(raw):
+    """Whether a header is there, as long as it says."""
+    return len(raw) >= 20 and 20 <= 4 * (raw[12] >> 4) <= len(raw)
 
 
 def read_segment(raw):

@@ -2,10 +2,11 @@
 
 A stack is at 10.9.0.1 and the tester at 10.9.0.2. Its calls are listen, connect, send, receive, close and abort; `accept` gives what
 listen has opened, `leave` is a user that is gone (it closes both ways), and `wish` asks for what only some stacks can do. A call that a
-stack doesn't have raises NotSeen, and the row's verdict is "not seen".
+stack doesn't have raises NotSeen, and the row's verdict is "not seen" (calls.py).
 """
 
 import contextlib
+import fcntl
 import os
 import select
 import socket
@@ -13,20 +14,12 @@ import struct
 import subprocess
 import time
 
+from calls import Calls, Gone, dotted, heard, say
 from linux import enter_namespace, ip, open_tun
 from segments import STACK, TESTER
 
 
-class NotSeen(Exception):
-    """What a row asks for can't be asked of this stack, or can't be seen."""
-
-
-class Gone(str):
-    """What a receive answers once the connection has failed: the user's error."""
-
-
-def dotted(address):
-    return ".".join(map(str, address))
+SIOCGIFFLAGS, IFF_UP = 0x8913, 1
 
 
 class Linux:
@@ -85,6 +78,8 @@ class Linux:
             one.setsockopt(socket.IPPROTO_IP, socket.IP_TTL, wishes["ttl"])
         if "service" in wishes:
             one.setsockopt(socket.IPPROTO_IP, socket.IP_TOS, wishes["service"])
+        if "congestion" in wishes:
+            one.setsockopt(socket.IPPROTO_TCP, socket.TCP_CONGESTION, wishes["congestion"].encode())
         if "keep" in wishes:
             # The kernel counts these in seconds.
             idle, interval = (max(1, span // 1000) for span in wishes["keep"])
@@ -158,80 +153,6 @@ class Linux:
         one.close()
 
 
-class Calls:
-    """The user calls as lines of text over a socket: what a program of its own answers (README.md, "Another stack")."""
-
-    has_clock = False
-
-    def ask(self, *words):
-        raise NotImplementedError
-
-    def listen(self, port, **wishes):
-        self.need(self.ask("listen", port, *wished(wishes)), "listen")
-
-    def connect(self, port, to, address=TESTER, **wishes):
-        answer = self.ask("connect", port, dotted(address), to, *wished(wishes))
-        return int(answer[1]) if answer[0] == "ok" else self.unless_unknown(answer, None)
-
-    def accept(self, port):
-        answer = self.ask("accept", port)
-        return int(answer[1]) if answer[0] == "ok" else None
-
-    def wish(self, one, **wishes):
-        self.need(self.ask("wish", one, *wished(wishes)), f"wish {' '.join(wishes)}")
-
-    def send(self, one, text, urgent=False):
-        """How many bytes are taken. A message has room for a part of a long text."""
-        if urgent:
-            raise NotSeen("the stack has no call for urgent data")
-        taken = 0
-        while taken < len(text):
-            answer = self.ask("send", one, text[taken : taken + 16384].hex())
-            if answer[0] == "gone":
-                return Gone(answer[1])
-            taken += int(answer[1])
-            if int(answer[1]) == 0:
-                break
-        return taken
-
-    def receive(self, one, most=1 << 16):
-        answer = self.ask("receive", one, min(most, 1 << 14))
-        if answer[0] == "text":
-            return bytes.fromhex(answer[1])
-        return {"nothing": None, "end": b""}[answer[0]] if answer[0] != "gone" else Gone(answer[1])
-
-    def urgent(self, one):
-        raise NotSeen("the stack has no call for urgent data")
-
-    def is_open(self, one):
-        answer = self.ask("open", one)
-        self.unless_unknown(answer, None)
-        return answer[1] == "1"
-
-    def close(self, one):
-        self.need(self.ask("close", one), "close")
-
-    def leave(self, one):
-        self.need(self.ask("leave", one), "leave")
-
-    def abort(self, one):
-        self.need(self.ask("abort", one), "abort")
-
-    def need(self, answer, call):
-        if answer[0] != "ok":
-            raise NotSeen(f"the stack has no call for it: {call}")
-
-    def unless_unknown(self, answer, value):
-        if answer[0] == "unknown":
-            raise NotSeen("the stack has no such call")
-        return value
-
-
-def wished(wishes):
-    """Wishes as words: keep=1000,1000."""
-    return [f"{name}={','.join(map(str, value)) if isinstance(value, tuple) else value}" for name, value in wishes.items()]
-
-
 class Child(Calls):
     """A stack in a program of its own, whose clock is the tester's: it stands still but for what `pass_time` lets pass."""
 
@@ -252,12 +173,11 @@ class Child(Calls):
             with contextlib.suppress(PermissionError):
                 one.setsockopt(socket.SOL_SOCKET, 32, 1 << 23)
         self.wire.setblocking(False)
-        self.control.settimeout(20)
         words = [*self.words, str(wire.fileno()), str(control.fileno())]
         self.child = subprocess.Popen(words, pass_fds=(wire.fileno(), control.fileno()), env=self.settings)
         wire.close()
         control.close()
-        self.clock = 1000.0
+        self.clock, self.opening = 1000.0, None
 
     def stop(self):
         if self.child is not None:
@@ -270,12 +190,11 @@ class Child(Calls):
                 self.child.wait()
             self.child = None
 
-    def ask(self, *words):
-        self.control.send(" ".join(map(str, words)).encode())
-        answer = self.control.recv(1 << 17).decode()
-        if not answer:
-            raise OSError(f"{self.title}: the program has ended")
-        return answer.split()
+    def say(self, line):
+        say(self.control, line, self.title)
+
+    def hear(self, seconds):
+        return heard(self.control, seconds, self.title)
 
     def write(self, packet):
         self.wire.send(packet)
@@ -304,23 +223,34 @@ class Device(Calls):
     def __init__(self, device, control):
         self.title, self.path = f"the stack at {device}", control
         self.link = socket.socket(socket.AF_PACKET, socket.SOCK_DGRAM, socket.htons(0x0800))
-        self.link.bind((device, 0x0800))
+        try:
+            self.link.bind((device, 0x0800))
+        except OSError as fault:
+            raise OSError(f"no device {device} here: {fault.strerror}") from fault
+        flags = fcntl.ioctl(self.link, SIOCGIFFLAGS, struct.pack("16s16x", device.encode()))
+        if not struct.unpack("16xH14x", flags)[0] & IFF_UP:
+            raise OSError(f"the device {device} is down: ip link set {device} up")
         self.link.setblocking(False)
         self.wire, self.device = self.link.fileno(), device
         self.control = socket.socket(socket.AF_UNIX, socket.SOCK_SEQPACKET)
-        self.control.settimeout(20)
-        self.control.connect(control)
+        try:
+            self.control.connect(control)
+        except OSError as fault:
+            raise OSError(f"nobody answers user calls at {control}, a Unix socket of type SEQPACKET: {fault.strerror}") from fault
 
     def start(self):
+        self.finish_opening()
         self.ask("forget")
         self.read()
 
     def stop(self):
         """Nothing: the program goes on."""
 
-    def ask(self, *words):
-        self.control.send(" ".join(map(str, words)).encode())
-        return self.control.recv(1 << 17).decode().split()
+    def say(self, line):
+        say(self.control, line, self.title)
+
+    def hear(self, seconds):
+        return heard(self.control, seconds, self.title)
 
     def write(self, packet):
         self.link.sendto(packet, (self.device, 0x0800))

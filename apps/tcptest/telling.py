@@ -7,6 +7,7 @@ from xml.sax.saxutils import escape, quoteattr
 
 MET, NOT_MET, SHOULD_NOT, MAY_NOT, NOT_SEEN, BROKEN = "met", "not met", "SHOULD not met", "MAY not taken", "not seen", "no verdict"
 RAW = 101  # the link type of packets without a link's header
+SHOWN = 20  # names in the last line
 ORDER = (MET, NOT_MET, SHOULD_NOT, MAY_NOT, NOT_SEEN, BROKEN)
 
 
@@ -55,6 +56,26 @@ def counts(findings):
     judged, accused = sum(found.judged for found in findings), sum(len(found.judge) for found in findings)
     words = ", ".join(f"{count} {verdict}" for verdict, count in of.items() if count)
     return f"{words}; {judged} connections judged, {accused} accused; {sum(found.seconds for found in findings):.1f} s"
+
+
+def some(names):
+    """The first of these, and how many more there are."""
+    return ", ".join(names[:SHOWN]) + (f" and {len(names) - SHOWN} more" if len(names) > SHOWN else "")
+
+
+def status_of(findings):
+    """The program's status, and why it is that."""
+    broken = [found.row for found in findings if found.verdict == BROKEN]
+    unmet = [f"{found.row} ({found.requirement})" for found in findings if found.verdict == NOT_MET]
+    accused = [found.row for found in findings if found.judge]
+    if broken:
+        return 2, f"no verdict of {some(broken)}: the tester failed there, or the stack's program did"
+    if all(found.verdict == NOT_SEEN for found in findings):
+        return 2, "nothing could be seen of this stack"
+    if unmet or accused:
+        said = [f"not met: {some(unmet)}"] if unmet else []
+        return 1, "; ".join(said + ([f"the judge accuses the stack in {some(accused)}"] if accused else []))
+    return 0, "each MUST that was seen is met, and the judge accuses nobody"
 
 
 def as_json(stack, findings):

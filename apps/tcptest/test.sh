@@ -1,7 +1,8 @@
 #!/usr/bin/env bash
 # tcptest's own test: our end's column is that of docs/CONFORMANCE.md, and what isn't met there is named; each row is seen to fail on a
-# stack that passes it, once that is broken; rows are written as scripts in packetdrill's form, and these run; a stack at a TUN device
-# has its table; JSON and XML can be read; and what docs/findings says of Linux, and of the others where they are here, is so.
+# stack that passes it, once that is broken; rows are written as scripts in packetdrill's form, and these run; the tester is fair and safe
+# (fair_test.py); a stack at a TUN device has its table, and so has LWIPv6, which isn't on the page; JSON and XML can be read; and what
+# docs/findings says of Linux, and of the others where they are here, is so.
 # apps/tcptest/test.sh [--long]: --long writes the columns of all five stacks anew, beside the page, and shows how they differ.
 # It wants root, network namespaces and /dev/net/tun, and a C compiler; lwIP's source is fetched by apt-get, as checks/peers/lwip.sh has it.
 set -euo pipefail
@@ -40,17 +41,15 @@ at_device() {
     wait "$program"
 }
 
-# A stack whose program ends at once has no verdict, and that is a failure.
-ended() {
-    python3 - <<'PYTHON'
-import telling
-from stacks import Child
-from tcptest import chosen, run_row
-rows = chosen("checksum_sent,half_close")
-found = [run_row(Child("no stack", "/bin/false"), row) for row in rows]
-assert len(found) == 2 and all(one.verdict == telling.BROKEN for one in found), found
-print(telling.counts(found))
-PYTHON
+# A stack that isn't in the table, by the adapter that shows how one is added: its first timeout is of some seconds.
+at_its_own_device() {
+    local program
+    stacks/lwipv6.py tcptest2 "$work/lwipv6" >"$work/ready" &
+    program=$!
+    until grep -q ready "$work/ready"; do sleep 0.1; done
+    ./tcptest.py --stack tun:tcptest2 --control "$work/lwipv6" \
+        --only "passive_open,active_open,user_told_of_refusal,backs_off,slow_start,transfer_clean"
+    wait "$program"
 }
 
 # JSON and XML have the row, and its verdict.
@@ -89,10 +88,14 @@ holds "scripts on our end" ./packetdrill.py --stack ours pkt/*.pkt
 holds "scripts on Linux" ./packetdrill.py --stack linux pkt/*.pkt
 holds "rows as scripts" ./export_test.py
 holds "formats" formats
-holds "a stack that has ended" ended
-export -f at_device
+holds "fair and safe" ./fair_test.py
+export -f at_device at_its_own_device
 export work
 holds "at a device" unshare --net bash -euc at_device
+if has liblwipv6-2 test -e /usr/lib/liblwipv6.so.2; then
+    rm "$work/ready"
+    holds "LWIPv6" unshare --net bash -euc at_its_own_device
+fi
 # Of another kernel than the page's nothing is known: there a finding may be mended.
 kernel=$(uname -r | cut -d . -f 1-2)
 if grep -q "Linux $kernel\." ../../docs/CONFORMANCE.md; then
