@@ -3,8 +3,8 @@
 # whether the documents show what is in the repository and their commands can be pasted, scripts and C as linters read them, the
 # programs against second ones, the C library under its tests, against lwIP and against this machine's kernel, the portable file on
 # two other machines, what stands on it for Rust, C++, Go and Python, the programs as one C file each, what release/ gives to who has no
-# kit, here with the kit hidden and in a new Debian, the tarball, real clients over usernet, captures, what our end and Linux do row by
-# row, the judge of captures, and the replay as a WebAssembly module.
+# kit, here with the kit hidden and in a new Debian, whether they all take as many instructions as before, the tarball, real clients over
+# usernet, captures, what our end and Linux do row by row, the judge of captures, and the replay as a WebAssembly module.
 # checks/behind.sh FOLDER writes how many of these passed into FOLDER/behind. The libraries and the module are built over what the
 # gate has proved, and after it: two builds at once wait for one another.
 set -euo pipefail
@@ -53,6 +53,7 @@ apps/tcpkit/build.sh
 behind apps/tcpkit/test.sh
 behind checks/release/test.sh "$library"
 behind checks/release/debian.sh
+behind checks/bench.sh "$library"
 timed checks/examples/test.sh
 behind c/dist/test.sh
 timed checks/live/run.sh

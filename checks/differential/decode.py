@@ -113,4 +113,5 @@ def case(seed):
     return "\n".join(lines), "".join(wanted) + total, int(malformed > 0)
 
 
-compare("decode", case)
+if __name__ == "__main__":
+    compare("decode", case)

@@ -53,6 +53,7 @@ def case(seed):
 
 
 seen = collections.Counter()
-compare("replay", case)
-print("how often each phase, ending and rare rule came:")
-print(", ".join(f"{name} {times}" for name, times in sorted(seen.items())))
+if __name__ == "__main__":
+    compare("replay", case)
+    print("how often each phase, ending and rare rule came:")
+    print(", ".join(f"{name} {times}" for name, times in sorted(seen.items())))

@@ -1,5 +1,5 @@
-"""The judge on rows from the RFCs, on captures of stacks that nobody here wrote, on planted faults, on captures that are cut, and on
-random logs.
+"""The judge on rows from the RFCs, on captures of stacks that nobody here wrote, on planted faults, on captures that are cut, on
+random logs, and on logs that grow.
 
     judging.py TCPJUDGE [--netstack PROGRAM] [--peers FOLDER] [--short]
 
@@ -21,6 +21,7 @@ import tempfile
 from twice import Differs, Judges, rules
 
 import capture
+import growth
 import planting
 import rfc_rows
 import stacks
@@ -148,6 +149,7 @@ def main():
         judge_cuts(cases, judges, clean)
     planting.judge_planted(cases, judges)
     judge_random(cases, judges, 500 if words.short else 10000)
+    growth.judge_growth(cases, words.tcpjudge)
     print(f"{judges.count} logs judged twice\n{cases.count} cases, {cases.failed} failed")
     return int(cases.failed > 0 or cases.count == 0)
 

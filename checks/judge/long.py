@@ -2,9 +2,14 @@
 
     python3 checks/judge/long.py >LOG
     python3 checks/judge/long.py --held SEGMENTS >LOG
+    python3 checks/judge/long.py --older SEGMENTS >LOG
+    python3 checks/judge/long.py --batched SEGMENTS >LOG
 
 It is what docs/JUDGE.md measures. The end that is judged opens, and sends two texts before each acknowledgement. With --held it receives:
 the first text is lost, so many of 1,460 bytes come behind it, each is answered by a block of all that came, and then the first comes.
+With --older and --batched the peer is hostile and the end faulty: so many segments of one byte come, each before the last one with a gap,
+and the end acknowledges one number less than before, with an option of SYNs: behind each with --older, and with --batched half as often
+behind all of them. growth.py counts what the three kinds cost.
 """
 
 import argparse
@@ -17,7 +22,7 @@ from end import ACK, PSH, SYN
 from program import hexadecimal, with_checksum
 
 ROUNDS, SIZE, OWN, PEER = 7000, 1428, bytes([10, 0, 0, 1]), bytes([10, 0, 0, 2])
-HELD_SIZE, PERMITTED = 1460, bytes([1, 1, 4, 2])
+HELD_SIZE, PERMITTED, LARGEST = 1460, bytes([1, 1, 4, 2]), bytes([2, 4, 5, 180])
 
 
 def line(word, seq, ack, flags, text=b"", options=b""):
@@ -53,11 +58,34 @@ def held(count):
     yield line("went", 1, 1 + (count + 1) * HELD_SIZE, ACK)
 
 
+def older(count, is_batched=False):
+    yield line("went", 0, 0, SYN)
+    yield line("came", 0, 1, SYN | ACK)
+    yield line("went", 1, 1, ACK)
+    accused = line("went", 1, 0, ACK, options=LARGEST)
+    for number in range(count):
+        yield line("came", 1 + 2 * (count - number), 1, ACK, b"x")
+        if not is_batched:
+            yield accused
+    if is_batched:
+        yield from [accused] * (count // 2)
+
+
+def batched(count):
+    return older(count, is_batched=True)
+
+
+KINDS = {"held": held, "older": older, "batched": batched}
+
+
 def main():
     parser = argparse.ArgumentParser(description=__doc__, formatter_class=argparse.RawDescriptionHelpFormatter)
-    parser.add_argument("--held", type=int, metavar="SEGMENTS")
-    words = parser.parse_args()
-    sys.stdout.writelines(sent() if words.held is None else held(words.held))
+    kinds = parser.add_mutually_exclusive_group()
+    for kind in KINDS:
+        kinds.add_argument(f"--{kind}", type=int, metavar="SEGMENTS")
+    words = vars(parser.parse_args())
+    logs = [make(words[kind]) for kind, make in KINDS.items() if words[kind] is not None]
+    sys.stdout.writelines(logs[0] if logs else sent())
 
 
 if __name__ == "__main__":

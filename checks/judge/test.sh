@@ -1,9 +1,10 @@
 #!/usr/bin/env bash
-# The judge on rows from the RFCs (rfc_rows.py), on captures of stacks on this machine, on planted faults, on captures that are cut, and on
-# random logs: checks/judge/test.sh [TCPJUDGE [LIBRARY]] [--short]. TCPJUDGE is the built program (else crates/tcpjudge's own),
-# LIBRARY the C library (else crates/tcp_c's own), over which checks/peers is built. Each log is judged by the program and by the second
-# one of checks/differential, which have to say the same; nothing that is judged breaks a rule but the planted faults, of which at least
-# 95 of 100 are found. The last line is `N cases, M failed`.
+# The judge on rows from the RFCs (rfc_rows.py), on captures of stacks on this machine, on planted faults, on captures that are cut, on
+# random logs, and on logs that grow (growth.py): checks/judge/test.sh [TCPJUDGE [LIBRARY]] [--short]. TCPJUDGE is the built program
+# (else crates/tcpjudge's own), LIBRARY the C library (else crates/tcp_c's own), over which checks/peers is built. Each log is judged by
+# the program and by the second one of checks/differential, which have to say the same; nothing that is judged breaks a rule but the
+# planted faults, of which at least 95 of 100 are found; and twice as long a log takes at most 2.2 times the instructions. The last line
+# is `N cases, M failed`.
 # It wants root, network namespaces and /dev/net/tun, and installs packages by apt-get where this machine lacks them; where one is
 # missing it fails, or, with LEAVE_OUT=1 in the environment, says so and leaves out what wants it.
 set -euo pipefail
@@ -25,6 +26,7 @@ ip iproute2
 tshark tshark
 slirp4netns slirp4netns
 pasta passt
+valgrind valgrind
 LIST
 /usr/bin/python3 -c 'import dpkt' 2>/dev/null || install_packages python3-dpkt || leave_out_all python3-dpkt
 [[ -x $program ]] || { echo "judge: no $program: run 'rt run' in crates/tcpjudge"; exit 1; }
