@@ -374,7 +374,7 @@ def admissions():
     number = "RFC 7323, 2.4 (3)"
     made = {one.name: telling.Finding(one.name, "", "", "", telling.MET, "") for one in ROWS}
     same(conformance.state(number, shown[number], made, set())[1], False)
-    made["new_text_in_late_window"].verdict = telling.NOT_MET
+    made["new_text_in_window_late"].verdict = telling.NOT_MET
     same(conformance.state(number, shown[number], made, set()), ("**not met** in part, as docs/RULES.md has it", True))
     same(conformance.state(number, "", made, set())[1], False)
     same(conformance.state(number, "not met, docs/RULES.md: no such words", made, set())[1], False)
@@ -391,7 +391,8 @@ def scripts():
         good = "0 socket(..., SOCK_STREAM, IPPROTO_TCP) = 3\n+0 listen(3, 1) = 0\n"
         good += "+.1 < S 0:0(0) win 32792 <mss 1000>\n+0 > S. 0:0(0) ack 1 <...>\n"
         wrong = ("hello world", "line 1"), ("0 hello world", "line 1"), ("", "no event")
-        wrong += tuple((good + last, "line 5") for last in ("+0 hello(3) = 0", "+.1 < S 0:0(", "+.1 < . 1:3(9) ack 1 win 5", "listen(3, 1) = 0"))
+        last = "+0 hello(3) = 0", "+.1 < S 0:0(", "+.1 < . 1:3(9) ack 1 win 5", "listen(3, 1) = 0"
+        wrong += tuple((good + one, "line 5") for one in last)
         for text, said in wrong:
             path.write_text(text + "\n")
             status, out, _ = ran("--stack", "ours", str(path), program="packetdrill.py")

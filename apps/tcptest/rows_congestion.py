@@ -68,10 +68,10 @@ def initial_window(lab):
 
 class Receiver:
     """Takes what the stack's user sends without an end, and acknowledges each segment half a round trip later, as a receiver would that
-    reports no blocks. `rounds` are the bytes that came in each round trip, `longest` those of the longest segment."""
+    reports no blocks. `rounds` are the bytes that came in each round trip, `counts` their segments, and `longest` is the longest one."""
 
     def __init__(self, peer):
-        self.peer, self.kept, self.rounds, self.longest = peer, [], [], 0
+        self.peer, self.kept, self.rounds, self.counts, self.longest = peer, [], [], [], 0
 
     def fits(self, segment):
         return ahead(segment.seq, self.peer.rcv) <= 0 < ahead(segment.end(), self.peer.rcv)
@@ -81,6 +81,7 @@ class Receiver:
         peer = self.peer
         found = [one for one in peer.all(ROUND_TRIP / 2) if is_text(one)]
         self.rounds.append(sum(len(text) for text in {one.seq: one.text for one in found}.values()))
+        self.counts.append(len(found))
         for one in found:
             self.longest = max(self.longest, len(one.text))
             self.kept.append(one)
@@ -92,7 +93,8 @@ class Receiver:
         return found
 
 
-@row("MUST-19", "RFC 5681, 3.1", "in slow start as much more is sent as is acknowledged, and no more", lambda: AcknowledgesItself(after=12))
+@row("MUST-19", "RFC 5681, 3.1", "in slow start a segment more is sent for each that is acknowledged, and no more",
+     lambda: AcknowledgesItself(after=12))
 def slow_start(lab):
     peer = sender(lab)
     peer.open(options=mss(1000))
@@ -102,13 +104,15 @@ def slow_start(lab):
         receiver.turn()
     sizes = receiver.rounds
     given(sizes[0] > 0 and sizes[1] > sizes[0], f"in round trips {words(sizes)}: the congestion window isn't what limits the stack")
-    need(doubles_at_most(receiver), f"in round trips {words(sizes)}")
+    need(grows_as_acknowledged(receiver), f"in round trips {words(sizes)}")
     return f"in round trips {words(sizes)}"
 
 
-def doubles_at_most(receiver):
-    """With a segment more, since what lies in which round trip is told by silence alone."""
-    return all(b <= 2 * a + receiver.longest for a, b in zip(receiver.rounds, receiver.rounds[1:]))
+def grows_as_acknowledged(receiver):
+    """By a full segment for each acknowledgement, however little that acknowledges; and by one more, since what lies in which round trip is
+    told by silence alone."""
+    grown = [a + (count + 1) * receiver.longest for a, count in zip(receiver.rounds, receiver.counts)]
+    return all(b <= most for b, most in zip(receiver.rounds[1:], grown))
 
 
 @row("MUST-19", "RFC 5681, 3.1", "behind a loss the window grows as in slow start to a threshold, and by a segment in a round trip then",
@@ -132,7 +136,7 @@ def congestion_avoidance(lab):
         receiver.turn()
     sizes = receiver.rounds
     said = f"{total(before)} bytes are lost; in round trips then {words(sizes)}"
-    need(doubles_at_most(receiver), said)
+    need(grows_as_acknowledged(receiver), said)
     # Four, and two more that silence may have told to be of another round trip.
     need(max(sizes[start:]) <= sizes[start] + 6 * receiver.longest, said)
     return said

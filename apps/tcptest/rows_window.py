@@ -3,7 +3,7 @@
 from broken import Again, Bursts, Fault, GivesUp, Hears, Repeats, Says, copied, drops, has_text, is_alone, is_syn, sets
 from flights import flight, sender, several, told, total
 from lab import NotSeen, by_timeouts, given, is_text, lasts, need
-from rows import SHOULD, row
+from rows import MAY, SHOULD, row
 from segments import ACK, RST, SPACE, ahead, mss, scale
 
 # What is waited for where nobody acknowledges: a probe of a shut window may come as late as a stack's least persist timeout, of 5 s.
@@ -51,7 +51,7 @@ def old_within_again(lab):
 
 
 @row("MAY-7", "RFC 7323, 2.4 (4)", "what was within the window when it was sent is sent again once, also past the edge of a smaller one",
-     lambda: Says(sets(text=lambda old: old[:300]), has_text, after=4), SHOULD)
+     lambda: Says(sets(text=lambda old: old[:300]), has_text, after=4), MAY)
 def again_past_edge(lab):
     peer, before = shrunk(lab, 300)
     found = peer.until(lambda one: is_text(one) and ahead(one.seq, lasts(before)) < 0, by_timeouts(2))
@@ -124,7 +124,7 @@ def new_text_in_window(lab):
 
 @row("", "RFC 7323, 2.4 (3)", "the same where it came in an older segment, whose window RFC 9293, 3.10.7.4, doesn't take",
      lambda: Hears(sets(window=4000), lambda one: one.window in (500, 2000)), mended=lambda: HeardInOrder())
-def new_text_in_late_window(lab):
+def new_text_in_window_late(lab):
     peer = sender(lab)
     field = offered(peer, 8000)
     before = several(peer, 3000, 1)

@@ -18,7 +18,6 @@ from calls import Calls, Gone, dotted, heard, say
 from linux import enter_namespace, ip, open_tun
 from segments import STACK, TESTER
 
-
 SIOCGIFFLAGS, IFF_UP = 0x8913, 1
 
 

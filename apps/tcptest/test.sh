@@ -48,7 +48,7 @@ at_its_own_device() {
     program=$!
     until grep -q ready "$work/ready"; do sleep 0.1; done
     ./tcptest.py --stack tun:tcptest2 --control "$work/lwipv6" \
-        --only "passive_open,active_open,user_told_of_refusal,backs_off,slow_start,transfer_clean"
+        --only "passive_open,active_open,user_told_of_refusal,backs_off,slow_start,out_of_order,fin_taken"
     wait "$program"
 }
 

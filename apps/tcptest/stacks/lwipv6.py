@@ -74,7 +74,7 @@ class Connection:
     """A connection's thread opens it, sends what its user has sent, and lets it go where its user has left."""
 
     def __init__(self, fd, to=None):
-        self.fd, self.is_open, self.fault, self.tasks = fd, to is None, None, queue.Queue()
+        self.fd, self.is_open, self.fault, self.tasks, self.lock = fd, to is None, None, queue.Queue(), threading.Lock()
         threading.Thread(target=self.run, args=(to,), daemon=True).start()
 
     def run(self, to):
@@ -84,16 +84,24 @@ class Connection:
         while (text := self.tasks.get()) is not None:
             sent = 0
             while sent < len(text) and self.fault is None:
-                count = LIBRARY.lwip_send(self.fd, text[sent:], len(text) - sent, 0)
+                with self.lock:
+                    count = LIBRARY.lwip_send(self.fd, text[sent:], len(text) - sent, 0)
                 self.fault = "reset" if count <= 0 else None
                 sent += max(count, 0)
         LIBRARY.lwip_close(self.fd)
 
     def received(self, most):
+        """LWIPv6 has to be asked by one thread at a time about a socket: while it sends nothing is received."""
         if self.fault is not None:
             return f"gone {self.fault}"
-        if not self.is_open or not is_ready(self.fd, select.POLLIN):
+        if not self.is_open or not self.lock.acquire(blocking=False):
             return "nothing"
+        try:
+            return self.taken(most) if is_ready(self.fd, select.POLLIN) else "nothing"
+        finally:
+            self.lock.release()
+
+    def taken(self, most):
         text = ctypes.create_string_buffer(most)
         count = LIBRARY.lwip_recv(self.fd, text, most, 0)
         if count > 0:
