@@ -45,5 +45,5 @@ half=$(resident "$ours" ends 50000 1 $capacity)
 echo "bytes of memory a connection: $((($(resident "$ours" ends 100000 1 $capacity) - half) / 50000))"
 portable=$top/c/portable/out/tcpcore_portable.c
 [ -e "$portable" ] || portable=$top/release/tcpcore.c
-gcc -O2 -I"$top/c/tcpcore" "$top/bench/resident.c" "$portable" -o "$out/resident"
+gcc -O2 -DTCPCORE_PORTABLE -I"$top/c/tcpcore" "$top/bench/resident.c" "$portable" -o "$out/resident"
 echo "bytes of an end's block that are resident: $("$out/resident" 1200)"

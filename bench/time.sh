@@ -32,7 +32,7 @@ core=$top/c/tcpcore
 gcc -O2 -shared -fPIC "$top/bench/windows.c" -o "$out/windows.so" -ldl
 gcc -O3 -march="$processor" "$top/bench/floor.c" -o "$out/floor"
 gcc -O2 -I"$core" "$top/bench/handed.c" "$core/tcpcore.c" "$library" -o "$out/handed"
-gcc -O2 -I"$core" "$top/bench/handed.c" "$portable" -o "$out/portable"
+gcc -O2 -DTCPCORE_PORTABLE -I"$core" "$top/bench/handed.c" "$portable" -o "$out/portable"
 
 # The programs of the bindings, over the C library, in $out/bound.
 build_bound() {

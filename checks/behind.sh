@@ -2,9 +2,10 @@
 # What the gate doesn't look at: the programs' exit statuses and their lines on standard error, what tcpkit does where memory is refused,
 # whether the documents show what is in the repository and their commands can be pasted, scripts and C as linters read them, the
 # programs against second ones, the C library under its tests, against lwIP and against this machine's kernel, the portable file on
-# two other machines, what stands on it for Rust, C++, Go and Python, the programs as one C file each, what release/ gives to who has no
-# kit, here with the kit hidden and in a new Debian, whether they all take as many instructions as before, the tarball, real clients over
-# usernet, captures, what our end and Linux do row by row, the judge of captures, and the replay as a WebAssembly module.
+# two other machines, the machine code that release/ has as text, what stands on it for Rust, C++, Go and Python, the programs as one C
+# file each, what release/ gives to who has no kit, here with the kit hidden and in a new Debian, whether they all take as many
+# instructions as before, the tarball, real clients over usernet, captures, what our end and Linux do row by row, the judge of captures,
+# and the replay as a WebAssembly module.
 # checks/behind.sh FOLDER writes how many of these passed into FOLDER/behind. The libraries and the module are built over what the
 # gate has proved, and after it: two builds at once wait for one another.
 set -euo pipefail
@@ -47,6 +48,7 @@ behind checks/peers/segments.sh "$library"
 behind checks/peers/lwip.sh "$library"
 c/portable/build.sh
 behind c/portable/test.sh --short "$library"
+behind c/machine/test.sh --short
 behind c/bindings/rust/test.sh "$library"
 behind c/bindings/test.sh "$library"
 apps/tcpkit/build.sh

@@ -13,5 +13,6 @@ sum_of() { git ls-files -z -- "$@" | LC_ALL=C sort -z | xargs -0 sha256sum | sha
 
 echo "crates $(sum_of HANDLES crates.txt crates)"
 echo "around $(sum_of c/tcpcore/tcpcore.c c/tcpcore/tcpcore.h c/tcpcore/layout.h 'c/portable/*.py' 'c/portable/*.c' c/portable/build.sh \
+    c/machine/as_text.py c/machine/choice.py c/dist/prebuilt.sh \
     apps/tcpkit/join.py 'apps/tcpkit/*.c' apps/tcpkit/build.sh 'apps/web/*.mjs' 'apps/web/*.css' 'apps/web/*.html' 'apps/web/*.py' apps/web/examples \
     "${tests[@]}")"

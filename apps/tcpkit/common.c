@@ -1,11 +1,6 @@
-/*
- * What the programs share around the module's calls: words, a file's bytes, and the module's memory. That is one piece: its stack and
- * its data, the records of a call, the input, room for what is written, and the block that the call works in. PROGRAM is the
- * program's name.
- */
+/* What the programs share around the module's calls: words, a file's bytes, and what becomes of an answer. PROGRAM is the program's name. */
 enum { STATUS_OF_FAULT = 2, WELL = 0, REFUSED = 1, FAULT = 2 };
 enum { WORDS = 40, BAD_LINE = 41, NO_MEMORY = 42, NO_INPUT = 43, NO_OUTPUT = 44 };
-enum { AT_BLOCK = (HEAP_BASE + 15) / 16 * 16, AT_COUNT = AT_BLOCK + 16, AT_LINE = AT_COUNT + 8, AT_INPUT = AT_LINE + 8 };
 
 /* A text that grows. */
 struct text {
@@ -79,60 +74,47 @@ static int read_all(FILE *file, struct text *text)
     return is_failed ? NO_INPUT : 0;
 }
 
-/* Where what is written begins, behind an input of this length. */
-static u32 place_of_output(size_t length) { return (AT_INPUT + (u32)length) / 16 * 16 + 16; }
-
-/* A call of the module over a memory in which the input and the block are: where it may write, how much, and what it answers. */
-typedef u32 module_call(Machine *machine, u32 length, u32 out, u32 room);
-
-/* Makes the call over a new memory of this size, in which the input has room; the module's answer. */
-static u32 call_in(module_call *call, const struct text *input, u8 *memory, u32 size)
-{
-    static Machine machine;
-    u32 out = place_of_output(input->length), room = (size - out) / 32 * 16;
-    memset(&machine, 0, sizeof machine);
-    machine.w2c_memory.read[0] = machine.w2c_memory.written[0] = (struct window){memory, size};
-    machine.w2c___stack_pointer = STACK;
-    memcpy(memory + AT_DATA, DATA, sizeof DATA);
-    memcpy(memory + AT_INPUT, input->bytes, input->length);
-    put64(memory + AT_BLOCK, out + room);
-    put64(memory + AT_BLOCK + 8, room);
-    return call(&machine, (u32)input->length, out, room);
-}
+/* A call of the module over a memory that is ready; what it answers. */
+typedef u32 module_call(struct work *work);
 
 /* What becomes of an answer: the program's status. */
-typedef int outcome(u32 answer, const u8 *memory, const struct text *input);
+typedef int outcome(u32 answer, const struct work *work);
 
-/* Makes the call, in a memory that grows until it is enough, up to what an address of a window has; the program's status. */
+/* Makes the call, in a memory that grows until it is enough, or until there is no more; the program's status. */
 static int run(module_call *call, const struct text *input, outcome *report)
 {
+    static struct work work;
     int status = -1;
-    for (u32 size = UINT32_C(1) << 26; status < 0 && size > 0; size = size < UINT32_C(1) << 29 ? size * 2 : 0) {
-        u8 *memory = size / 4 > input->length ? calloc(1, size) : NULL;
-        u32 answer = memory ? call_in(call, input, memory, size) : NO_MEMORY;
+    size_t wanted = size_after(0, input->length);
+    while (status < 0 && wanted > 0) {
+        size_t size = wanted;
+        if (!begin(&work, input->bytes, input->length, &size))
+            break;
+        u32 answer = call(&work);
+        look(&work);
         if (answer <= FAULT)
-            status = report(answer, memory, input);
-        free(memory);
+            status = report(answer, &work);
+        end(&work);
+        wanted = size == wanted ? size_after(wanted, input->length) : 0;
     }
     return status < 0 ? fault(NO_MEMORY) : status;
 }
 
 /* Writes what a call has put behind the input, and flushes; 0, or the status of a fault. */
-static int write_reported(const u8 *memory, const struct text *input)
+static int write_reported(const struct work *work)
 {
-    size_t count = (size_t)get64(memory + AT_COUNT);
-    if (count > 0 && fwrite(memory + place_of_output(input->length), 1, count, stdout) < count)
+    if (work->count > 0 && fwrite(work->text, 1, work->count, stdout) < work->count)
         return fault(NO_OUTPUT);
     return fflush(stdout) != 0 ? fault(NO_OUTPUT) : 0;
 }
 
 /* The status of an answer to a list or a log, in which a fault is that of a line. */
-static int report_lines(u32 answer, const u8 *memory, const struct text *input)
+static int report_lines(u32 answer, const struct work *work)
 {
-    int status = write_reported(memory, input);
+    int status = write_reported(work);
     if (status != 0)
         return status;
     if (answer == FAULT)
-        fprintf(stderr, PROGRAM ": %d line %" PRIu64 "\n", BAD_LINE, get64(memory + AT_LINE));
+        fprintf(stderr, PROGRAM ": %d line %" PRIu64 "\n", BAD_LINE, (uint64_t)work->line);
     return answer == FAULT ? STATUS_OF_FAULT : (int)answer;
 }

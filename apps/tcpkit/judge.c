@@ -32,18 +32,17 @@ static const char *path_in(int count, char **words, int *help)
     return path;
 }
 
-static u32 judge(Machine *machine, u32 length, u32 out, u32 room)
+static u32 judge(struct work *work)
 {
-    return w2c_tcp_web_judge(machine, AT_BLOCK, AT_INPUT, length, (u32)is_complete, FIRST_OF_RULE, out, room, AT_COUNT, AT_LINE);
+    return MODULE(judge)(BLOCK(work), INPUT(work), (u32)is_complete, FIRST_OF_RULE, OUTPUT(work), COUNT(work), LINE(work));
 }
 
 /* The status of a judged log. One with no finding that isn't clean has no segment that the end sent. */
-static int report_verdict(u32 answer, const u8 *memory, const struct text *input)
+static int report_verdict(u32 answer, const struct work *work)
 {
-    int status = report_lines(answer, memory, input);
-    size_t length = (size_t)get64(memory + AT_COUNT), last = sizeof NO_FINDING - 1;
-    const u8 *end = memory + place_of_output(input->length) + length;
-    if (status != REFUSED || length < last || memcmp(end - last, NO_FINDING, last) != 0)
+    int status = report_lines(answer, work);
+    size_t last = sizeof NO_FINDING - 1;
+    if (status != REFUSED || work->count < last || memcmp(work->text + work->count - last, NO_FINDING, last) != 0)
         return status;
     fprintf(stderr, PROGRAM ": %d no segment that the end sent\n", NOTHING_SENT);
     return STATUS_OF_FAULT;

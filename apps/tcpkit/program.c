@@ -14,24 +14,18 @@ static const char *path_in(int count, char **words)
     return is_plain(words[2]) && strcmp(words[3], "--") == 0 ? words[2] : NULL;
 }
 
-static u32 decode(Machine *machine, u32 length, u32 out, u32 room)
-{
-    return w2c_tcp_web_list(machine, AT_BLOCK, AT_INPUT, length, out, room, AT_COUNT, AT_LINE);
-}
+static u32 decode(struct work *work) { return MODULE(list)(BLOCK(work), INPUT(work), OUTPUT(work), COUNT(work), LINE(work)); }
 
-static u32 replay(Machine *machine, u32 length, u32 out, u32 room)
-{
-    return w2c_tcp_web_replay(machine, AT_BLOCK, AT_INPUT, length, out, room, AT_COUNT);
-}
+static u32 replay(struct work *work) { return MODULE(replay)(BLOCK(work), INPUT(work), OUTPUT(work), COUNT(work)); }
 
 /* The status of a replay, whose fault is a line of its own for standard error. */
-static int report_replay(u32 answer, const u8 *memory, const struct text *input)
+static int report_replay(u32 answer, const struct work *work)
 {
     if (answer != FAULT) {
-        int status = write_reported(memory, input);
+        int status = write_reported(work);
         return status != 0 ? status : (int)answer;
     }
-    fwrite(memory + place_of_output(input->length), 1, (size_t)get64(memory + AT_COUNT), stderr);
+    fwrite(work->text, 1, work->count, stderr);
     return STATUS_OF_FAULT;
 }
 

@@ -1,13 +1,20 @@
 #!/usr/bin/env bash
-# The programs as one C file each (out/tcpkit.c and out/tcpjudge.c, which build.sh makes), by gcc and clang, under sanitizers, and on a
-# machine of 32 bits and on one of the other order of bytes under qemu: they write and answer on stored cases what is stored, and on
-# random scripts, lists and logs what the second programs of checks/differential do. It installs what this machine lacks by apt-get;
-# where that fails it fails, or, with LEAVE_OUT=1 in the environment, says what it leaves out. Stops at the first failure.
+# The programs as one C file each (out/tcpkit.c and out/tcpjudge.c, which build.sh makes): their machine code is that of LIBRARIES (the
+# argument, a folder of MACHINE/libtcp_web.a, or c/dist's) to the byte; with it, by gcc and clang, and on aarch64 under qemu, and in C, by
+# gcc, under sanitizers, and on a machine of 32 bits and on one of the other order of bytes under qemu, they write and answer on stored
+# cases what is stored, and on random scripts, lists and logs what the second programs of checks/differential do. It installs what this
+# machine lacks by apt-get; where that fails it fails, or, with LEAVE_OUT=1 in the environment, says what it leaves out. Stops at the
+# first failure.
 set -euo pipefail
 cd "$(dirname "$0")"
 test=tcpkit
 . ../../checks/lib.sh
+. ../../c/machine/common.sh
+top=$(cd ../.. && pwd)
+libraries=$(realpath -m "${1:-$top/c/dist/out/prebuilt}")
 passed=0
+pass() { passed=$((passed + 1)); }
+fail() { echo "tcpkit: FAILED: $*"; exit 1; }
 for program in tcpkit tcpjudge; do
     [[ -e out/$program.c ]] || { echo "tcpkit: no out/$program.c: run apps/tcpkit/build.sh"; exit 1; }
 done
@@ -19,11 +26,29 @@ stored() {
     passed=$((passed + 2))
 }
 
+# Whether a program has the machine code in it, and nothing of the translated C, or the other way round.
+is_machine_code() {
+    nm "$1" >out/names
+    if grep -q ' tcp_web_' out/names; then [[ $2 == yes ]]; else [[ $2 == no ]] && grep -q w2c_ out/names; fi || fail "$1: machine code is wanted: $2"
+    pass
+}
+
+# With little memory a program does what fits into it; where that isn't enough it says so, and has written nothing.
+little_memory() {
+    local status=0
+    (ulimit -v 20000 && out/tested.tcpkit replay "$top/crates/tcpkit/data/first-run.script") >out/found
+    cmp out/found "$top/crates/tcpkit/stdout" || fail "the first run with 20 MB"
+    awk 'BEGIN { print "listen B"; print "connect A"; for (i = 0; i < 400000; i++) print "emit A" }' >out/many.script
+    (ulimit -v 20000 && out/tested.tcpkit replay out/many.script) >out/found 2>out/told || status=$?
+    [[ $status == 2 && $(<out/told) == "tcpkit: 42" && ! -s out/found ]] || fail "400,000 events with 20 MB: $status, $(<out/told)"
+    pass
+}
+
 # The programs that a compiler makes with its words.
 cases() {
     local program
     for program in tcpkit tcpjudge; do
-        "$@" -std=c99 -Wall -Wextra -Wpedantic -Wno-unused-parameter -Wno-unused-function -Werror "out/$program.c" -o "out/tested.$program"
+        "$@" -std=c99 -Wall -Wextra -Wpedantic -Werror "out/$program.c" -o "out/tested.$program"
     done
     stored
 }
@@ -40,12 +65,29 @@ emulated() {
     stored
 }
 
+same_code out/tcpkit.c "$libraries" libtcp_web.a tcp_web_list tcp_web_replay
+same_code out/tcpjudge.c "$libraries" libtcp_web.a tcp_web_judge
 cases gcc -O2
+is_machine_code out/tested.tcpkit yes
+is_machine_code out/tested.tcpjudge yes
+little_memory
 TCPKIT=$PWD/out/tested.tcpkit python3 ../../checks/differential/replay.py 60
 TCPKIT=$PWD/out/tested.tcpkit python3 ../../checks/differential/decode.py 20
 passed=$((passed + 2))
+cases gcc -O2 -march=x86-64-v2
 cases gcc -g -O1 -fsanitize=address,undefined -fno-sanitize-recover=all
-if has clang clang --version; then cases clang -O1; fi
+if has clang clang --version; then
+    cases clang -O1
+    cases clang -O2 -flto
+fi
+if has_aarch64; then emulated qemu-aarch64-static aarch64-linux-gnu-gcc; fi
+cases gcc -O2 -DTCPCORE_PORTABLE
+is_machine_code out/tested.tcpkit no
+is_machine_code out/tested.tcpjudge no
+TCPKIT=$PWD/out/tested.tcpkit python3 ../../checks/differential/replay.py 30
+TCPKIT=$PWD/out/tested.tcpkit python3 ../../checks/differential/decode.py 10
+passed=$((passed + 2))
+cases gcc -g -O1 -DTCPCORE_PORTABLE -fsanitize=address,undefined -fno-sanitize-recover=all
 if has qemu-user-static qemu-s390x-static --version && has gcc-s390x-linux-gnu s390x-linux-gnu-gcc --version &&
     has libc6-dev-s390x-cross test -e /usr/s390x-linux-gnu/include/stdio.h; then
     emulated qemu-s390x-static s390x-linux-gnu-gcc

@@ -1,8 +1,8 @@
 #!/usr/bin/env bash
-# C++'s header over the portable file, which c/portable/build.sh makes; Go's package over that of release/ and over the native library
-# (the first argument, or crates/tcp_c's own); and Python's package as it is installed, over both: one test each. It installs g++,
-# golang-go and Python's own by apt-get where this machine lacks them; where that fails it fails, or, with LEAVE_OUT=1 in the
-# environment, says what it leaves out.
+# C++'s header over the portable file, which c/portable/build.sh makes; Go's package over release/tcpcore.c and over the native library
+# (the first argument, or crates/tcp_c's own); and Python's package as it is installed, over release/tcpcore.c, which has machine code on
+# this machine, the same in C, and the native library: one test each. It installs g++, golang-go and Python's own by apt-get where this
+# machine lacks them; where that fails it fails, or, with LEAVE_OUT=1 in the environment, says what it leaves out.
 set -euo pipefail
 cd "$(dirname "$0")"
 # shellcheck disable=SC2034
@@ -42,15 +42,17 @@ if has golang-go go version; then
     is_native out/go_test
     passed=$((passed + 2))
 fi
-# Python's package, installed in a folder of its own, with the library that TCPCORE_PREBUILT asks for.
+# Python's package, installed in a folder of its own, with the library that TCPCORE_PREBUILT and CFLAGS ask for; what it says that is.
 python_over() {
-    local site=$PWD/out/site.$1
+    local site=$PWD/out/site.$1 said
     rm -rf "$site" python/build
     TCPCORE_PREBUILT=$2 /usr/bin/python3 -m pip install --quiet --no-index --no-deps --no-build-isolation --root-user-action=ignore \
         --target "$site" ./python
     mkdir -p out/alone/tests out/alone/examples
     cp ../tcpcore/tests/calls.py out/alone/tests
     PYTHONPATH=$site timeout 300 /usr/bin/python3 out/alone/tests/calls.py
+    said=$(cd / && PYTHONPATH=$site /usr/bin/python3 -c 'import tcpcore; print(tcpcore.build())')
+    [[ $said == "$3" ]] || { echo "bindings: Python's package over $1 says '$said'"; exit 1; }
     # The examples by themselves, as a user has them who has installed the package: they find it, and print what they print in the
     # repository.
     local example
@@ -63,8 +65,12 @@ python_over() {
 }
 if has python3-pip /usr/bin/python3 -m pip --version && has python3-setuptools /usr/bin/python3 -c 'import setuptools' &&
     has python3-wheel /usr/bin/python3 -c 'import wheel'; then
-    python_over portable ""
-    python_over prebuilt "$PWD/out/tarball"
+    native=$(uname -m | sed 's/^x86_64$/x86-64/')
+    python_over file "" "$native machine code"
+    is_native out/site.file/tcpcore/libtcpcore.so
+    CFLAGS=-DTCPCORE_PORTABLE python_over portable "" "portable C"
+    nm out/site.portable/tcpcore/libtcpcore.so | grep w2c_ >out/names
+    python_over prebuilt "$PWD/out/tarball" "$native machine code"
     is_native out/site.prebuilt/tcpcore/libtcpcore.so
 fi
 echo "bindings: $passed passed, $left_out left out"

@@ -131,14 +131,15 @@ cd "$place"
 bare sha256sum --check --quiet SHA256SUMS
 if $hide env -i PATH=/usr/bin:/bin sh -c "command -v rt || ls $kit/* $top/*" >/dev/null 2>&1; then fail "the kit or the repository can be read"; fi
 installed
+installed CPPFLAGS=-DTCPCORE_PORTABLE OUT=out/c
 bare make -C "$place" check-tcpkit
 prebuilt
 manual
 package
 cd "$there"
 if has cargo /usr/bin/cargo --version; then
-    # Over the machine code around it, and over the portable file.
-    for words in "" TCPCORE_PREBUILT=; do
+    # Over the machine code around it, that of the C file, and its C.
+    for words in "" TCPCORE_PREBUILT= "TCPCORE_PREBUILT= CFLAGS=-DTCPCORE_PORTABLE"; do
         bare sh -c "cd $place/rust && $words cargo test --offline"
         (($(awk '/^test result: ok/ { sum += $4 } END { print sum + 0 }' told) >= 14))
     done
@@ -147,16 +148,17 @@ if has python3-pip /usr/bin/python3 -m pip --version && has python3-setuptools /
     has python3-wheel /usr/bin/python3 -c 'import wheel'; then
     mkdir alone
     cp "$place/tests/calls.py" alone
-    # A wheel, installed elsewhere; over each of the two.
-    for words in "" TCPCORE_PREBUILT=; do
+    # A wheel, installed elsewhere; over the machine code of prebuilt/, that of the C file, and its C.
+    for words in "" TCPCORE_PREBUILT= "TCPCORE_PREBUILT= CFLAGS=-DTCPCORE_PORTABLE"; do
         rm -rf site "$place/python/build" tcpcore-"$version"-*.whl
         bare sh -c "cd $place/python && $words python3 -m pip wheel --no-index --no-deps --no-build-isolation -w $there ."
         bare python3 -m pip install --no-index --no-deps --target "$there/site" "$(echo tcpcore-"$version"-*.whl)"
         bare env PYTHONPATH="$there/site" python3 alone/calls.py
         grep -q '^calls.py: [1-9][0-9]* checks' told
-        # The portable file's functions have names of their own.
-        if nm site/tcpcore/libtcpcore.so | grep -q w2c_; then is_portable=yes; else is_portable=; fi
-        [[ ${words:+yes} == "$is_portable" ]] || fail "the wheel isn't over what was asked for"
+        # The functions in C have names of their own.
+        if nm site/tcpcore/libtcpcore.so | grep -q w2c_; then found="portable C"; else found="$(uname -m | sed 's/^x86_64$/x86-64/') machine code"; fi
+        bare env PYTHONPATH="$there/site" python3 -c 'import tcpcore; print(tcpcore.build())'
+        [[ $words != *PORTABLE || $found == "portable C" ]] && [[ $(<told) == "$found" ]] || fail "the wheel isn't over what was asked for"
         pass
     done
 fi

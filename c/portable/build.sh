@@ -4,6 +4,8 @@
 # because the gate takes no other crates in the tree. wasm-opt (binaryen) makes the addresses 32 bits wide, wasm2c (wabt) writes C, and
 # join.py puts that together with the layer of c/tcpcore. It installs both by apt-get where this machine lacks them.
 # With --module FILE it begins with that module: crates/tcp_c as 'rt lib' has built it before.
+# And it builds out/tcpcore.c, the same with the machine code of LIBRARIES/MACHINE/libtcp_c.a in it, as text, LIBRARIES being the last
+# argument, or the folder in which c/dist/prebuilt.sh leaves them: where that is missing, the first file alone.
 set -euo pipefail
 cd "$(dirname "$0")"
 # shellcheck disable=SC2034
@@ -20,6 +22,7 @@ LIST
 mkdir -p out
 if [[ ${1-} == --module ]]; then
     module=$(realpath "$2")
+    shift 2
 else
     # tcp_c, and the crates below it.
     lines='^(region_heap|tcp_numbers|tcp_wire|tcp_sendq|tcp_reasm|tcp_halves|tcp_conn|tcp_c)( staticlib)?:'
@@ -32,7 +35,14 @@ else
     grep -E "$lines" "$top/crates.txt" | sed 's/^tcp_c staticlib:/tcp_c wasm64:/' >"$build/crates.txt"
     (cd "$build/crates/tcp_c" && rt lib)
 fi
+libraries=$(realpath -m "${1:-../dist/out/prebuilt}")
 cd out
 wasm-opt --enable-memory64 --enable-bulk-memory --enable-mutable-globals -g --memory64-lowering "$module" -o tcp_c.wasm
 wasm2c tcp_c.wasm -n tcp_c -o tcp_c.c
-python3 ../join.py tcp_c.c tcpcore_portable.c
+rm -f tcpcore.c
+if [[ -e $libraries/x86-64/libtcp_c.a ]]; then
+    python3 ../join.py tcp_c.c tcpcore_portable.c "$libraries" tcpcore.c
+else
+    python3 ../join.py tcp_c.c tcpcore_portable.c
+    echo "portable: no out/tcpcore.c, since no machine code is in $libraries: run c/dist/prebuilt.sh"
+fi

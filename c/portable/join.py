@@ -1,9 +1,10 @@
-"""Puts the portable file together: python3 join.py MODULE.c OUT.
+"""Puts the portable file together: python3 join.py MODULE.c OUT [LIBRARIES OUT]
 
 MODULE.c is what wasm2c makes of crates/tcp_c, with 32-bit addresses. OUT has the text of c/tcpcore/tcpcore.c and layout.h, the
 memory of memory.c, wasm2c's functions and calls.c. Of wasm2c's file nothing but its functions is kept: what else it is taken to
 have is looked at, and anything unforeseen stops this script. No line of a function is changed but the words of RENAMED, and what
-quicker.py has made quicker.
+quicker.py has made quicker. The second OUT is the same with the machine code of LIBRARIES/MACHINE/libtcp_c.a in it, which is taken where
+it fits (c/machine/choice.py).
 """
 
 import collections
@@ -14,6 +15,10 @@ import sys
 import quicker
 
 HERE = pathlib.Path(__file__).resolve().parent
+sys.path.insert(0, str(HERE.parent / "machine"))
+
+import choice  # noqa: E402
+
 LAYER = HERE.parent / "tcpcore"
 # Z_NAME_instance_t, of the module's name, is renamed, too.
 RENAMED = [("  FUNC_PROLOGUE;\n", ""), ("  FUNC_EPILOGUE;\n", "")]
@@ -35,14 +40,45 @@ KNOWN = set(re.findall(r"\b(?:LOAD|STORE)\((\w+),", (HERE / "memory.c").read_tex
     "memory_copy", "memory_fill", "REM_U", "DIV_U", "I32_ROTR", "UNREACHABLE", "if", "u8", "u16", "u32", "u64", "s32", "s64"}
 HEAD = """\
 /*
- * tcpcore_portable.c: tcpcore.h for any machine with a C99 compiler that has uint8_t, uint16_t, uint32_t, uint64_t and uintptr_t.
- * One file: the layer of the C library, and behind it the proved crates as wasm2c has translated them from WebAssembly. Made by
+ * NAME: tcpcore.h for any machine with a C99 compiler that has uint8_t, uint16_t, uint32_t, uint64_t and uintptr_t.
+ * One file: the layer of the C library, and behind it the proved crates WHAT. Made by
  * c/portable/build.sh: change nothing here. Nothing in it is global and variable; it asks the linker for memcpy, memmove and
  * memset. docs/TRUST.md tells what is proved of it, and what isn't.
  *
  * -DTCPCORE_UNCHECKED leaves out the test of each access. -DTCPCORE_STOP()=.. names what a test that fails calls before it stays in
  * a loop for ever: a trap, a reset. No test is known to fail.
  */
+"""
+
+# Around what was translated: not each function of it is called in each file, and not each needs the instance that all are given.
+QUIET = """\
+#ifdef __GNUC__
+#pragma GCC diagnostic push
+#pragma GCC diagnostic ignored "-Wunused-function"
+#pragma GCC diagnostic ignored "-Wunused-parameter"
+#endif
+
+"""
+LOUD = """\
+
+#ifdef __GNUC__
+#pragma GCC diagnostic pop
+#endif
+
+"""
+
+# What the layer calls, and what it says of it.
+IN_C = """\
+#define MODULE static
+#ifdef TCPCORE_UNCHECKED
+#define TCPCORE_BUILD "portable C, unchecked"
+#else
+#define TCPCORE_BUILD "portable C"
+#endif
+"""
+OF_MACHINE = """\
+#define MODULE extern __attribute__((visibility("hidden")))
+#define TCPCORE_BUILD MACHINE_CODE
 """
 
 
@@ -60,9 +96,10 @@ def layer():
     holds = "/* Where the fields lie, on this machine too. */\n#define HOLDS(condition) extern const char tcpcore_holds[(condition) ? 1 : -1]\n"
     text = native.sub("", text).replace(INCLUDES, INCLUDES_HERE + "\n" + holds + fields)
     text = re.sub(r'_Static_assert\((.*), (?:#field )?".*"\)(;?)$', r"HOLDS(\1)\2", text, flags=re.M)
-    text, calls = re.subn(r"^((?:uint32_t|size_t) tcp_c_\w+\()", r"static \1", text, flags=re.M)
-    # All calls of the header but strerror, version and new_at are the library's.
-    wanted = len(set(re.findall(r"^[a-z].* \**(tcpcore_\w+)\(", (LAYER / "tcpcore.h").read_text(), re.M))) - 3
+    text, calls = re.subn(r"^((?:uint32_t|size_t) tcp_c_\w+\()", r"MODULE \1", text, flags=re.M)
+    # All calls of the header but these are the library's.
+    of_layer = {"tcpcore_strerror", "tcpcore_version", "tcpcore_build", "tcpcore_new_at"}
+    wanted = len(set(re.findall(r"^[a-z].* \**(tcpcore_\w+)\(", (LAYER / "tcpcore.h").read_text(), re.M)) - of_layer)
     if "_Static_assert" in text or calls != wanted:
         stop(f"the layer has {calls} calls of the library, or an assertion of another form")
     return text
@@ -142,6 +179,21 @@ def stack_of(body):
     return 16 + max(depth(name) for name in frames)
 
 
+def head_of(name, what):
+    return HEAD.replace("NAME", name).replace("WHAT", what)
+
+
+def with_machine_code(libraries, out, in_c):
+    """Writes the file that has both."""
+    roots = sorted(set(re.findall(r"^MODULE \w+ (tcp_c_\w+)\(", layer(), re.M)))
+    head = head_of("tcpcore.c", "as machine code,\n * and as wasm2c has translated them from WebAssembly")
+    either = f"#ifdef MACHINE_CODE\n{OF_MACHINE}#else\n{IN_C}#endif\n\n"
+    code = f"#ifdef MACHINE_CODE\n\n{choice.code(libraries, 'libtcp_c.a', roots)}#else\n\n"
+    text = "".join([head, choice.CHOICE, either, layer(), code, in_c, "\n#endif\n"])
+    out.write_text(text)
+    print(f"{out}: {len(text.splitlines())} lines, {len(roots)} functions of the machine code")
+
+
 def main():
     text = pathlib.Path(sys.argv[1]).read_text()
     declared, body = functions(text, "tcp_c")
@@ -155,11 +207,13 @@ def main():
     table = f"/* The module's constants, and where they lie. */\nenum {{ TABLE_AT = {at} }};\n#define TABLE_SIZE {size}\n"
     table += f"static const unsigned char TABLE[] = {{\n{constants}\n}};\n\n" if size > 0 else "\n"
     module = "/* THE MODULE: crates/tcp_c and those below it, function by function, as wasm2c has written them. */\n"
-    parts = [HEAD, layer(), table, (HERE / "memory.c").read_text(), own, module, declared, body, (HERE / "calls.c").read_text()]
-    text = "".join(parts)
+    parts = [QUIET, table, (HERE / "memory.c").read_text(), own, module, declared, body, LOUD, (HERE / "calls.c").read_text()]
+    text = "".join([head_of("tcpcore_portable.c", "as wasm2c has translated them from WebAssembly"), IN_C, layer(), *parts])
     pathlib.Path(sys.argv[2]).write_text(text)
     print(f"{sys.argv[2]}: {len(text.splitlines())} lines, {declared.count(';')} functions, {stack} bytes of the module's stack,"
           f" {loops} loops that copy, {summed} that sum and {pieces} pieces made quicker")
+    if len(sys.argv) > 3:
+        with_machine_code(sys.argv[3], pathlib.Path(sys.argv[4]), "".join(parts))
 
 
 if __name__ == "__main__":

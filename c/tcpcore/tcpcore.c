@@ -193,9 +193,20 @@ STEP struct block units_of(void *bytes, size_t length)
     return (struct block){(uint8_t *)bytes + before, (length - before) / UNIT * UNIT};
 }
 
+/* No end has the address 0.0.0.0 or the port 0. The proved core takes them like any others: here they say that nobody filled them in. */
+static uint32_t refusal_of(const tcpcore_config *config)
+{
+    const uint8_t *byte = config->addr.byte;
+    if ((byte[0] | byte[1] | byte[2] | byte[3]) == 0)
+        return TCPCORE_BAD_ADDR;
+    return config->port == 0 ? TCPCORE_BAD_PORT : TCPCORE_DONE;
+}
+
 uint32_t tcpcore_new(tcpcore_end *end, const tcpcore_config *config, void *block, size_t length)
 {
     uint32_t answer = config ? refusal_with(end, block, length, (struct place){NOWHERE, 0}) : TCPCORE_NULL;
+    if (answer == TCPCORE_DONE && end->opaque[OWNER] == 0)
+        answer = refusal_of(config);
     if (answer != TCPCORE_DONE)
         return answer;
     /* The caller's may lie in the block. */
@@ -671,6 +682,8 @@ static const char *const TEXTS[] = {
     [TCPCORE_BAD_MSS] = "the maximum segment size isn't from 64 to 1,460 bytes",
     [TCPCORE_BAD_SHIFT] = "the window shift is above 14",
     [TCPCORE_BAD_LIMIT] = "the limit isn't from 1 to 2^62 bytes",
+    [TCPCORE_BAD_ADDR] = "the address is 0.0.0.0",
+    [TCPCORE_BAD_PORT] = "the port is 0",
     [TCPCORE_NO_END] = "no end is in the struct",
     [TCPCORE_IN_USE] = "the struct holds an end already",
     [TCPCORE_ROOM] = "too little room for a segment",
@@ -696,3 +709,10 @@ const char *tcpcore_strerror(uint32_t answer)
 }
 
 uint32_t tcpcore_version(void) { return TCPCORE_VERSION; }
+
+/* Of the library that this is linked with no more is known than that it is machine code: who compiles this over one by name says more. */
+#ifndef TCPCORE_BUILD
+#define TCPCORE_BUILD "machine code"
+#endif
+
+const char *tcpcore_build(void) { return TCPCORE_BUILD; }

@@ -15,7 +15,7 @@ import ipaddress
 import os
 from typing import Any, Callable, NamedTuple, NoReturn, Optional, Union
 
-VERSION = 9
+VERSION = 10
 EMIT_ROOM = 1520
 TRAIN_ROOM = 65_515
 RESET_ROOM = 20
@@ -32,7 +32,7 @@ class Answer(enum.IntEnum):
 
     DONE, TOO_SHORT, TOO_LONG, BAD_CHECKSUM, BAD_OFFSET, BAD_OPTION, BAD_PADDING = range(7)
     NOT_OPEN, ALREADY_OPEN, CLOSING, ENDED, STREAM_FULL, NOT_CONNECTED = range(11, 17)
-    BAD_CAPACITY, NO_MEMORY, BAD_MSS, BAD_SHIFT, BAD_LIMIT = range(21, 26)
+    BAD_CAPACITY, NO_MEMORY, BAD_MSS, BAD_SHIFT, BAD_LIMIT, BAD_ADDR, BAD_PORT = range(21, 28)
     NO_END, IN_USE, ROOM, NO_TIMER, NULL, LENGTH, COPIED, OVERLAP, NO_TIME_WAIT = range(31, 40)
     NOTHING, END_OF_STREAM, NOT_DUE, NO_RULE, DROPPED, NOT_MINE, NOT_TIME_WAIT = range(51, 58)
 
@@ -49,9 +49,9 @@ class Answer(enum.IntEnum):
 
 DONE, TOO_SHORT, TOO_LONG, BAD_CHECKSUM, BAD_OFFSET, BAD_OPTION, BAD_PADDING = list(Answer)[:7]
 NOT_OPEN, ALREADY_OPEN, CLOSING, ENDED, STREAM_FULL, NOT_CONNECTED = list(Answer)[7:13]
-BAD_CAPACITY, NO_MEMORY, BAD_MSS, BAD_SHIFT, BAD_LIMIT = list(Answer)[13:18]
-NO_END, IN_USE, ROOM, NO_TIMER, NULL, LENGTH, COPIED, OVERLAP, NO_TIME_WAIT = list(Answer)[18:27]
-NOTHING, END_OF_STREAM, NOT_DUE, NO_RULE, DROPPED, NOT_MINE, NOT_TIME_WAIT = list(Answer)[27:]
+BAD_CAPACITY, NO_MEMORY, BAD_MSS, BAD_SHIFT, BAD_LIMIT, BAD_ADDR, BAD_PORT = list(Answer)[13:20]
+NO_END, IN_USE, ROOM, NO_TIMER, NULL, LENGTH, COPIED, OVERLAP, NO_TIME_WAIT = list(Answer)[20:29]
+NOTHING, END_OF_STREAM, NOT_DUE, NO_RULE, DROPPED, NOT_MINE, NOT_TIME_WAIT = list(Answer)[29:]
 
 
 class Phase(str, enum.Enum):
@@ -166,7 +166,8 @@ class ArriveReport(NamedTuple):
 
 
 class Transmit(NamedTuple):
-    """What `transmit` and `next` report of a segment: struct tcpcore_transmit has each field's meaning."""
+    """What `transmit` and `next` report of a segment: struct tcpcore_transmit has each field's meaning. Its `count` is `text_count` here, since
+    a tuple has a method of that name."""
 
     to: bytes
     kind: Kind
@@ -193,14 +194,14 @@ class Lent(NamedTuple):
 
 class Config(NamedTuple):
     """What an end is made from: address, port and `isn`, the initial sequence number, which is chosen as RFC 9293, 3.4.1 says and has no
-    default; by name all else may be left out. `window_shift` is None where windows aren't scaled: `least_shift` has the one to take for
+    default; all else may be left out, and is best given by name. `window_shift` is None where windows aren't scaled: `least_shift` has the one to take for
     a receive capacity above 65,535, since with a greater one the window is 0 while fewer than 2^shift bytes are free. `limit` is the most
     bytes that it sends."""
 
     addr: Address
     port: int
+    isn: int
     mss: int = 1460
-    isn: Optional[int] = None
     send_capacity: int = 65_535
     recv_capacity: int = 65_535
     window_shift: Optional[int] = None
@@ -386,8 +387,9 @@ CALLS = {
     "time_wait_status": [RECORD, WORD, WORD],
     "strerror": [ctypes.c_uint32],
     "version": [],
+    "build": [],
 }
-RESULTS = {"room": SIZE, "strerror": ctypes.c_char_p}
+RESULTS = {"room": SIZE, "strerror": ctypes.c_char_p, "build": ctypes.c_char_p}
 
 
 def arrive_report_of(told: ArriveReportStruct) -> ArriveReport:
@@ -438,15 +440,17 @@ def octets(data: Buffer) -> bytes:
 
 def load(path: str) -> dict[str, Callable[..., Any]]:
     """The library's calls by their names, without the prefix."""
+    if os.sep in path and not os.path.exists(path):
+        raise ImportError(f"there is no library {path}: `pip install` of c/bindings/python builds one into the package, and LIBTCPCORE names one")
     library = ctypes.CDLL(path)
+    # Later versions add to it.
+    if library.tcpcore_version() < VERSION:
+        raise ImportError(f"{path} has version {library.tcpcore_version()}, and tcpcore.py is for version {VERSION}")
     calls = {}
     for name, types in CALLS.items():
         call = getattr(library, f"tcpcore_{name}")
         call.argtypes, call.restype = types, RESULTS.get(name, ctypes.c_uint32)
         calls[name] = call
-    # Later versions add to it.
-    if calls["version"]() < VERSION:
-        raise ImportError(f"{path} has version {calls['version']()}, and tcpcore.py is for version {VERSION}")
     return calls
 
 
@@ -468,6 +472,11 @@ def strerror(answer: int) -> str:
 def version() -> int:
     """The library's version."""
     return int(library()["version"]())
+
+
+def build() -> str:
+    """What code the library is, such as "x86-64-v2 machine code" or "portable C"."""
+    return bytes(library()["build"]()).decode()
 
 
 def stray_reset(src: Address, dst: Address, data: Buffer) -> Optional[bytes]:
@@ -539,8 +548,6 @@ class End:
 
     def __init__(self, config: Config, room: int = 1 << 16) -> None:
         shift = config.window_shift
-        if config.isn is None:
-            raise ValueError("no initial sequence number is chosen (RFC 9293, 3.4.1)")
         if room < 1:
             raise ValueError(f"the room is {room}, and receive would have no byte to hand over")
         told = ConfigStruct(

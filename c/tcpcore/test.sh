@@ -18,8 +18,8 @@ fi
 library=${1:-../../crates/tcp_c/out/libtcp_c.a}
 warnings="-std=c11 -g -Wall -Wextra -Wpedantic -Wcast-qual -Wconversion -Wshadow -Wstrict-prototypes -Werror"
 sanitizers="-O1 -fsanitize=address,undefined -fno-sanitize-recover=all"
-# The header's calls that are the library's; three are the layer's alone.
-calls=$(grep -o '^[a-z].* \**tcpcore_[a-z_]*(' tcpcore.h | sed -n 's/.*tcpcore_\([a-z_]*\)($/\1/p' | grep -vxE 'strerror|version|new_at' | sort)
+# The header's calls that are the library's; four are the layer's alone.
+calls=$(grep -o '^[a-z].* \**tcpcore_[a-z_]*(' tcpcore.h | sed -n 's/.*tcpcore_\([a-z_]*\)($/\1/p' | grep -vxE 'strerror|version|build|new_at' | sort)
 tests="examples/two_ends examples/hello tests/misuse tests/misuse_time_wait tests/room tests/fields tests/answers tests/cautions tests/time_wait tests/old_names tests/reports tests/misuse_lending tests/lending tests/train tests/pacing tests/placed tests/defaults"
 passed=0
 
@@ -93,7 +93,7 @@ check_with() {
     # The shared library: the header's calls and no other name.
     "$compiler" $warnings -O2 -shared -fPIC tcpcore.c "$library" -Wl,--exclude-libs,ALL -Wl,-z,defs \
         -o "$shared"
-    same "exported names" "$(exports -D "$shared")" "$(printf 'tcpcore_%s\n' $calls strerror version new_at | sort)"
+    same "exported names" "$(exports -D "$shared")" "$(printf 'tcpcore_%s\n' $calls strerror version build new_at | sort)"
     for source in examples/two_ends examples/hello examples/lossy_link tests/fields tests/answers tests/lifetime tests/calls; do
         prints "${source#*/}" env LIBTCPCORE="$shared" PYTHONPATH="$PWD" python3 "$source.py"
     done

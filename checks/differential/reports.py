@@ -186,7 +186,7 @@ def one(seed, seen):
     end = Reporting(config)
     library = tcpcore.End(
         tcpcore.Config(
-            config["addr"], config["port"], config["mss"], config["isn"], config["send"], config["recv"], config["shift"], config["sack"]
+            config["addr"], config["port"], config["isn"], config["mss"], config["send"], config["recv"], config["shift"], config["sack"]
         )
     )
     first = first_call(rng, end)

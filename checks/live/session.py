@@ -33,7 +33,7 @@ class Session:
 
     def __init__(self, lab, ours=None, theirs=None, capacity=65536, shift=None, sack=True, mss=1460, wire=None, route=()):
         self.lab, self.lossy = lab, bool(wire)
-        self.config = Config(OURS, lab.port, mss, -5000 % (1 << 32), capacity, capacity, shift, sack)
+        self.config = Config(OURS, lab.port, -5000 % (1 << 32), mss, capacity, capacity, shift, sack)
         self.port, self.kernel_port = lab.port, lab.port + 1
         lab.port += 2
         self.relay = Relay(lab.port, **(wire or {}))

@@ -45,6 +45,11 @@ cc -std=c99 -Irelease c/tcpcore/examples/hello.c release/tcpcore.c -o hello
 cat found
 cmp found c/tcpcore/tests/expected/hello
 END
+there "what that C program has taken" 'machine code$' <<'END'
+printf '#include "tcpcore.h"\n#include <stdio.h>\nint main(void) { return puts(tcpcore_build()) < 0; }\n' >build.c
+cc -Irelease build.c release/tcpcore.c -o build
+./build
+END
 there "the tests of the Rust crate" '^test result: ok. [1-9]' <<'END'
 cd c/bindings/rust
 cargo test --offline

@@ -1,11 +1,12 @@
 #!/usr/bin/env bash
 # What release/ gives to who has no kit: checks/release/test.sh [LIBRARY], LIBRARY being the native library, for random calls.
 # - MADE names the version of CHANGELOG.md. Where crates/ and what is around it are as when release/ was made, what this machine has built
-#   anew is equal to the byte (by a kit and translators that MADE names; else it says so); where they have changed it says so.
-# - With the kit and the repository hidden each file is compiled by a C compiler alone, gcc and clang, of 64 bits and of 32; the programs
-#   write on all stored cases what is stored, and the library answers random calls as the native one does.
+#   anew is equal to the byte (by a kit and translators that MADE names; else it says so); where they have changed the last line says so, and
+#   by how many commits. Where CHANGELOG.md or the header has a newer version it fails.
+# - With the kit and the repository hidden each file is compiled by a C compiler alone, gcc and clang, of 64 bits and of 32, with its machine
+#   code and without; the programs write on all stored cases what is stored, and the library answers random calls as the native one does.
 # - In a copy of the repository as a clone has it, with the kit hidden: README's first command, a C program, the tests of the Rust crate,
-#   Python's package installed and imported, Go's and C++'s tests.
+#   Python's package installed and imported, Go's and C++'s tests, each over the machine code.
 # It installs what this machine lacks by apt-get; where that fails it fails, or, with LEAVE_OUT=1 in the environment, says what it leaves
 # out. Stops at the first failure. checks/release/debian.sh does the last part in a new Debian.
 set -euo pipefail
@@ -40,22 +41,35 @@ version() {
     local newest
     newest=$(grep -oE '^## 0\.[0-9]+' CHANGELOG.md | head -n 1 | cut -c 4-)
     [[ $(said version) == "$newest" ]] || fail "CHANGELOG.md names $newest, and release/ is $(said version): run release/make.sh"
+    newest=0.$(sed -n 's/^#define TCPCORE_VERSION //p' c/tcpcore/tcpcore.h)
+    [[ $(said version) == "$newest" ]] || fail "c/tcpcore/tcpcore.h is of version $newest, and release/ is $(said version): run release/make.sh"
     pass
 }
 
+# How many commits have changed the crates or what is around them since release/ was made, where git knows.
+commits_since() {
+    local made
+    made=$(said commit | cut -c 1-40)
+    git cat-file -e "$made^{commit}" 2>/dev/null || return 0
+    echo " by $(git rev-list --count "$made..HEAD" -- HANDLES crates.txt crates) commits of crates/ and" \
+        "$(git rev-list --count "$made..HEAD" -- c/tcpcore c/portable c/machine apps/tcpkit apps/web) around it"
+}
+
 # What this machine has built is what lies here.
+age=
 equal() {
     local name sources
     sources=$(release/sources.sh)
     if [[ $sources != "$(grep -E '^(crates|around) ' release/MADE)" ]]; then
-        echo "release: crates/ or what is around it has changed since release/ was made of version $(said version)"
+        age="; release/ is of version $(said version), and older than what it is made of$(commits_since)"
+        echo "release: crates/ or what is around it has changed since release/ was made of version $(said version)$(commits_since)"
         return
     fi
     if [[ $(rt version) != "$(said kit)" || $(wasm-opt --version | cut -d ' ' -f 3) != "$(said wasm-opt)" || $(wasm2c --version) != "$(said wasm2c)" ]]; then
         echo "release: another kit or translator than MADE's: what is built anew may differ in its bytes"
         return
     fi
-    for name in c/portable/out/tcpcore_portable.c:tcpcore.c c/tcpcore/tcpcore.h:tcpcore.h c/tcpcore/tcpcore_old_names.h:tcpcore_old_names.h apps/tcpkit/out/tcpkit.c:tcpkit.c \
+    for name in c/portable/out/tcpcore.c:tcpcore.c c/tcpcore/tcpcore.h:tcpcore.h c/tcpcore/tcpcore_old_names.h:tcpcore_old_names.h apps/tcpkit/out/tcpkit.c:tcpkit.c \
         apps/tcpkit/out/tcpjudge.c:tcpjudge.c apps/web/out/tcp.html:tcp.html; do
         [[ -e ${name%:*} ]] || fail "no ${name%:*}: run c/portable/build.sh, apps/web/build.sh and apps/tcpkit/build.sh"
         cmp "${name%:*}" "release/${name#*:}" || fail "release/${name#*:} isn't what ${name%:*} is, of the same sources"
@@ -67,7 +81,7 @@ equal() {
 compiled() {
     local file
     for file in tcpcore tcpkit tcpjudge; do
-        bare "$@" -std=c99 -Wall -Wextra -Wpedantic -Wno-unused-parameter -Wno-unused-function -Werror -c "release/$file.c" -o "$there/$file.o"
+        bare "$@" -std=c99 -Wall -Wextra -Wpedantic -Werror -c "release/$file.c" -o "$there/$file.o"
     done
 }
 
@@ -83,15 +97,25 @@ cases() {
 
 # As many random calls over the one C file as over the native library, with the same answers, reports and bytes.
 calls() {
-    local count=1000000
+    local count=1000000 words
     [[ -e $native ]] || { leave_out "$native, which 'rt lib' in crates/tcp_c builds"; return; }
     cmp c/tcpcore/tcpcore.h release/tcpcore.h >/dev/null || { echo "release: the native library has another header"; return; }
-    gcc -std=c99 -O2 -Irelease -c release/tcpcore.c -o "$there/tcpcore.o"
     gcc -std=c11 -O2 -DCOUNT=$count -Ic/tcpcore c/portable/tests/calls.c c/tcpcore/tcpcore.c "$native" -o "$there/native"
-    gcc -std=c11 -O2 -DCOUNT=$count -Irelease c/portable/tests/calls.c "$there/tcpcore.o" -o "$there/one"
     "$there/native" >"$there/wanted"
-    "$there/one" | cmp - "$there/wanted" || fail "release/tcpcore.c answers otherwise than the native library"
-    pass
+    for words in -O2 "-O2 -march=x86-64-v2" "-O2 -DTCPCORE_PORTABLE"; do
+        gcc -std=c99 $words -Irelease -c release/tcpcore.c -o "$there/tcpcore.o"
+        gcc -std=c11 -O2 -DCOUNT=$count -Irelease c/portable/tests/calls.c "$there/tcpcore.o" -o "$there/one"
+        "$there/one" | cmp - "$there/wanted" || fail "release/tcpcore.c with $words answers otherwise than the native library"
+        pass
+    done
+}
+
+# What a program in C says that it has taken.
+taken() {
+    printf '#include "tcpcore.h"\n#include <stdio.h>\nint main(void) { return puts(tcpcore_build()) < 0; }\n' >"$there/clone/build.c"
+    bare cc -Irelease build.c release/tcpcore.c -o build
+    bare ./build
+    grep -qx "$(uname -m | sed 's/^x86_64$/x86-64/') machine code" "$there/told" || fail "release/tcpcore.c is taken as '$(cat "$there/told")'"
 }
 
 # What each kind of user does first, in a clone.
@@ -102,9 +126,10 @@ users() {
     bare cc -std=c99 -Irelease c/tcpcore/examples/hello.c release/tcpcore.c -o hello
     bare ./hello
     cmp "$there/told" c/tcpcore/tests/expected/hello || fail "the C program"
+    taken
     if has cargo /usr/bin/cargo --version; then
         bare sh -c 'cd c/bindings/rust && cargo test --offline'
-        (($(awk '/^test result: ok/ { sum += $4 } END { print sum + 0 }' "$there/told") >= 27)) || fail "fewer than 27 tests of the Rust crate ran"
+        (($(awk '/^test result: ok/ { sum += $4 } END { print sum + 0 }' "$there/told") >= 28)) || fail "fewer than 28 tests of the Rust crate ran"
     fi
     if has python3-pip /usr/bin/python3 -m pip --version && has python3-setuptools /usr/bin/python3 -c 'import setuptools' &&
         has python3-wheel /usr/bin/python3 -c 'import wheel'; then
@@ -129,8 +154,12 @@ mkdir "$there/clone"
 git ls-files -z | tar --null -T - -cf - | tar -C "$there/clone" -xf -
 if (cd / && $hide env -i PATH=/usr/bin:/bin sh -c "command -v rt || ls '$kit'/* '$top'/*" >/dev/null 2>&1); then fail "the kit or the repository can be read"; fi
 cases gcc -O2
-if has clang clang --version; then compiled clang -O1; fi
+cases gcc -O1 -DTCPCORE_PORTABLE
+if has clang clang --version; then
+    cases clang -O1
+    compiled clang -O1 -DTCPCORE_PORTABLE
+fi
 if has gcc-multilib gcc -m32 -include stdint.h -include stdio.h -E -x c /dev/null; then cases gcc -m32 -O1; fi
 calls
 users
-echo "release: $passed passed, $left_out left out"
+echo "release: $passed passed, $left_out left out$age"

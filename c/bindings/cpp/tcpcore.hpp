@@ -8,6 +8,7 @@
 #include <memory>
 #include <optional>
 #include <stdexcept>
+#include <string_view>
 #include <utility>
 
 namespace tcpcore {
@@ -17,6 +18,9 @@ struct refused : std::runtime_error {
     std::uint32_t answer;
     explicit refused(std::uint32_t found) : std::runtime_error(tcpcore_strerror(found)), answer(found) {}
 };
+
+// What code the library is, such as "x86-64-v2 machine code" or "portable C".
+inline std::string_view build() noexcept { return tcpcore_build(); }
 
 // The config of TCPCORE_CONFIG_DEFAULT with these fields, which have no default.
 inline tcpcore_config default_config(tcpcore_addr addr, std::uint16_t port, std::uint32_t isn)

@@ -259,6 +259,7 @@ int main()
     train();
     moved_from();
     defaults();
+    CHECK(tcpcore::build().find("machine code") != std::string_view::npos || tcpcore::build().find("portable C") == 0);
     a = tcpcore::end(config(A, 9));
     CHECK(a.status().phase == TCPCORE_PHASE_CLOSED);
     std::printf("cpp: %d checks\n", checks);

@@ -22,6 +22,9 @@ const (
 	TrainRoom = C.TCPCORE_TRAIN_ROOM
 )
 
+// Build is what code the library is, such as "x86-64-v2 machine code" or "portable C".
+func Build() string { return C.GoString(C.tcpcore_build()) }
+
 // The timers of Timer.
 const (
 	Retransmit = C.TCPCORE_TIMER_RETRANSMIT

@@ -4,6 +4,7 @@ import (
 	"bytes"
 	"errors"
 	"io"
+	"strings"
 	"testing"
 )
 
@@ -360,5 +361,11 @@ func TestDefaults(t *testing.T) {
 		if found := LeastShift(capacity); found != shift {
 			t.Fatal(capacity, found)
 		}
+	}
+}
+
+func TestBuild(t *testing.T) {
+	if build := Build(); !strings.HasSuffix(build, "machine code") && !strings.HasPrefix(build, "portable C") {
+		t.Errorf("the library is %q", build)
 	}
 }

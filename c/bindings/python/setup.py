@@ -1,7 +1,8 @@
 """Builds the library into the package, as its libtcpcore.so, with the C compiler (CC, else cc): over the proved machine code where there is
 one for what that compiles for, the layer tcpcore.c and prebuilt/MACHINE/libtcp_c.a, as the tarball has them, around this folder or in the
-one that TCPCORE_PREBUILT names (empty, it says that there is none); else of the one C file for any machine. That and its header are in
-csrc beside this, with the package's text; or in release/ of the repository, whose c/tcpcore/tcpcore.py is the text then."""
+one that TCPCORE_PREBUILT names (empty, it says that there is none); else of the one C file for any machine, which has the machine code in it,
+too. That and its header are in csrc beside this, with the package's text; or in release/ of the repository, whose c/tcpcore/tcpcore.py is
+the text then."""
 
 import os
 import pathlib
@@ -49,7 +50,7 @@ def words():
     folder, name = pathlib.Path(given) if given else HERE.parent, machine() if given != "" else None
     code = folder / "prebuilt" / str(name) / "libtcp_c.a"
     if name and code.exists() and (folder / "layout.h").exists():
-        return ["-std=c11", f"-I{folder}", folder / "tcpcore.c", code, "-Wl,--exclude-libs,ALL"]
+        return ["-std=c11", f'-DTCPCORE_BUILD="{name} machine code"', f"-I{folder}", folder / "tcpcore.c", code, "-Wl,--exclude-libs,ALL"]
     if given:
         raise SystemExit(f"TCPCORE_PREBUILT: no layer, or no {code}")
     return ["-std=c99", f"-I{SOURCE}", SOURCE / "tcpcore.c"]

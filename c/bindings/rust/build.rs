@@ -1,8 +1,8 @@
 //! Builds the library with the C compiler (`CC`, else `cc`) and `AR`, in one of three ways:
 //! - over the proved machine code where there is one for the target: the layer `tcpcore.c` and `prebuilt/MACHINE/libtcp_c.a`,
 //!   as the tarball has them, around this crate or in the folder that TCPCORE_PREBUILT names (empty, it says that there is none);
-//! - else of the one C file for any machine, which is in `csrc` of this crate, in `release` of this repository, or in the folder
-//!   of tcpcore.c and tcpcore.h that TCPCORE_SOURCE names;
+//! - else of the one C file for any machine, with the proved machine code for some in it, which is in `csrc` of this crate, in `release` of
+//!   this repository, or in the folder of tcpcore.c and tcpcore.h that TCPCORE_SOURCE names;
 //! - with the feature `native` nothing is built, and libtcpcore.a is linked: in TCPCORE_LIB_DIR, else where pkg-config says.
 use std::env;
 use std::path::{Path, PathBuf};
@@ -17,7 +17,7 @@ fn main() {
     } else if let Some((folder, machine)) = prebuilt() {
         build_over(&folder, &machine);
     } else {
-        build_portable();
+        build_file();
     }
 }
 
@@ -69,7 +69,8 @@ fn prebuilt() -> Option<(PathBuf, PathBuf)> {
 /// The layer over the machine code.
 fn build_over(folder: &Path, code: &Path) {
     println!("cargo:rerun-if-changed={}", code.join("libtcp_c.a").display());
-    compile(folder, "-std=c11", None);
+    let name = code.file_name().unwrap_or_default().to_string_lossy();
+    compile(folder, "-std=c11", &[&format!("-DTCPCORE_BUILD=\"{name} machine code\"")]);
     println!("cargo:rustc-link-search=native={}", code.display());
     println!("cargo:rustc-link-lib=static=tcp_c");
 }
@@ -83,13 +84,20 @@ fn source() -> PathBuf {
     found.expect("no tcpcore.c: set TCPCORE_SOURCE to the folder that it and tcpcore.h are in")
 }
 
-fn build_portable() {
-    let is_unchecked = env::var_os("CARGO_FEATURE_UNCHECKED").is_some();
-    compile(&source(), "-std=c99", is_unchecked.then_some("-DTCPCORE_UNCHECKED"));
+fn build_file() {
+    let mut words = Vec::new();
+    if env::var_os("CARGO_FEATURE_UNCHECKED").is_some() {
+        words.push("-DTCPCORE_UNCHECKED");
+    }
+    if machine() == Some("x86-64-v2") {
+        // What Rust takes for granted there C may, too.
+        words.extend(["-mssse3", "-msse4.2", "-mpopcnt"]);
+    }
+    compile(&source(), "-std=c99", &words);
 }
 
 /// A folder's tcpcore.c as libtcpcore.a, which is linked.
-fn compile(folder: &Path, standard: &str, word: Option<&str>) {
+fn compile(folder: &Path, standard: &str, words: &[&str]) {
     let file = folder.join("tcpcore.c");
     let out = PathBuf::from(env::var_os("OUT_DIR").expect("cargo sets it"));
     let (object, archive) = (out.join("tcpcore.o"), out.join("libtcpcore.a"));
@@ -97,7 +105,7 @@ fn compile(folder: &Path, standard: &str, word: Option<&str>) {
     println!("cargo:rerun-if-changed={}", folder.join("tcpcore.h").display());
     let mut compile = Command::new(env::var_os("CC").unwrap_or_else(|| "cc".into()));
     compile.args([standard, "-O2", "-fPIC", "-ffunction-sections"]);
-    compile.args(env::var("CFLAGS").unwrap_or_default().split_whitespace()).args(word);
+    compile.args(env::var("CFLAGS").unwrap_or_default().split_whitespace()).args(words);
     run(compile.arg("-I").arg(folder).arg("-c").arg(&file).arg("-o").arg(&object));
     // An archive of before would keep what was in it.
     let _ = std::fs::remove_file(&archive);

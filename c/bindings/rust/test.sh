@@ -1,7 +1,8 @@
 #!/usr/bin/env bash
-# The Rust crate with Debian's rustc and cargo, without a network: layout, clippy, documents, tests with the portable file, over the
-# machine code (the first argument, or crates/tcp_c's own) and with the installed library, without std, and the example over sockets. It installs what this machine lacks by apt-get; where that fails it fails, or, with LEAVE_OUT=1 in the environment,
-# says what it leaves out. Stops at the first failure.
+# The Rust crate with Debian's rustc and cargo, without a network: layout, clippy, documents, tests with release/tcpcore.c, which has machine
+# code on this machine, and with the same in C, over the library (the first argument, or crates/tcp_c's own) and with the installed one,
+# without std, and the example over sockets. It installs what this machine lacks by apt-get; where that fails it fails, or, with LEAVE_OUT=1
+# in the environment, says what it leaves out. Stops at the first failure.
 set -euo pipefail
 cd "$(dirname "$0")"
 test=rust
@@ -40,8 +41,13 @@ LIST
 passes cargo fmt --check
 passes cargo clippy --offline --all-targets -- -D warnings
 RUSTDOCFLAGS="-D warnings" passes cargo doc --offline --no-deps
-tests 28
-tests 28 --features unchecked
+tests 29
+is_in_c() { nm out/target/debug/build/tcpcore-*/out/tcpcore.o | grep -q w2c_; }
+if is_in_c; then echo "rust: the machine code of release/tcpcore.c isn't taken"; exit 1; fi
+rm -rf out/target/debug/build
+CFLAGS=-DTCPCORE_PORTABLE tests 29 --features unchecked
+is_in_c || { echo "rust: the C of release/tcpcore.c isn't taken"; exit 1; }
+rm -rf out/target/debug/build
 passes cargo build --offline --no-default-features
 # A folder as the tarball has them: the layer, and this machine's code, under both names that a target may ask for.
 for machine in x86-64 x86-64-v2 aarch64; do
@@ -50,11 +56,11 @@ for machine in x86-64 x86-64-v2 aarch64; do
 done
 cp ../../tcpcore/{tcpcore.c,tcpcore.h,tcpcore_old_names.h,layout.h} out/tarball
 rm -rf out/target/debug/build
-TCPCORE_PREBUILT=$PWD/out/tarball tests 28
+TCPCORE_PREBUILT=$PWD/out/tarball tests 29
 cat out/target/debug/build/tcpcore-*/output | grep -q static=tcp_c || { echo "rust: the machine code isn't linked"; exit 1; }
 make --silent -C ../../tcpcore OUT="$PWD/out/native" LIBRARY="$library"
 export TCPCORE_LIB_DIR=$PWD/out/native
-tests 28 --features native
+tests 29 --features native
 passes timeout 120 cargo run --quiet --offline --example udp ../../tcpcore/tcpcore.h
 grep -q ' bytes came as they were sent, in ' out/found
 cat out/found

@@ -12,7 +12,7 @@ def carry(sender, src, receiver):
         receiver.arrive(src, dst, segment)
 
 
-a, b = End(Config(A, 1, isn=1000)), End(Config(B, 2, isn=5000))
+a, b = End(Config(A, 1, 1000)), End(Config(B, 2, 5000))
 b.listen()
 a.connect(B, 2)
 carry(a, A, b)  # SYN

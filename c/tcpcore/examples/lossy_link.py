@@ -21,7 +21,7 @@ class Host:
 
     def __init__(self, addr, loss):
         self.addr, self.loss = addr, loss
-        self.end = End(Config(addr, 7, 1000, ISN, SIZE, SIZE, None, True))
+        self.end = End(Config(addr, 7, ISN, mss=1000, send_capacity=SIZE, recv_capacity=SIZE))
         self.free_at, self.una, self.deadlines = 0.0, 0, {}
 
 

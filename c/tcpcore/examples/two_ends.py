@@ -10,7 +10,7 @@ class Side:
     def __init__(self, name, host, isn, text):
         self.name, self.text, self.sent, self.closed = name, text, 0, False
         self.addr = bytes([10, 0, 0, host])
-        self.end = End(Config(self.addr, host, 64, isn, 4096, 4096, None, True))
+        self.end = End(Config(self.addr, host, isn, mss=64, send_capacity=4096, recv_capacity=4096))
 
     def use(self):
         """Reads what came, sends the text, and closes behind it, or where the peer has closed."""

@@ -12,7 +12,7 @@ import tcpcore  # noqa: E402
 from tcpcore import Answer, Brought, Config, End, Ending, Kind, Lent, Phase, Refused, TimeWait, Rule, ArriveReport, Timer, Train, Transmit  # noqa: E402
 
 A, B = "10.0.0.1", bytes([10, 0, 0, 2])
-GOOD = Config(A, 1, 1460, 7, 1000, 1000, None, True)
+GOOD = Config(A, 1, 7, 1460, 1000, 1000, None, True)
 checks = 0
 
 
@@ -44,6 +44,8 @@ def ranges():
 
 
 def refusals():
+    check(raised(Refused, End, GOOD._replace(addr="0.0.0.0", mss=1)), "the address is 0.0.0.0")
+    check(raised(Refused, End, GOOD._replace(port=0, mss=1)), "the port is 0")
     check(raised(Refused, End, GOOD._replace(mss=1)), "the maximum segment size isn't from 64 to 1,460 bytes")
     check(raised(Refused, End(GOOD).send, b"x"), "not open yet")
     try:
@@ -208,14 +210,19 @@ def defaults():
     end.connect(B, 8)
     syn = end.emit()[1]
     check((syn[20:], syn[14:16]), (bytes([2, 4, 5, 180, 1, 1, 4, 2]), b"\xff\xff"))
-    check((end.status().room, Config(A, 7).limit), (65535, 2_147_483_632))
-    check(raised(ValueError, End, Config(A, 7)), "no initial sequence number is chosen (RFC 9293, 3.4.1)")
+    check((end.status().room, Config(A, 7, 1).limit), (65535, 2_147_483_632))
+    check("isn" in raised(TypeError, Config, A, 7), True)
     capacities = {1: None, 65535: None, 65536: 1, 131071: 1, 131072: 2, 1048575: 4, 1048576: 5}
     check({capacity: tcpcore.least_shift(capacity) for capacity in capacities}, capacities)
 
 
+def builds():
+    found = tcpcore.build()
+    check(found.endswith("machine code") or found.startswith("portable C"), True)
+
+
 def main():
-    for test in (ranges, refusals, copies, buffers, lending, trains, enums, freed, rooms, defaults):
+    for test in (ranges, refusals, copies, buffers, lending, trains, enums, freed, rooms, defaults, builds):
         test()
     print(f"calls.py: {checks} checks")
 

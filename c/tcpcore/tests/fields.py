@@ -297,8 +297,8 @@ def time_wait(a, b):
 
 
 def main():
-    a = Side("A", Config(bytes([10, 1, 2, 3]), 4660, 1111, 2309737967, 3000, 5001, 3, 0, 3210))
-    b = Side("B", Config(bytes([10, 4, 5, 6]), 22136, 1300, 16909060, 700, 4000, None, 2, 803))
+    a = Side("A", Config(bytes([10, 1, 2, 3]), 4660, 2309737967, 1111, 3000, 5001, 3, 0, 3210))
+    b = Side("B", Config(bytes([10, 4, 5, 6]), 22136, 16909060, 1300, 700, 4000, None, 2, 803))
     layout()
     first_syn(a, b)
     first_syn(b, a)

@@ -13,7 +13,7 @@ COUNT = 300
 
 
 def config(capacity=MIB):
-    return Config(bytes([10, 0, 0, 1]), 7, 1460, 1, capacity, capacity, None, True)
+    return Config(bytes([10, 0, 0, 1]), 7, 1, 1460, capacity, capacity, None, True)
 
 
 def refusal(call, *args):

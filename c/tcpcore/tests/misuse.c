@@ -246,6 +246,11 @@ static void configs(void)
     tcpcore_end end = TCPCORE_END_INIT;
     tcpcore_config config = good_config(HERE);
     size_t capacities[] = {0, 1048577, SIZE_MAX};
+    tcpcore_config forgotten = {.mss = 63}, no_port = {.addr = HERE}, alike = {.addr = {{0, 0, 0, 1}}, .port = 1};
+    CHECK(make(&end, &forgotten), TCPCORE_BAD_ADDR);
+    CHECK(make(&end, &no_port), TCPCORE_BAD_PORT);
+    CHECK(make(&end, &alike), TCPCORE_BAD_CAPACITY);
+    CHECK(is_empty(&end), 1);
     for (int i = 0; i < 3; i++) {
         config.send_capacity = capacities[i];
         CHECK(make(&end, &config), TCPCORE_BAD_CAPACITY);

@@ -28,11 +28,15 @@ pub enum Error {
     BadShift,
     /// The limit isn't from 1 to 2^62.
     BadLimit,
+    /// The address is 0.0.0.0.
+    BadAddr,
+    /// The port is 0.
+    BadPort,
     /// Another answer, by its number in `tcpcore.h`. None is known that safe code comes to.
     Other(u32),
 }
 
-const ERRORS: [(u32, Error); 11] = [
+const ERRORS: [(u32, Error); 13] = [
     (11, Error::NotOpen),
     (12, Error::AlreadyOpen),
     (13, Error::Closing),
@@ -44,6 +48,8 @@ const ERRORS: [(u32, Error); 11] = [
     (23, Error::BadMss),
     (24, Error::BadShift),
     (25, Error::BadLimit),
+    (26, Error::BadAddr),
+    (27, Error::BadPort),
 ];
 
 impl Error {
@@ -69,14 +75,22 @@ pub(crate) fn done(answer: u32) -> Result<(), Error> {
     }
 }
 
-fn text_of(answer: u32) -> &'static str {
-    // SAFETY: the text is static, ends in a 0, and any thread may ask for it (tcpcore.h).
+/// A text of the library.
+///
+/// # Safety
+/// It is static, and ends in a 0.
+pub(crate) unsafe fn text_at(at: *const u8) -> &'static str {
+    // SAFETY: no byte behind the 0 is looked at.
     let bytes = unsafe {
-        let at = sys::tcpcore_strerror(answer);
         let length = (0..).take_while(|&i| *at.add(i) != 0).count();
         slice::from_raw_parts(at, length)
     };
     str::from_utf8(bytes).unwrap_or("")
+}
+
+fn text_of(answer: u32) -> &'static str {
+    // SAFETY: the text is static, ends in a 0, and any thread may ask for it (tcpcore.h).
+    unsafe { text_at(sys::tcpcore_strerror(answer)) }
 }
 
 impl fmt::Display for Error {

@@ -58,7 +58,7 @@ pub use reports::{ArriveReport, Brought, Kind, Rule, Transmit};
 pub use time_wait::TimeWait;
 pub use trains::{Train, TRAIN_ROOM};
 
-use answers::done;
+use answers::{done, text_at};
 
 /// An IPv4 address, in network order.
 pub type Addr = [u8; 4];
@@ -76,6 +76,12 @@ pub const LIMIT: u64 = 2_147_483_632;
 pub fn versions() -> (u32, u32) {
     // SAFETY: it takes nothing.
     (unsafe { sys::tcpcore_version() }, sys::VERSION)
+}
+
+/// What code is linked, such as "x86-64-v2 machine code" or "portable C".
+pub fn build() -> &'static str {
+    // SAFETY: it takes nothing, and its text is static and ends in a 0.
+    unsafe { text_at(sys::tcpcore_build()) }
 }
 
 /// One end of one TCP connection, where it lies: behind a [`Placed`] or a [`Boxed`], as `str` is behind a `String`. It has no size, so

@@ -38,8 +38,8 @@ impl<'m> Placed<'m> {
     /// ```
     ///
     /// # Errors
-    /// [`Error::BadCapacity`], [`Error::BadMss`], [`Error::BadShift`], [`Error::BadLimit`], [`Error::NoMemory`], the first that
-    /// applies.
+    /// [`Error::BadAddr`], [`Error::BadPort`], [`Error::BadCapacity`], [`Error::BadMss`], [`Error::BadShift`], [`Error::BadLimit`],
+    /// [`Error::NoMemory`], the first that applies.
     pub fn new(config: &Config, block: &'m mut [MaybeUninit<u8>]) -> Result<Placed<'m>, Error> {
         let mut raw = ptr::null_mut();
         // SAFETY: the block is borrowed for as long as the end lives.

@@ -2,7 +2,7 @@
 use core::ffi::c_void;
 use core::ptr;
 
-pub(crate) const VERSION: u32 = 9;
+pub(crate) const VERSION: u32 = 10;
 pub(crate) const END_SIZE: usize = 704;
 pub(crate) const UNIT: usize = 16;
 pub(crate) const STRUCT_ROOM: usize = 32;
@@ -208,6 +208,7 @@ extern "C" {
     pub fn tcpcore_time_wait_status(time_wait: *const TimeWait, phase: *mut u32, ending: *mut u32) -> u32;
     pub fn tcpcore_strerror(answer: u32) -> *const u8;
     pub fn tcpcore_version() -> u32;
+    pub fn tcpcore_build() -> *const u8;
 }
 
 #[cfg(test)]

@@ -118,6 +118,8 @@ fn what_new_refuses() {
         (good.mss(63), Error::BadMss),
         (good.window_shift(Some(15)), Error::BadShift),
         (good.limit(0), Error::BadLimit),
+        (Config::new([0, 0, 0, 0], 1, 1).capacities(0, 10), Error::BadAddr),
+        (Config::new(A, 0, 1).capacities(0, 10), Error::BadPort),
     ];
     let mut block = [MaybeUninit::uninit(); memory(10, 10)];
     for (config, wanted) in faults {
@@ -222,4 +224,9 @@ fn rests() {
 fn the_library_is_of_this_version() {
     let (linked, written) = versions();
     assert_eq!(linked, written);
+}
+
+#[test]
+fn the_library_says_what_code_it_is() {
+    assert!(tcpcore::build().ends_with("machine code") || tcpcore::build().starts_with("portable C"));
 }
