@@ -1,4 +1,4 @@
-"""usernet, slirp4netns and pasta (of passt) in turns, each at an MTU of 1,500: see usernet.sh."""
+"""usernet, slirp4netns and pasta (of passt) in turns, each at an MTU of 1,500 and of 65,520: see usernet.sh."""
 
 import contextlib
 import json
@@ -12,8 +12,7 @@ import time
 
 sys.path.insert(0, str(pathlib.Path(__file__).resolve().parent.parent / "apps/usernet"))
 import world
-from world import CLIENTS, GATEWAY, SERVERS
-
+from world import CLIENTS, GATEWAY
 
 TURNS, SECONDS, IN_TURN, OPEN, PORT = 3, 3, 500, 1000, 8084
 # The processes of `traffic connect`.
@@ -48,8 +47,8 @@ def other(place, words):
     place.until(lambda: "10.0.2.100" not in place.client("ip", "-4", "addr"))
 
 
-def slirp(place):
-    return other(place, ["slirp4netns", "--configure", "--mtu=1500", "--netns-type=path", f"/run/netns/{CLIENTS}", "tap0"])
+def slirp(place, mtu=1500):
+    return other(place, ["slirp4netns", "--configure", f"--mtu={mtu}", "--netns-type=path", f"/run/netns/{CLIENTS}", "tap0"])
 
 
 def pasta(place, mtu=1500):
@@ -57,8 +56,11 @@ def pasta(place, mtu=1500):
                          "--gateway", GATEWAY, "--ns-ifname", "tun0", "--netns", f"/run/netns/{CLIENTS}"])
 
 
-KINDS = {"usernet": usernet, "usernet, no offloads": lambda place: usernet(place, "--no-offloads"), "slirp4netns": slirp,
-         "pasta": pasta, "pasta, 64 KiB": lambda place: pasta(place, 65520)}
+# podman and rootlesskit pass the longer MTU, and pasta has it by itself.
+LONG = ", 64 KiB"
+KINDS = {"usernet": usernet, "usernet, no offloads": lambda place: usernet(place, "--no-offloads"), "slirp4netns": slirp, "pasta": pasta,
+         f"usernet{LONG}": lambda place: usernet(place, "-m", 65520), f"slirp4netns{LONG}": lambda place: slirp(place, 65520),
+         f"pasta{LONG}": lambda place: pasta(place, 65520)}
 
 
 def stream(place, pid, *words):
@@ -78,6 +80,7 @@ def turn(place, kind):
         words = place.client(TRAFFIC, "connect", GATEWAY, PORT, IN_TURN).split()
         found["connections a second"], found["connect, µs"], found["first byte, µs"] = map(float, words)
         found["processor µs a connection"] = (processor(pid) - before) / (PROCESSES * IN_TURN) * 1e6
+    with KINDS[kind](place) as pid:  # one that has carried nothing yet: memory of streams may stay
         idle = resident(pid)
         with place.start_client(TRAFFIC, "hold", GATEWAY, PORT, OPEN) as client:
             place.until(lambda: count_open(place) >= OPEN, 60)
@@ -89,7 +92,7 @@ def turn(place, kind):
 
 
 # pasta at 65,520 loses segments that come up, of which `ss -ti` tells at the client: its timeout is backed off again and again.
-PICTURE = """set terminal svg size 860,330 font 'sans-serif,12' background 'white'
+PICTURE = """set terminal svg size 1120,330 font 'sans-serif,12' background 'white'
 set output '{file}'
 set label 1 'pasta, 64 KiB, up: {pasta_up} Mbit/s. Segments are lost on their way into pasta, and the client waits for its' at screen 0.02,0.075
 set label 2 'retransmission timeout most of the time (ss -ti there).' at screen 0.02,0.025
@@ -143,10 +146,13 @@ def main():
                 rows[kind].append(turn(place, kind))
                 print(kind, {name: round(value, 1) for name, value in rows[kind][-1].items()}, file=sys.stderr, flush=True)
     middle = lambda kind, name: statistics.median(row[name] for row in rows[kind])
-    print("| | " + " | ".join(kinds) + " |\n|" + "---|" * (len(kinds) + 1))
-    for name in rows[kinds[0]][0]:
-        digits = 1 if "s a GiB" in name else 0
-        print(f"| {name} | " + " | ".join(f"{middle(kind, name):,.{digits}f}" for kind in kinds) + " |")
+    for is_long in False, True:
+        shown = [kind for kind in kinds if kind.endswith(LONG) == is_long]
+        print("| | " + " | ".join(kind.removesuffix(LONG) for kind in shown) + " |\n|" + "---|" * (len(shown) + 1))
+        for name in rows[kinds[0]][0]:
+            digits = 1 if "s a GiB" in name else 0
+            print(f"| {name} | " + " | ".join(f"{middle(kind, name):,.{digits}f}" for kind in shown) + " |")
+        print()
     if len(sys.argv) > 1:
         draw(sys.argv[1], kinds, middle)
 

@@ -1,11 +1,12 @@
 #!/usr/bin/env bash
 # usernet beside slirp4netns and pasta in turns within one run: bytes a second each way, processor time a GiB,
-# connections a second, the time to connect and to the first byte, and memory a connection; the median of three turns
-# of each, as a table and, by gnuplot, as docs/usernet.svg. It wants what apps/usernet/test.sh wants, and installs
+# connections a second, the time to connect and to the first byte, and memory a connection; at an MTU of 1,500 and of
+# 65,520; the median of three turns of each, as two tables and, by gnuplot, as docs/usernet.svg. It wants what apps/usernet/test.sh wants, and installs
 # slirp4netns, passt and gnuplot-nox by apt-get.
 set -euo pipefail
 cd "$(dirname "$0")"
-library=$(realpath "${1:-../crates/tcp_c/out/libtcp_c.a}")
+library=${1-}
+[[ -z $library ]] || library=$(realpath "$library")
 # shellcheck disable=SC2034
 test=usernet
 . ../checks/lib.sh
@@ -16,5 +17,5 @@ gnuplot gnuplot-nox
 LIST
 mkdir -p out
 gcc -std=c11 -O2 -Wall -Wextra -Wpedantic -Werror traffic.c -o out/traffic
-../apps/usernet/build.sh "$library"
+../apps/usernet/build.sh ${library:+"$library"}
 python3 usernet.py ../docs/usernet.svg

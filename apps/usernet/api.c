@@ -1,5 +1,5 @@
 /* The API's socket, with slirp4netns's requests and answers (see usernet.h). C, tested and not proved.
-   A client sends one request and shuts down its side, gets one answer, and is done. All is of the first thread. */
+   A client sends one request and shuts down its side, gets one answer, and is done. */
 #define _GNU_SOURCE
 #include "json.h"
 #include "usernet.h"
@@ -51,7 +51,7 @@ int api_open(const char *path)
 int api_watch(struct usernet *net)
 {
     struct epoll_event event = {.events = EPOLLIN, .data.u64 = API};
-    return net->shared->api < 0 || epoll_ctl(net->events, EPOLL_CTL_ADD, net->shared->api, &event) == 0;
+    return net->api < 0 || epoll_ctl(net->events, EPOLL_CTL_ADD, net->api, &event) == 0;
 }
 
 static void end_caller(struct usernet *net, struct caller *caller)
@@ -70,12 +70,12 @@ void api_accept(struct usernet *net)
     while (place < CALLERS && callers[place].socket)
         place++;
     if (place == CALLERS) {
-        epoll_ctl(net->events, EPOLL_CTL_DEL, net->shared->api, NULL);
+        epoll_ctl(net->events, EPOLL_CTL_DEL, net->api, NULL);
         is_full = 1;
         return;
     }
     struct epoll_event event = {.events = EPOLLIN | EPOLLRDHUP, .data.u64 = CALLER + place};
-    int socket = accept4(net->shared->api, NULL, NULL, SOCK_NONBLOCK | SOCK_CLOEXEC);
+    int socket = accept4(net->api, NULL, NULL, SOCK_NONBLOCK | SOCK_CLOEXEC);
     if (socket < 0)
         return;
     callers[place].socket = socket, callers[place].since = net->now, callers[place].length = 0;
@@ -95,7 +95,7 @@ void api_take(struct usernet *net, uint64_t place)
     if ((got < 0 && errno == EAGAIN) || (got > 0 && (caller->length += (size_t)got) <= API_REQUEST))
         return;
     if (got == 0) {
-        size_t length = api_answer(net->shared, caller->request, caller->length, out);
+        size_t length = api_answer(net, caller->request, caller->length, out);
         send(caller->socket, out, length, MSG_DONTWAIT | MSG_NOSIGNAL); /* it has room for one answer */
     }
     end_caller(net, caller);
@@ -125,12 +125,24 @@ static size_t refuse(char *out, const char *call, const char *why)
 
 enum { EXECUTE, PROTO, HOST_ADDR, HOST_PORT, GUEST_ADDR, GUEST_PORT, ID, MEMBERS };
 
-/* An address, or another one where none is named, or an empty one, as podman does; whether it is one. */
-static int read_addr(const struct json_member *member, void *addr, const void *otherwise)
+/* Whether no address is named, or an empty one, as podman does. */
+static int is_left_out(const struct json_member *member) { return member->kind == JSON_NONE || (member->kind == JSON_STRING && !*member->string); }
+
+/* An address of the host's, of either family, or all that it has of IPv4 where none is named; whether it is one. */
+static int read_host(const struct json_member *member, union place *at)
 {
-    if (member->kind == JSON_NONE || (member->kind == JSON_STRING && !*member->string))
-        return memcpy(addr, otherwise, 4), 1;
-    return member->kind == JSON_STRING && inet_pton(AF_INET, member->string, addr) == 1;
+    if (is_left_out(member))
+        return at->any.sa_family = AF_INET, 1;
+    return member->kind == JSON_STRING && ports_read_host(member->string, at);
+}
+
+/* An address of the namespace, or its own where none is named; whether it is one. */
+static int read_guest(const struct usernet *net, const struct json_member *member, tcpcore_addr *addr)
+{
+    const struct ip_net none = {.prefix = 32};
+    if (is_left_out(member))
+        return *addr = net->own, 1;
+    return member->kind == JSON_STRING && inet_pton(AF_INET, member->string, addr) == 1 && ip_may_be_peer(none, *addr);
 }
 
 static int read_port(const struct json_member *member, uint16_t *port)
@@ -139,46 +151,48 @@ static int read_port(const struct json_member *member, uint16_t *port)
     return member->kind == JSON_NUMBER && member->number > 0 && member->number <= UINT16_MAX;
 }
 
-static size_t add(struct shared *shared, const struct json_member *members, char *out)
+static size_t add(struct usernet *net, const struct json_member *members, char *out)
 {
     static const char CALL[] = "add_hostfwd: ";
     const char *proto = members[PROTO].kind == JSON_STRING ? members[PROTO].string : "";
     struct published wanted = {.protocol = strcmp(proto, "udp") == 0 ? IP_UDP : IP_TCP};
-    const struct ip_net none = {.prefix = 32};
+    uint16_t port;
     if (wanted.protocol == IP_TCP && strcmp(proto, "tcp") != 0)
         return refuse(out, CALL, "bad arguments.proto");
-    if (!read_addr(&members[HOST_ADDR], &wanted.addr, "\0\0\0"))
+    if (!read_host(&members[HOST_ADDR], &wanted.at))
         return refuse(out, CALL, "bad arguments.host_addr");
-    if (!read_port(&members[HOST_PORT], &wanted.port))
+    if (!read_port(&members[HOST_PORT], &port))
         return refuse(out, CALL, "bad arguments.host_port");
-    if (!read_addr(&members[GUEST_ADDR], &wanted.guest, &shared->all[0]->own) || !ip_may_be_peer(none, wanted.guest))
+    if (!read_guest(net, &members[GUEST_ADDR], &wanted.guest))
         return refuse(out, CALL, "bad arguments.guest_addr");
     if (!read_port(&members[GUEST_PORT], &wanted.guest_port))
         return refuse(out, CALL, "bad arguments.guest_port");
-    uint32_t id = ports_publish(shared, wanted);
+    *(wanted.at.any.sa_family == AF_INET6 ? &wanted.at.v6.sin6_port : &wanted.at.v4.sin_port) = htons(port);
+    uint32_t id = ports_publish(net, wanted);
     return id ? (size_t)snprintf(out, API_ROOM, "{\"return\":{\"id\":%u}}", id) : refuse(out, CALL, "slirp_add_hostfwd failed");
 }
 
-static size_t list(const struct shared *shared, char *out)
+static size_t list(const struct usernet *net, char *out)
 {
     size_t length = (size_t)snprintf(out, API_ROOM, "{\"entries\":[");
     const char *comma = "";
     for (int at = 0; at < LISTENERS; at++) {
-        const struct published *entry = &shared->published[at];
-        char addr[INET_ADDRSTRLEN], guest[INET_ADDRSTRLEN];
+        const struct published *entry = &net->published[at];
+        char addr[INET6_ADDRSTRLEN], guest[INET_ADDRSTRLEN];
+        int is_v6 = entry->at.any.sa_family == AF_INET6;
         if (entry->id == 0)
             continue;
-        inet_ntop(AF_INET, &entry->addr, addr, sizeof addr);
+        inet_ntop(entry->at.any.sa_family, is_v6 ? (const void *)&entry->at.v6.sin6_addr : &entry->at.v4.sin_addr, addr, sizeof addr);
         inet_ntop(AF_INET, &entry->guest, guest, sizeof guest);
         length += (size_t)snprintf(out + length, API_ROOM - length,
                                    "%s{\"id\":%u,\"proto\":\"%s\",\"host_addr\":\"%s\",\"host_port\":%u,\"guest_addr\":\"%s\",\"guest_port\":%u}", comma,
-                                   entry->id, entry->protocol == IP_TCP ? "tcp" : "udp", addr, entry->port, guest, entry->guest_port);
+                                   entry->id, entry->protocol == IP_TCP ? "tcp" : "udp", addr, ntohs(is_v6 ? entry->at.v6.sin6_port : entry->at.v4.sin_port), guest, entry->guest_port);
         comma = ",";
     }
     return length + (size_t)snprintf(out + length, API_ROOM - length, "]}");
 }
 
-size_t api_answer(struct shared *shared, const char *request, size_t length, char *out)
+size_t api_answer(struct usernet *net, const char *request, size_t length, char *out)
 {
     struct json_member members[MEMBERS] = {
         [EXECUTE] = {.path = "execute"}, [PROTO] = {.path = "arguments.proto"}, [HOST_ADDR] = {.path = "arguments.host_addr"},
@@ -189,12 +203,12 @@ size_t api_answer(struct shared *shared, const char *request, size_t length, cha
     if (members[EXECUTE].kind != JSON_STRING)
         return refuse(out, "", "no execute found");
     if (strcmp(members[EXECUTE].string, "add_hostfwd") == 0)
-        return add(shared, members, out);
+        return add(net, members, out);
     if (strcmp(members[EXECUTE].string, "list_hostfwd") == 0)
-        return list(shared, out);
+        return list(net, out);
     if (strcmp(members[EXECUTE].string, "remove_hostfwd") != 0)
         return refuse(out, "", "unknown execute");
-    if (members[ID].kind != JSON_NUMBER || !ports_remove(shared, members[ID].number))
+    if (members[ID].kind != JSON_NUMBER || !ports_remove(net, members[ID].number))
         return refuse(out, "remove_hostfwd: ", "bad arguments.id");
     return (size_t)snprintf(out, API_ROOM, "{\"return\":{}}");
 }

@@ -32,6 +32,7 @@ int carry_up(struct usernet *net, struct conn *conn)
             return 0;
         tcpcore_consume(&conn->end, sent > 0 ? (size_t)sent : 0, &taken);
         report_window(net, conn);
+        conn->carried += taken;
         count(net, UP, taken);
         conn->can_write = taken == length;
     }
@@ -58,6 +59,7 @@ int carry_down(struct usernet *net, struct conn *conn)
         } else if (got < 0 || tcpcore_send(&conn->end, net->text, (size_t)got, &taken) != TCPCORE_DONE) {
             return 0;
         }
+        conn->carried += taken;
         count(net, DOWN, taken);
     }
     return 1;

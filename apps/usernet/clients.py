@@ -258,6 +258,32 @@ def connect_many(host, at_once, in_turn):
             need(f"echo in turn {i}", end.recv(100), b"%d" % i)
 
 
+def stalled(place):
+    """Downloads that nobody reads fill the buffers of their ends; once they are closed their memory is the system's again, whatever was
+    held beside them meanwhile."""
+    before = place.resident()
+    for turn in range(6):
+        with place.start_client(sys.executable, __file__, "--stall", GATEWAY, "1000") as client:
+            place.until(lambda: place.counters()["now"] >= 1000)
+            place.until(lambda: place.resident() > before + 100 * MIB)
+            client.kill()
+        place.until(lambda: place.counters()["now"] == 0)
+    need(f"resident memory grew by less than 8 MiB, from {before >> 10} to {place.resident() >> 10} KiB", place.resident() < before + 8 * MIB, True)
+
+
+def stall(host, number):
+    """So many requests for the large file, of which nothing is read."""
+    resource.setrlimit(resource.RLIMIT_NOFILE, (number + 100,) * 2)
+    ends = []
+    for _ in range(number):
+        end = socket.socket()
+        end.setsockopt(socket.SOL_SOCKET, socket.SO_RCVBUF, 4096)
+        end.connect((host, 8080))
+        end.sendall(b"GET /large HTTP/1.0\r\n\r\n")
+        ends.append(end)
+    time.sleep(60)
+
+
 def killed_program(place):
     """The program is killed: its clients and servers are told by their kernels, or by the device that is gone."""
     client = place.start_client("curl", "-s", "-o", "/dev/null", "--max-time", "60", "--limit-rate", "100k",
@@ -341,5 +367,7 @@ if __name__ == "__main__":
         send_to_many(sys.argv[2:])
     elif "--forbidden" in sys.argv:
         forbidden(sys.argv[2], int(sys.argv[3]))
+    elif "--stall" in sys.argv:
+        stall(sys.argv[2], int(sys.argv[3]))
     elif "--many" in sys.argv:
         connect_many(sys.argv[2], int(sys.argv[3]), int(sys.argv[4]))

@@ -4,6 +4,7 @@
 #include "companions/segment.h"
 
 #include <errno.h>
+#include <malloc.h>
 #include <netinet/tcp.h>
 #include <stdlib.h>
 #include <string.h>
@@ -14,6 +15,10 @@
 static const struct timers_rules RULES = {
     .first_rto = 1000, .least_rto = 200, .greatest_rto = 60000, .granularity = 1, .time_wait = 2000,
     .r1 = 3, .r2 = 924600, .syn_limit = 180000, .syn_ack_limit = 60000};
+
+/* The allocator keeps what is freed for what comes next, which is quick, and the system is given back what is free once so many bytes were used
+   up: all at once takes less time than one by one. OWN_PAGES: what an end touches of its block before text comes. */
+enum { GIVEN_BACK = 4 << 20, OWN_PAGES = 8192 };
 
 /* A pair is its connection's first field. */
 static struct conn *conn_of(struct pair *pair) { return (struct conn *)(void *)pair; }
@@ -48,6 +53,13 @@ static void close_socket(int socket, int resets)
     close(socket);
 }
 
+/* About how much of its memory an end has touched: what went through its two buffers, and some pages for itself. */
+static uint64_t touched(const struct conn *conn)
+{
+    uint64_t most = 2 * (uint64_t)conn->capacity;
+    return OWN_PAGES + (conn->carried < most ? conn->carried : most);
+}
+
 /* An event of this turn may be its own, so that it stays where it is. */
 void drop(struct usernet *net, struct conn *conn, int resets)
 {
@@ -57,8 +69,10 @@ void drop(struct usernet *net, struct conn *conn, int resets)
     v6_hold(net, &conn->pair, -1);
     if (conn->socket >= 0)
         close_socket(conn->socket, resets);
-    if (conn->is_open)
+    if (conn->is_open) {
+        net->used_up += touched(conn);
         tcpcore_free(&conn->end);
+    }
     free(conn->block);
     conn->block = NULL, conn->is_open = 0, conn->socket = -1;
     conn->is_dropped = 1;
@@ -72,6 +86,10 @@ void free_dropped(struct usernet *net)
         struct conn *conn = net->dropped;
         net->dropped = conn->next;
         free(conn);
+    }
+    if (net->used_up >= GIVEN_BACK) {
+        malloc_trim(0);
+        net->used_up = 0;
     }
 }
 
@@ -255,7 +273,8 @@ static void open_conn(struct usernet *net, const struct pair *key, const struct 
 {
     uint32_t capacity = limits_admit(net, key);
     count(net, FULL, capacity == 0);
-    int host = capacity ? host_socket(net, key->server, key->server_port, SOCK_STREAM, 0) : -1, fault = errno;
+    union place place;
+    int host = capacity && host_place(net, key->server, key->server_port, &place) ? host_socket(net, &place, SOCK_STREAM, 0) : -1, fault = errno;
     struct conn *conn = host >= 0 ? conn_new(net, key, host, capacity) : NULL;
     if (conn) {
         conn->syn_length = (uint8_t)header_of(packet->segment);
@@ -274,23 +293,11 @@ static void open_conn(struct usernet *net, const struct pair *key, const struct 
     count(net, EXHAUSTED, capacity > 0);
 }
 
-/* Where this thread's share of the ports or of another limit is used up, the next thread may have some left; whether there is one that was
-   not asked, and heard of it. */
-static int pass_on(struct usernet *net, struct inward inward)
+void conn_publish(struct usernet *net, int socket, const struct published *published)
 {
-    struct shared *shared = net->shared;
-    if (++inward.turn >= shared->threads)
-        return 0;
-    return send(shared->all[(net->index + 1) % shared->threads]->to_inbox, &inward, sizeof inward, MSG_DONTWAIT) == sizeof inward;
-}
-
-void conn_publish(struct usernet *net, struct inward inward)
-{
-    struct pair key = {.client = inward.guest, .client_port = inward.guest_port, .server = net->gateway};
+    struct pair key = {.client = published->guest, .client_port = published->guest_port, .server = net->gateway};
     uint32_t capacity = ports_deal(net, &net->pairs, &key) ? limits_admit(net, &key) : 0;
-    if (capacity == 0 && pass_on(net, inward))
-        return;
-    struct conn *conn = capacity ? conn_new(net, &key, inward.socket, capacity) : NULL;
+    struct conn *conn = capacity ? conn_new(net, &key, socket, capacity) : NULL;
     count(net, FULL, capacity == 0);
     if (conn && make_end(net, conn) && watch(net, conn)) {
         tcpcore_connect(&conn->end, conn->pair.client, conn->pair.client_port);
@@ -302,7 +309,7 @@ void conn_publish(struct usernet *net, struct inward inward)
     if (conn)
         drop(net, conn, 1);
     else
-        close_socket(inward.socket, 1);
+        close_socket(socket, 1);
 }
 
 /* Whether a SYN may open anew what is in TIME-WAIT: its number lies behind all that came (RFC 9293, 3.10.7.4). */

@@ -2,7 +2,7 @@
  * fuzz: what a hostile client may put into the TUN device, at random: fuzz KIND PACKETS SEED [DEVICE]
  * It runs inside the namespace, where it writes so many packets to tun0 by a packet socket, with source addresses that the namespace's
  * kernel doesn't have, so that nobody but this program answers what comes back. KIND is a name of the table at the end, or "all".
- * Each packet is made here: what it shows is that usernet outlives it (fuzz.py looks at that). It prints how many were sent.
+ * Each packet is made here: what it shows is that usernet outlives it (hostile.py looks at that). It prints how many were sent.
  */
 #define _GNU_SOURCE
 #include "fuzz.h"
@@ -224,7 +224,7 @@ static void one_place(void)
     syn_of(flow);
 }
 
-/* A SYN and the reset behind it, also of many flows at once, which the device deals to other threads than the flows' own. */
+/* A SYN and the reset behind it, also of many flows at once. */
 static void resets(void)
 {
     struct flow *some[16];
@@ -335,7 +335,7 @@ static void endings(void)
 static const struct kind { const char *name; void (*make)(void); } KINDS[] = {
     {"bad_syns", bad_syns}, {"options", options}, {"half_open", half_open}, {"resets", resets}, {"scan", scan}, {"windows", windows}, {"storm", storm},
     {"noise", noise}, {"packets", packets}, {"endings", endings}, {"one_place", one_place},
-    {"unfit", unfit}, {"datagrams", datagrams}, {"messages", messages}, {"errors", errors}, {"pieces", pieces}, {"sixes", sixes}};
+    {"unfit", unfit}, {"datagrams", datagrams}, {"messages", messages}, {"errors", errors}, {"pieces", pieces}, {"sixes", sixes}, {"pieces6", pieces6}};
 enum { COUNT = sizeof KINDS / sizeof KINDS[0] };
 
 static int open_device(const char *name)

@@ -44,5 +44,6 @@ void messages(void);
 void errors(void);
 void pieces(void);
 void sixes(void);
+void pieces6(void);
 
 #endif

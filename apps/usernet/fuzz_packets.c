@@ -32,7 +32,8 @@ static void go_as(uint8_t *frame, tcpcore_addr to, size_t length, uint8_t protoc
     if (draw(4) == 0)
         front.flags = VIRTIO_NET_HDR_F_NEEDS_CSUM, front.csum_start = IP_HEADER, front.csum_offset = (uint16_t)sum_at;
     memcpy(frame, &front, TUN_HEADER);
-    put(frame, TUN_HEADER + ip_write_any(frame + TUN_HEADER, CLIENT, to, length, protocol));
+    ip_write_chosen(frame + TUN_HEADER, CLIENT, to, length, protocol, &(struct ip_choices){.ttl = (uint8_t)(draw(4) ? 0 : 1 + draw(4))});
+    put(frame, TRAINS_FRONT + length);
 }
 
 /* Datagrams from many ports, whole ones and such whose length or checksum is wrong. */
@@ -199,11 +200,58 @@ void sixes(void)
         *sum ^= 0x55;
     if (draw(8) == 0)
         front.flags = VIRTIO_NET_HDR_F_NEEDS_CSUM, front.csum_start = IP6_HEADER, front.csum_offset = (uint16_t)(sum - (at + extension));
-    ip6_write(packet, src, dst, extension + length, extension ? EXTENSIONS[draw(4)] : protocol, draw(2) ? IP6_ALL_HOPS : IP6_HOPS);
+    ip6_write(packet, src, dst, extension + length, extension ? EXTENSIONS[draw(4)] : protocol,
+              draw(2) ? IP6_ALL_HOPS : draw(4) ? IP6_HOPS : (uint8_t)draw(4));
     if (extension)
         memset(at, 0, extension), at[0] = protocol, at[1] = (uint8_t)(draw(8) ? extension / 8 - 1 : draw(256));
     if (draw(20) == 0)
         packet[draw(IP6_HEADER)] = (uint8_t)draw(256);
     memcpy(frame, &front, TUN_HEADER);
     put(frame, TUN_HEADER + IP6_HEADER + extension + length - (draw(16) ? 0 : draw((uint32_t)length)));
+}
+
+/* One piece of an IPv6 packet, whose place counts 8 bytes. */
+static void go_piece6(const struct ip6_packet *whole, size_t from, size_t length, uint32_t place, uint16_t id, int is_last)
+{
+    static uint8_t frame[TUN_HEADER + IP6_HEADER + 8 + 8000];
+    uint8_t *at = frame + TUN_HEADER + IP6_HEADER;
+    memset(frame, 0, TUN_HEADER);
+    memset(at, 0, 8);
+    at[0] = whole->protocol;
+    write16(at + 2, (uint16_t)(place << 3 | !is_last));
+    write16(at + 6, id);
+    memcpy(at + 8, whole->segment + from, length);
+    ip6_write(frame + TUN_HEADER, whole->src, whole->dst, 8 + length, 44, IP6_HOPS);
+    if (draw(50) == 0)
+        frame[TUN_HEADER + draw(IP6_HEADER + 8)] = (uint8_t)draw(256);
+    put(frame, TUN_HEADER + IP6_HEADER + 8 + length - (draw(50) ? 0 : draw((uint32_t)length + 8)));
+}
+
+/* The same as pieces of IPv6: in order, with some lost or doubled; or of few packets, anywhere. */
+void pieces6(void)
+{
+    static uint8_t text[8000];
+    static const uint8_t PROTOCOLS[] = {IP_UDP, IP_UDP, IP6_ICMP, IP_TCP, 44, 99};
+    struct ip6_packet whole = {{{0xfd, [14] = 2, [15] = (uint8_t)draw(4)}}, somewhere6(), PROTOCOLS[draw(sizeof PROTOCOLS)], 0, text, 0};
+    uint16_t id = (uint16_t)draw(draw(2) ? 4 : 65536);
+    int is_any = draw(2) == 0;
+    whole.length = is_any ? 8 * (size_t)draw(100) : UDP_HEADER + draw(sizeof text - UDP_HEADER);
+    for (size_t at = 0; at < whole.length; at++)
+        text[at] = (uint8_t)draw(256);
+    if (is_any) {
+        go_piece6(&whole, 0, whole.length, draw(4) ? draw(40) : draw(8192), id, draw(3) == 0);
+        return;
+    }
+    size_t each = 8 * (1 + (size_t)draw(150)), sum = whole.protocol == IP_UDP ? 6 : 2;
+    write16(text + 2, 8090);
+    write16(text + 4, (uint16_t)whole.length);
+    if (whole.protocol == IP6_ICMP)
+        text[0] = 128, text[1] = 0;
+    write16(text + sum, 0);
+    write16(text + sum, (uint16_t)~ip6_sum(&whole));
+    for (size_t from = 0; from < whole.length; from += each)
+        for (uint32_t left = draw(30) ? 1 : draw(3); left > 0; left--) {
+            size_t count = whole.length - from < each ? whole.length - from : each;
+            go_piece6(&whole, from, count, (uint32_t)from / 8, id, from + count == whole.length);
+        }
 }

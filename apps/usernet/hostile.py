@@ -1,5 +1,5 @@
-"""A hostile namespace, in which fuzz.c writes whatever it likes to the device of a usernet under sanitizers, with 1 and with 4 threads:
-hostile.py [PACKETS [SEED]], so many packets of all kinds for each of the two, 20,000 where none are named.
+"""A hostile namespace, in which fuzz.c writes whatever it likes to the device of a usernet under sanitizers:
+hostile.py [PACKETS [SEED]], so many packets of all kinds, 20,000 where none are named.
 
 What must hold: nothing is reported, nothing is left, the limits hold, whoever else is in the namespace is served, and nothing spins.
 """
@@ -23,7 +23,7 @@ from world import CLIENTS, GATEWAY, HERE, SERVERS, need
 
 # What --help tells, and the most descriptors that are for no connection.
 CONNECTIONS, HALF_OPEN, EACH, FLOWS, SPARE = 4096, 1024, 256, 1024, 64
-KINDS = "resets", "options", "half_open", "scan", "windows", "storm", "noise", "packets", "endings", "datagrams", "messages", "errors", "pieces", "sixes"
+KINDS = "resets", "options", "half_open", "scan", "windows", "storm", "noise", "packets", "endings", "datagrams", "messages", "errors", "pieces", "sixes", "pieces6"
 # Seconds within which a client is served, whatever else goes on.
 SOON = 10
 
@@ -100,7 +100,8 @@ def everything(place, packets, seed):
 
 def one_kind(place, kind, packets, seed):
     place.fuzz(kind, packets, seed)
-    place.keeps_limits()
+    found = place.keeps_limits()
+    need("some were put together", kind not in ("pieces", "pieces6") or found["joined"] > 0, True)
     place.served()
     place.keeps_descriptors()
     place.ends()
@@ -110,11 +111,12 @@ def words(place):
     """--help has each limit and what it is where nothing is named; what is no word, or no number behind one, is refused."""
     program = HERE / "out" / place.program_name
     text = subprocess.run([program, "--help"], stdout=subprocess.PIPE, text=True, check=True).stdout
-    limits = {"connections": CONNECTIONS, "half-open": HALF_OPEN, "half-open-each": EACH, "memory": 1024, "flows": FLOWS, "ports": 32768,
-              "strays": 1000, "quiet": 500}
+    limits = {"connections": CONNECTIONS, "half-open": HALF_OPEN, "memory": 1024, "flows": FLOWS, "strays": 1000}
     for name, number in limits.items():
         line = next((line for line in text.splitlines() if line.startswith(f"  --{name} ")), "")
         need(f"--{name}", f"({number})" in line, True)
+    need("what tests alone need", "--test-" in text, False)
+    for name in *limits, "test-fault", "test-half-open-each", "test-ports", "test-quiet":
         for wrong in ["0x1"], ["-1"], ["99999999999"], [""], []:
             done = subprocess.run([program, "--netns", CLIENTS, f"--{name}", *wrong], stderr=subprocess.PIPE, text=True)
             need(f"--{name} {wrong}", (done.returncode, f"--{name}" in done.stderr), (1, True))
@@ -127,7 +129,7 @@ def no_segments(place):
     sent = place.fuzz("bad_syns", 3000)
     found = place.counters()
     need("opened, refused, now", [found[name] for name in ("opened", "refused", "most")], [0, 0, 0])
-    need("malformed", found["malformed"] >= sent // 5, True)  # to another thread some are lost
+    need("malformed", found["malformed"] >= sent // 5, True)
     place.ends()
 
 
@@ -262,22 +264,21 @@ def stopped(place):
 
 def calls(place, packets, seed):
     """What runs with what words of the program."""
-    small = ["--connections", 50, "--half-open", 20, "--half-open-each", 10, "--memory", 4]
-    yield words, (), ["--threads", 1]
-    for threads in 1, 4:
-        told = ["--threads", threads, "--enable-ipv6"]
-        yield no_segments, (), told
-        for kind in KINDS:
-            yield one_kind, (kind, packets // 2 // len(KINDS), seed), [*told, "--no-offloads"]
-        yield everything, (packets // 2, seed), told
-        yield one_place, (), told
-        yield answers, (), told
-        yield small_limits, (2000,), [*told, *small]
-        yield api_noise, (packets // 4, seed), [*told, "--api-socket", place.folder / "api.sock"]
-        yield out_of_descriptors, (), told
-        yield out_of_ports, (), [*told, "--ports", 40]
-        yield no_device, (), told
-        yield stopped, (), told
+    small = ["--connections", 50, "--half-open", 20, "--test-half-open-each", 10, "--memory", 4]
+    told = ["--enable-ipv6"]
+    yield words, (), []
+    yield no_segments, (), told
+    for kind in KINDS:
+        yield one_kind, (kind, packets // 2 // len(KINDS), seed), [*told, "--no-offloads"]
+    yield everything, (packets // 2, seed), told
+    yield one_place, (), told
+    yield answers, (), told
+    yield small_limits, (2000,), [*told, *small]
+    yield api_noise, (packets // 4, seed), [*told, "--api-socket", place.folder / "api.sock"]
+    yield out_of_descriptors, (), told
+    yield out_of_ports, (), [*told, "--test-ports", 40]
+    yield no_device, (), told
+    yield stopped, (), told
 
 
 def main():
@@ -295,7 +296,7 @@ def main():
                 except BaseException:
                     print(place.reports())
                     raise
-            print(f"{' '.join([call.__name__, *map(str, rest[:1])]) + f', {more[1]} threads':<44} {time.monotonic() - began:6.1f} s", flush=True)
+            print(f"{' '.join([call.__name__, *map(str, rest[:1])]):<44} {time.monotonic() - began:6.1f} s", flush=True)
             count += 1
     print(f"usernet in a hostile namespace: {count} passed")
 

@@ -9,9 +9,14 @@
 
 /* fd00::2 leads to the host's loopback, fd00::3 to its name server, and fe80::2 is a neighbour's address for both. */
 const struct ip6_addr V6_GATEWAY = {{0xfd, [15] = 2}}, V6_RESOLVER = {{0xfd, [15] = 3}};
-static const struct ip6_addr V6_ROUTER = {{0xfe, 0x80, [15] = 2}};
+static const struct ip6_addr V6_ROUTER = {{0xfe, 0x80, [15] = 2}}, V6_OWN = {{0xfd, [14] = 1}};
+
+/* The fragment header (RFC 8200, 4.5). */
+enum { FRAGMENT = 44, FRAGMENT_HEADER = 8, MORE = 0x2000 };
 
 static int is_equal(const struct ip6_addr *one, const struct ip6_addr *other) { return memcmp(one, other, sizeof *one) == 0; }
+
+int v6_is_own(const struct ip6_addr *addr) { return is_equal(addr, &V6_GATEWAY) || is_equal(addr, &V6_RESOLVER) || is_equal(addr, &V6_OWN); }
 
 /* Where an address with this surrogate is, if it is anywhere. */
 static struct v6_entry *set_of(struct usernet *net, tcpcore_addr surrogate) { return net->v6 + (size_t)V6_WAYS * (read32(surrogate.byte) % V6_SETS); }
@@ -44,8 +49,7 @@ static struct v6_entry *place_for(struct usernet *net, const struct ip6_addr *ad
     return oldest;
 }
 
-/* Deals an address its surrogate; whether there is a place for it. */
-static int enter(struct usernet *net, const struct ip6_addr *addr, tcpcore_addr *surrogate)
+int v6_enter(struct usernet *net, const struct ip6_addr *addr, tcpcore_addr *surrogate)
 {
     *surrogate = ip6_surrogate(*addr, net->pairs.secret.secret);
     struct v6_entry *place = place_for(net, addr, *surrogate);
@@ -104,14 +108,41 @@ static int is_taken(struct usernet *net, const struct ip6_packet *packet, int vo
     return is_right;
 }
 
+/* A piece of a packet, whose header has nothing but the fragment header behind it, is put together with the others as one of IPv4 between the
+   surrogates. Whether the packet is whole. */
+static int join(struct usernet *net, const uint8_t *bytes, struct ip6_packet *packet)
+{
+    const uint8_t *at = bytes + IP6_HEADER, *whole;
+    size_t told = read16(bytes + 4), length;
+    if (bytes[6] != FRAGMENT || told < FRAGMENT_HEADER)
+        return 0;
+    struct ip_choices choices = {.may_be_cut = 1, .id = (uint16_t)(read16(at + 4) ^ read16(at + 6))};
+    memcpy(&packet->src, bytes + 8, sizeof packet->src);
+    memcpy(&packet->dst, bytes + 24, sizeof packet->dst);
+    tcpcore_addr src = ip6_surrogate(packet->src, net->pairs.secret.secret), dst = ip6_surrogate(packet->dst, net->pairs.secret.secret);
+    length = ip_write_chosen(net->text, src, dst, told - FRAGMENT_HEADER, at[0], &choices);
+    if (length == 0)
+        return 0;
+    write16(net->text + 6, (uint16_t)(read16(at + 2) >> 3 | (at[3] & 1 ? MORE : 0)));
+    memcpy(net->text + IP_HEADER, at + FRAGMENT_HEADER, told - FRAGMENT_HEADER);
+    if (fragments_add(&net->fragments, net->text, length, net->now, &whole, &length) != FRAGMENTS_WHOLE)
+        return 0;
+    count(net, JOINED, 1);
+    packet->protocol = whole[9], packet->hops = bytes[7];
+    packet->segment = whole + IP_HEADER, packet->length = length - IP_HEADER;
+    return 1;
+}
+
 int v6_read(struct usernet *net, const uint8_t *bytes, size_t length, int vouched, struct ip_packet *found, uint8_t *protocol)
 {
     struct ip6_packet *packet = &net->v6_packet;
     tcpcore_addr src, dst;
-    int answer = net->v6 ? ip6_read(bytes, length, packet) : IP6_BAD_VERSION;
-    count(net, PIECES, answer == IP6_FRAGMENT);
+    int answer = net->v6 ? ip6_read(bytes, length, packet) : IP6_BAD_VERSION, is_piece = answer == IP6_FRAGMENT;
+    count(net, PIECES, (uint64_t)is_piece);
+    if (is_piece ? !join(net, bytes, packet) : answer != IP6_DONE)
+        return 0;
     /* The second one may have taken the place of the first. */
-    if (answer != IP6_DONE || !is_taken(net, packet, vouched) || !enter(net, &packet->src, &src) || !enter(net, &packet->dst, &dst) || !v6_find(net, src))
+    if (!is_taken(net, packet, vouched && !is_piece) || !v6_enter(net, &packet->src, &src) || !v6_enter(net, &packet->dst, &dst) || !v6_find(net, src))
         return 0;
     *found = (struct ip_packet){src, dst, packet->segment, packet->length};
     *protocol = packet->protocol;

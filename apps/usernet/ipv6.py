@@ -41,9 +41,8 @@ def echo(end):
 @contextlib.contextmanager
 def servers(place):
     with contextlib.ExitStack() as stack:
-        if FAR6 not in place.server("ip", "-6", "address", "show", "dev", "lo"):
-            place.server("ip", "-6", "address", "add", f"{FAR6}/128", "dev", "lo")
-            place.server("ip", "-6", "route", "add", "unreachable", f"{SILENT6}/128")
+        place.server("ip", "-6", "address", "replace", f"{FAR6}/128", "dev", "lo")
+        place.server("ip", "-6", "route", "replace", "unreachable", f"{SILENT6}/128")
         place.start_server(stack, sys.executable, __file__, "--serve")
         yield
 
@@ -66,9 +65,9 @@ def all_of_it(place):
 
 
 def ipv6(place):
-    """By a TUN device and by a TAP device, with offloads and without, by one thread and by three."""
+    """By a TUN device and by a TAP device, with offloads and without."""
     with servers(place):
-        for *more, device in ("tun0",), ("--no-offloads", "tun0"), ("--threads", 3, "tun0"), ("-c", "tap0"), ("-c", "--no-offloads", "tap0"):
+        for *more, device in ("tun0",), ("--no-offloads", "tun0"), ("-c", "tap0"), ("-c", "--no-offloads", "tap0"):
             if device == "tap0":
                 place.client("ip", "tuntap", "add", "dev", "tap0", "mode", "tap")
             with place.usernet(0, "-6", *more, device):
@@ -111,7 +110,7 @@ def ipv6_boxed(place):
 def narrow_ipv6(place):
     """A download goes on where a router behind the namespace takes less than its first link, by what ICMPv6 says."""
     with servers(place):
-        for more in [], ["--no-offloads"], ["--threads", "3"]:
+        for more in [], ["--no-offloads"]:
             with place.usernet(0, "-6", *more), contextlib.ExitStack() as stack:
                 subprocess.run(["ip", "netns", "delete", INNER], stderr=subprocess.DEVNULL)
                 subprocess.run(["ip", "netns", "add", INNER], check=True)
@@ -127,6 +126,33 @@ def narrow_ipv6(place):
                 counters = place.counters()
                 need("errors, narrowed", [counters["errors"] > 0, 0 < counters["narrowed"] <= 6], [True, True])
     place.client("sysctl", "-qw", "net.ipv6.conf.all.forwarding=0")
+
+
+def cut_ipv6(place):
+    """Datagrams and echoes longer than the device's MTU are put together from their pieces; also where some are lost, or one comes twice."""
+    with servers(place):
+        for fault, *more in (0,), (0, "--no-offloads"), (1,), (0, "-c", "tap0"):
+            if "tap0" in more:
+                place.client("ip", "tuntap", "add", "dev", "tap0", "mode", "tap")
+            with place.usernet(fault, "-6", *more):
+                for host in GATEWAY6, FAR6:
+                    place.client(sys.executable, __file__, "--long", host)
+                    text = place.client("ping", "-6", "-c", "10", "-i", "0.05", "-W", "1", "-s", "20000", host)
+                    need(f"echoes of {host}", fault > 0 or " 10 received, 0% packet loss" in text, True)
+                counters = place.counters()
+                need("put together", counters["joined"] >= (80 if fault else 100) and counters["pieces"] >= 12 * 20, True)
+        place.client("ip", "link", "delete", "tap0")
+
+
+def send_long(host):
+    from clients import asked
+
+    for number in range(10):
+        with socket.socket(socket.AF_INET6, socket.SOCK_DGRAM) as end:
+            end.connect((host, 8090))
+            texts = [bytes((number * 7 + at * at) % 251 for at in range(length)) for length in (1453, 2953, 9000, 65507)]
+            for at, text in enumerate(texts):
+                need(f"a datagram of {len(text)}", asked(end, text, texts[:at]) == text, True)
 
 
 def get(host, length):
@@ -197,9 +223,9 @@ def ask(host):
         need("the address", end.recv(512)[-4:], socket.inet_aton(world.GATEWAY))
 
 
-IPV6 = [ipv6, without_own, ipv6_boxed, narrow_ipv6]
+IPV6 = [ipv6, without_own, ipv6_boxed, narrow_ipv6, cut_ipv6]
 
 if __name__ == "__main__":
     calls = {"--get": lambda host, length: get(host, int(length)), "--datagrams": send_datagrams, "--connecting": connecting, "--questions": ask,
-             "--serve": serve, "--never": never}
+             "--serve": serve, "--never": never, "--long": send_long}
     calls[sys.argv[1]](*sys.argv[2:])

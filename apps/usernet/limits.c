@@ -3,8 +3,8 @@
 
 #include <errno.h>
 
-/* PARTS: a connection's two directions take at most one of so many parts of the memory that is left to all threads, so that there is
-   some for the next one, with smaller windows. GRACE: for so many milliseconds a half-open connection makes way for no other: so each
+/* PARTS: a connection's two directions take at most one of so many parts of the memory that is left, so that there is some for the next
+   one, with smaller windows. GRACE: for so many milliseconds a half-open connection makes way for no other: so each
    has the time of a handshake, and a flood of SYNs costs the host no more than so many connections in that time. IDLE: the same of one
    that is established and of whose client nothing comes. */
 enum { PARTS = 1024, GRACE = 1000, IDLE = 10000 };
@@ -70,7 +70,7 @@ static uint32_t capacity_now(const struct usernet *net)
 {
     uint64_t left = net->limits.memory - net->reserved;
     uint32_t capacity = CAPACITY;
-    while (capacity > LEAST_CAPACITY && room_of(capacity) > left * net->shared->threads / PARTS)
+    while (capacity > LEAST_CAPACITY && room_of(capacity) > left / PARTS)
         capacity /= 2;
     return room_of(capacity) <= left ? capacity : 0;
 }

@@ -1,5 +1,5 @@
-/* What each thread does in turn (see usernet.h): packets of the device, of the inbox, sockets, times. C over the companions of
-   tcpcore.h, tested and not proved. */
+/* What is done in turn (see usernet.h): packets of the device, sockets, times. C over the companions of tcpcore.h, tested and not
+   proved. */
 #define _GNU_SOURCE
 #include "usernet.h"
 #include "companions/segment.h"
@@ -10,35 +10,16 @@
 #include <string.h>
 #include <sys/epoll.h>
 #include <sys/socket.h>
-#include <sys/uio.h>
 #include <time.h>
 #include <unistd.h>
 
 enum { EVENTS = 256, BATCH = 128 };
-
-/* What is passed from thread to thread is a frame with a packet, an inward connection, or nothing, by its length. */
-_Static_assert(sizeof(struct inward) < IP_HEADER, "a frame has more bytes than an inward connection");
 
 static uint64_t milliseconds(void)
 {
     struct timespec time;
     clock_gettime(CLOCK_MONOTONIC, &time);
     return (uint64_t)time.tv_sec * 1000 + (uint64_t)time.tv_nsec / 1000000;
-}
-
-/* The middle bits: the buckets go by the upper ones, the initial sequence number by the lower ones. The gateway's ports for what is carried
-   in are dealt one by one, so that where there are as many of them as threads each has its own. */
-uint32_t owner_of(struct usernet *net, const struct pair *pair)
-{
-    uint32_t threads = net->shared->threads, turn = pair->server_port - (uint32_t)FIRST_PORT;
-    struct pair key = *pair;
-    if (threads == 1)
-        return 0;
-    if (turn < net->limits.ports && memcmp(&key.server, &net->gateway, sizeof key.server) == 0)
-        key.server_port = 0;
-    else
-        turn = 0;
-    return ((uint32_t)(pairs_secret(&net->pairs, &key) >> 20 & 0xfff) + turn) % threads;
 }
 
 static void to_device(const void *packet, size_t length, void *context)
@@ -117,19 +98,6 @@ void send_train(struct usernet *net, tcpcore_addr from, const struct tcpcore_tra
     pass_down(net, frame, trains_write(frame, from, train));
 }
 
-/* What decides which thread has a packet: its addresses and ports, or of an echo its identifier; of an error those of the packet that met
-   it, the other way round. */
-static struct pair key_of(struct usernet *net, const struct ip_packet *packet, uint8_t protocol)
-{
-    const uint8_t *bytes = packet->segment;
-    struct icmp_error error;
-    if (protocol == IP6_ICMP ? v6_read_error(net, &error) : protocol == IP_ICMP && icmp_read_error(packet, &error))
-        return (struct pair){error.dst, error.src, error.dst_port, error.src_port, NULL};
-    if (protocol == IP_ICMP || protocol == IP6_ICMP)
-        return (struct pair){packet->src, packet->dst, icmp_id(bytes), 0, NULL};
-    return (struct pair){packet->src, packet->dst, read16(bytes), read16(bytes + 2), NULL};
-}
-
 static void take_packet(struct usernet *net, const struct ip_packet *packet, uint8_t protocol, int vouched)
 {
     if (protocol == IP_UDP)
@@ -155,18 +123,18 @@ static const uint8_t *without_ethernet(struct usernet *net, const uint8_t *bytes
     return bytes + ETHERNET_HEADER;
 }
 
-/* A packet, and what the device has in front of it. */
+/* A packet that came. */
 struct arrival {
-    const uint8_t *front, *bytes;
-    size_t front_length, length;
+    const uint8_t *bytes;
+    size_t length;
     int vouched; /* whether its checksum needs no look */
 };
 
-/* Reads the packet of an arrival; one that was cut is read once its last piece has come, and has nothing in front that says anything of it but
-   its Ethernet header. Whether there is one. */
+/* Reads the packet of an arrival; one that was cut is read once its last piece has come. Whether there is one. */
 static int read_packet(struct usernet *net, struct arrival *arrival, struct ip_packet *found, uint8_t *protocol)
 {
     struct ip_net to = {.prefix = 32};
+    net->hops = arrival->bytes[arrival->bytes[0] >> 4 == 6 ? 7 : 8];
     if (arrival->bytes[0] >> 4 == 6) {
         int is_there = v6_read(net, arrival->bytes, arrival->length, arrival->vouched, found, protocol);
         arrival->vouched = 1;
@@ -182,25 +150,16 @@ static int read_packet(struct usernet *net, struct arrival *arrival, struct ip_p
     if (fragments_add(&net->fragments, arrival->bytes, arrival->length, net->now, &arrival->bytes, &arrival->length) != FRAGMENTS_WHOLE)
         return 0;
     count(net, JOINED, 1);
-    memcpy(net->front, arrival->front, arrival->front_length);
-    memset(net->front, 0, net->offloads ? TUN_HEADER : 0);
-    arrival->front = net->front, arrival->vouched = 0;
+    arrival->vouched = 0;
     return ip_read_any(to, arrival->bytes, arrival->length, found, protocol) == IP_DONE;
 }
 
-/* Another thread gets the packet as if the device had given it. What it can't take is lost, too. */
-static void pass_over(const struct usernet *other, const struct arrival *arrival)
-{
-    struct iovec pieces[2] = {{(void *)(uintptr_t)arrival->front, arrival->front_length}, {(void *)(uintptr_t)arrival->bytes, arrival->length}};
-    sendmsg(other->to_inbox, &(struct msghdr){.msg_iov = pieces, .msg_iovlen = 2}, MSG_DONTWAIT);
-}
-
-/* A frame of the device: a packet of this thread's connections and relays, or of another one's, which gets the frame. What goes to many
-   hosts, or by broadcast, has no host behind it, and is answered by nobody (RFC 1122, 3.2.2; RFC 9293, 3.9.2.3). */
+/* A frame of the device. What goes to many hosts, or by broadcast, has no host behind it, and is answered by nobody (RFC 1122, 3.2.2; RFC
+   9293, 3.9.2.3). */
 static void from_device(const void *frame, size_t all, void *context)
 {
     struct usernet *net = context;
-    struct arrival arrival = {.front = frame, .bytes = frame, .length = all};
+    struct arrival arrival = {.bytes = frame, .length = all};
     struct ip_packet found;
     uint8_t protocol;
     if (net->offloads)
@@ -209,29 +168,12 @@ static void from_device(const void *frame, size_t all, void *context)
         arrival.bytes = without_ethernet(net, arrival.bytes, &arrival.length);
     if (!arrival.bytes || arrival.length < IP_HEADER)
         return;
-    arrival.front_length = (size_t)(arrival.bytes - arrival.front);
     if (!read_packet(net, &arrival, &found, &protocol) || (protocol != IP_TCP && protocol != IP_UDP && protocol != IP_ICMP && protocol != IP6_ICMP))
         return;
-    if (found.length < (protocol == IP_TCP ? SEGMENT_HEADER : UDP_HEADER)) {
+    if (found.length < (protocol == IP_TCP ? SEGMENT_HEADER : UDP_HEADER))
         count(net, MALFORMED, 1);
-        return;
-    }
-    struct pair key = key_of(net, &found, protocol);
-    uint32_t owner = owner_of(net, &key);
-    if (owner == net->index) {
+    else
         take_packet(net, &found, protocol, arrival.vouched);
-    } else {
-        pass_over(net->shared->all[owner], &arrival);
-    }
-}
-
-int stop_all(struct shared *shared, int status)
-{
-    int none = 0, is_first = atomic_compare_exchange_strong(&shared->status, &none, status);
-    shared->stops = 1;
-    for (uint32_t at = 0; at < shared->threads; at++)
-        send(shared->all[at]->to_inbox, "", 0, MSG_DONTWAIT); /* whose inbox is full is awake */
-    return is_first;
 }
 
 /* Whether a read that answered this says that there is no device any more: somebody may delete it from inside of the namespace. */
@@ -249,22 +191,6 @@ static void read_device(struct usernet *net)
             return;
         count(net, ARRIVED, 1);
         faults_pass(&net->up, net->frame, (size_t)got, from_device, net);
-    }
-}
-
-static void read_inbox(struct usernet *net)
-{
-    for (int at = 0; at < BATCH; at++) {
-        ssize_t got = recv(net->inbox, net->frame, sizeof net->frame, MSG_DONTWAIT);
-        struct inward inward;
-        if (got <= 0)
-            return;
-        if (got != sizeof inward) {
-            from_device(net->frame, (size_t)got, net);
-            continue;
-        }
-        memcpy(&inward, net->frame, sizeof inward);
-        conn_publish(net, inward);
     }
 }
 
@@ -297,35 +223,27 @@ static void take_event(struct usernet *net, const struct epoll_event *event, voi
         read_device(net);
     else if (event->data.u64 == SIGNALS)
         signalled();
-    else if (event->data.u64 == INBOX)
-        read_inbox(net);
     else if (event->data.u64 == EXITS)
-        stop_all(net->shared, 0);
+        net->stops = 1;
     else if (event->data.u64 & 1)
-        relays_readable(net, (struct relay *)(uintptr_t)(event->data.u64 - 1));
+        relays_readable(net, (struct relay *)(uintptr_t)(event->data.u64 - 1), event->events);
     else
         take_socket(net, event->data.ptr, event->events);
-}
-
-static void report(struct usernet *net, enum counter which, uint64_t number)
-{
-    atomic_store_explicit(&net->counters[which], number, memory_order_relaxed);
 }
 
 /* What there is now, for whoever asks. */
 static void report_now(struct usernet *net)
 {
-    report(net, NOW, net->pairs.used);
-    report(net, MOST, net->pairs.most);
-    report(net, HALF_OPEN, net->half_open.count);
-    report(net, RESERVED, net->reserved);
-    report(net, FLOWS_NOW, net->relays.count + net->brief.count);
+    net->counters[NOW] = net->pairs.used;
+    net->counters[MOST] = net->pairs.most;
+    net->counters[HALF_OPEN] = net->half_open.count;
+    net->counters[RESERVED] = net->reserved;
+    net->counters[FLOWS_NOW] = net->relays.count + net->brief.count;
 }
 
 int loop_init(struct usernet *net, const uint8_t secret[16])
 {
     const tcpcore_config config = {.mss = 64, .send_capacity = 1, .recv_capacity = 1, .limit = 1};
-    int pair[2];
     net->events = epoll_create1(EPOLL_CLOEXEC);
     net->now = milliseconds();
     wheel_init(&net->wheel, net->now);
@@ -334,26 +252,21 @@ int loop_init(struct usernet *net, const uint8_t secret[16])
     pairs_init(&net->echoes, net->echo_buckets, FLOW_BUCKETS, secret);
     fragments_init(&net->fragments, net->cut, CUT);
     pairs_init(&net->inward, net->inward_buckets, FLOW_BUCKETS, secret);
-    if (net->events < 0 || socketpair(AF_UNIX, SOCK_DGRAM | SOCK_CLOEXEC, 0, pair) != 0 ||
-        tcpcore_new(&net->reader, &config, net->reader_block, sizeof net->reader_block) != TCPCORE_DONE)
-        return 0;
-    net->inbox = pair[0], net->to_inbox = pair[1];
-    return ports_listen(net) && watch(net, net->device, EPOLLIN, DEVICE) && watch(net, net->inbox, EPOLLIN, INBOX) &&
-           (net->index > 0 || api_watch(net));
+    return net->events >= 0 && tcpcore_new(&net->reader, &config, net->reader_block, sizeof net->reader_block) == TCPCORE_DONE &&
+           ports_listen(net) && watch(net, net->device, EPOLLIN, DEVICE) && api_watch(net);
 }
 
 /* What was found together, then all that is awake; what was dropped on the way is freed behind both. */
 static void loop_turn(struct usernet *net, void (*signalled)(void))
 {
     struct epoll_event events[EVENTS];
-    int wait = wheel_wait(&net->wheel, net->now), found = epoll_wait(net->events, events, EVENTS, net->index > 0 ? wait : api_wait(wait));
+    int wait = wheel_wait(&net->wheel, net->now), found = epoll_wait(net->events, events, EVENTS, api_wait(wait));
     net->now = milliseconds();
     if (net->listens_at && net->now >= net->listens_at)
         ports_listen(net);
     for (int at = 0; at < found; at++)
         take_event(net, &events[at], signalled);
-    if (net->index == 0)
-        api_expire(net);
+    api_expire(net);
     relays_expire(net);
     turn_all(net);
     free_dropped(net);
@@ -367,14 +280,15 @@ void loop_run(struct usernet *net, int signals, int exits, void (*signalled)(voi
         watch(net, signals, EPOLLIN, SIGNALS);
     if (exits >= 0 && !watch(net, exits, 0, EXITS))
         perror("--exit-fd");
-    while (!net->shared->stops) {
+    while (!net->stops) {
         loop_turn(net, signalled);
-        if (net->is_gone && stop_all(net->shared, 1))
+        if (net->is_gone && !net->stops) {
+            net->stops = net->status = 1;
             fputs("usernet: the device is gone\n", stderr);
+        }
     }
     end_all(net);
     relays_end(net);
-    if (net->index == 0)
-        api_end();
+    api_end();
     report_now(net);
 }

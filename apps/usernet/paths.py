@@ -3,6 +3,7 @@
 import contextlib
 import errno
 import json
+import os
 import socket
 import struct
 import subprocess
@@ -10,9 +11,10 @@ import sys
 
 import clients
 import publishing
-from world import CLIENTS, FAR, GATEWAY, Child, need
+from world import CLIENTS, FAR, GATEWAY, SERVERS, Child, need
 
 INNER, OUTSIDE, INSIDE = "usernet-inner", "10.99.0.1", "10.99.0.2"
+ROUTER, END, BEHIND = "usernet-router", "usernet-end", ("100.64.2.3", "2001:db8:b::3")
 
 
 def connecting(host, port, wanted):
@@ -25,11 +27,10 @@ def connecting(host, port, wanted):
 def no_way(place):
     """A host to which there is no way, and one that isn't there, are told apart from one that refuses."""
     place.server("ip", "route", "add", "unreachable", "198.51.100.9")
-    for threads in 1, 3:
-        with place.usernet(0, "--threads", threads):
-            for host, wanted in ("203.0.113.1", "ENETUNREACH"), ("198.51.100.9", "EHOSTUNREACH"), (GATEWAY, "ECONNREFUSED"):
-                place.client(sys.executable, __file__, "--connecting", host, "9", wanted)
-            need("unreachable", place.counters()["unreachable"] >= 2, True)
+    with place.usernet(0):
+        for host, wanted in ("203.0.113.1", "ENETUNREACH"), ("198.51.100.9", "EHOSTUNREACH"), (GATEWAY, "ECONNREFUSED"):
+            place.client(sys.executable, __file__, "--connecting", host, "9", wanted)
+        need("unreachable", place.counters()["unreachable"] >= 2, True)
     place.server("ip", "route", "delete", "unreachable", "198.51.100.9")
 
 
@@ -53,7 +54,7 @@ def inner_network(place, mtu):
 def narrow(place):
     """A download goes on where the path is narrower than the first link, also narrower than any error may make a packet; and one past it
     by another way is as before."""
-    for more in [], ["--no-offloads"], ["--threads", "3"]:
+    for more in [], ["--no-offloads"]:
         for mtu in 1200, 500:
             with place.usernet(0, *more), inner_network(place, mtu):
                 words = ["curl", "-sf", "--max-time", "60", f"http://{GATEWAY}:8081/1000000"]
@@ -80,6 +81,46 @@ def carried_further(place):
                 place.server(sys.executable, __file__, f"--{wanted}", "7200")
                 place.run(INNER, ["ip", "link", "set", "inside", "up"])
                 place.run(INNER, ["ip", "route", "replace", "default", "via", OUTSIDE])
+
+
+@contextlib.contextmanager
+def routed(place):
+    """A host behind a router of the host's: by IPv4 and by IPv6."""
+    spaces = {ROUTER: [("near", "100.64.1.2", "2001:db8:a::2"), ("far", "100.64.2.2", "2001:db8:b::2")], END: [("end", *BEHIND)]}
+    with contextlib.ExitStack() as stack:
+        for space in spaces:
+            subprocess.run(["ip", "netns", "delete", space], stderr=subprocess.DEVNULL)
+            subprocess.run(["ip", "netns", "add", space], check=True)
+            stack.callback(subprocess.run, ["ip", "netns", "delete", space])
+        place.server("ip", "link", "add", "way", "type", "veth", "peer", "name", "near", "netns", ROUTER)
+        place.run(ROUTER, ["ip", "link", "add", "far", "type", "veth", "peer", "name", "end", "netns", END])
+        for space, links in (SERVERS, [("way", "100.64.1.1", "2001:db8:a::1")]), *spaces.items():
+            for device, v4, v6 in links:
+                place.run(space, ["ip", "address", "add", f"{v4}/24", "dev", device])
+                place.run(space, ["ip", "address", "add", f"{v6}/64", "dev", device, "nodad"])
+                place.run(space, ["ip", "link", "set", device, "up"])
+        place.run(ROUTER, ["sysctl", "-qw", "net.ipv4.ip_forward=1", "net.ipv6.conf.all.forwarding=1"])
+        for space, *routes in (SERVERS, ("100.64.2.0/24", "100.64.1.2"), ("2001:db8:b::/64", "2001:db8:a::2")), \
+                (END, ("100.64.1.0/24", "100.64.2.2"), ("2001:db8:a::/64", "2001:db8:b::2")):
+            for to, via in routes:
+                place.run(space, ["ip", "route", "add", to, "via", via])
+        yield
+
+
+def traced(place):
+    """The routers on the way to a host are seen, the gateway first, by datagrams and by echoes; others' packets still come as far as before."""
+    boxes = [] if "WITHOUT_SECCOMP" in os.environ else ["--enable-sandbox", "--enable-seccomp"]
+    with routed(place), place.usernet(0, "-6", *boxes):
+        for by in [], ["-I"]:
+            for host, *wanted in (BEHIND[0], GATEWAY, "100.64.1.2", BEHIND[0]), (BEHIND[1], "fd00::2", "2001:db8:a::2", BEHIND[1]):
+                text = place.client("traceroute", "-n", "-q", "1", "-w", "5", "-m", "5", *by, host)
+                need("the way", [line.split()[1] for line in text.splitlines()[1:]], wanted)
+                text = place.client("ping", "-n", "-c", "2", "-i", "0.1", "-W", "5", host)
+                need("echoes", " 2 received" in text, True)
+        # An error of a router's is about the echo that met it.
+        words = place.words(CLIENTS, ["ping", "-n", "-c", "3", "-i", "0.1", "-W", "5", "-t", "2", BEHIND[0]])
+        text = subprocess.run(words, stdout=subprocess.PIPE, text=True).stdout
+        need("expired", [f"From 100.64.1.2 icmp_seq={number} Time to live exceeded" in text for number in (1, 2, 3)], [True] * 3)
 
 
 def listens_to_all(place):
@@ -114,8 +155,8 @@ def connected(port, seconds):
 
 
 def cut(place):
-    """Datagrams and echoes longer than the device's MTU are put together from their pieces, whichever thread has them, and some are lost."""
-    for fault, *more in (0,), (0, "--no-offloads"), (0, "--threads", 3), (1, "--threads", 3), (0, "-c", "tap0"):
+    """Datagrams and echoes longer than the device's MTU are put together from their pieces, also where some are lost."""
+    for fault, *more in (0,), (0, "--no-offloads"), (1,), (0, "-c", "tap0"):
         if "tap0" in more:
             place.client("ip", "tuntap", "add", "dev", "tap0", "mode", "tap")
         with place.usernet(fault, *more):
@@ -124,11 +165,12 @@ def cut(place):
                 text = place.client("ping", "-c", "10", "-i", "0.05", "-W", "1", "-s", "20000", host)
                 need(f"echoes of {host}", fault > 0 or " 10 received, 0% packet loss" in text, True)
             counters = place.counters()
-            need("put together", counters["joined"] >= 100 and counters["pieces"] >= 12 * 20, True)
+            # Each datagram was put together once at least, and each echo where none of its pieces was lost.
+            need("put together", counters["joined"] >= (80 if fault else 100) and counters["pieces"] >= 12 * 20, True)
     place.client("ip", "link", "delete", "tap0")
 
 
-PATHS = [no_way, narrow, carried_further, cut]
+PATHS = [no_way, narrow, carried_further, cut, traced]
 
 if __name__ == "__main__":
     word, *words = sys.argv[1:]

@@ -1,5 +1,5 @@
-"""Published ports: by the API's socket in slirp4netns's words, of connections and of datagrams, and by threads that share few ports of the
-gateway's. Each test is a function of the place."""
+"""Published ports: by the API's socket in slirp4netns's words, of connections and of datagrams, and where the gateway has few ports. Each test
+is a function of the place."""
 
 import asyncio
 import concurrent.futures
@@ -106,8 +106,8 @@ def serve_page(place):
     return place.start_client(sys.executable, "-m", "http.server", "8000", "--directory", str(place.folder))
 
 
-def has_page(place, port):
-    return place.server_status("curl", "-sf", "-o", "/dev/null", "--max-time", "20", f"http://127.0.0.1:{port}/small") == 0
+def has_page(place, port, host="127.0.0.1"):
+    return place.server_status("curl", "-sf", "-o", "/dev/null", "--max-time", "20", f"http://{host}:{port}/small") == 0
 
 
 def carried_in(place, path):
@@ -125,12 +125,12 @@ def carried_in(place, path):
         need("the page again", has_page(place, 7100), True)
 
 
-def send_datagrams(port, number):
+def send_datagrams(port, number, host="127.0.0.1"):
     """So many clients, each of which gets its own answers and no other one's."""
-    ends = [socket.socket(socket.AF_INET, socket.SOCK_DGRAM) for _ in range(number)]
+    ends = [socket.socket(socket.AF_INET6 if ":" in host else socket.AF_INET, socket.SOCK_DGRAM) for _ in range(number)]
     for at, end in enumerate(ends):
         end.settimeout(2)
-        end.connect(("127.0.0.1", port))
+        end.connect((host, port))
         end.send(b"%d" % at)
     for turn in range(3):
         for at, end in enumerate(ends):
@@ -188,23 +188,40 @@ def api_place(place):
 
 def api_boxed(place):
     """With sandbox and filter, ports below 1024 among them: by the one right that is kept for it."""
-    for threads in 1, 3:
-        with with_api(place, "--enable-sandbox", "--enable-seccomp", "--threads", threads) as path:
-            with open(f"/proc/{place.program.pid}/status") as file:
-                status = dict(line.rstrip("\n").split(":\t") for line in file if ":\t" in line)
-            for name in "CapPrm", "CapEff", "CapBnd":
-                need(name, int(status[name], 16), 1 << 10)
-            with serve_page(place), place.start_client(sys.executable, __file__, "--echo", "8090"):
-                need("port 80", "return" in json.loads(ask(path, call("add_hostfwd", FIRST | {"host_port": 80}))), True)
-                need("datagrams", "return" in json.loads(ask(path, call("add_hostfwd", SECOND))), True)
-                place.until(lambda: has_page(place, 80))
-                place.until(lambda: place.server_status(sys.executable, __file__, "--datagrams", "7100", "30") == 0)
-            need("it runs", place.program.poll(), None)
+    with with_api(place, "--enable-sandbox", "--enable-seccomp") as path:
+        with open(f"/proc/{place.program.pid}/status") as file:
+            status = dict(line.rstrip("\n").split(":\t") for line in file if ":\t" in line)
+        for name in "CapPrm", "CapEff", "CapBnd":
+            need(name, int(status[name], 16), 1 << 10)
+        with serve_page(place), place.start_client(sys.executable, __file__, "--echo", "8090"):
+            need("port 80", "return" in json.loads(ask(path, call("add_hostfwd", FIRST | {"host_port": 80}))), True)
+            need("datagrams", "return" in json.loads(ask(path, call("add_hostfwd", SECOND))), True)
+            place.until(lambda: has_page(place, 80))
+            place.until(lambda: place.server_status(sys.executable, __file__, "--datagrams", "7100", "30") == 0)
+        need("it runs", place.program.poll(), None)
+
+
+def published_ipv6(place):
+    """Ports of IPv6 lead into the namespace, too, beside those of IPv4 with the same number: by the program's words and by the API's."""
+    words = ["--publish", "[::1]:7300:8000", "--publish", "[::1]:7301:8090/udp", "--publish", "127.0.0.1:7300:8000"]
+    with with_api(place) as path:
+        for host in "::1", "::", "0.0.0.0", "127.0.0.1":
+            need(host, "return" in json.loads(ask(path, call("add_hostfwd", FIRST | {"host_addr": host, "host_port": 7302 + ("1" in host)}))), True)
+        need("a second time", ask(path, call("add_hostfwd", FIRST | {"host_addr": "::1", "host_port": 7303})), fault("add_hostfwd: slirp_add_hostfwd failed"))
+        need("listed", [entry["host_addr"] for entry in json.loads(ask(path, call("list_hostfwd")))["entries"]], ["::1", "::", "0.0.0.0", "127.0.0.1"])
+        with serve_page(place):
+            for host, port in ("[::1]", 7303), ("[::1]", 7302), ("127.0.0.1", 7302), ("127.0.0.1", 7303):
+                place.until(lambda host=host, port=port: has_page(place, port, host))
+    with place.usernet(0, *words), serve_page(place), place.start_client(sys.executable, __file__, "--echo", "8090"):
+        for host in "[::1]", "127.0.0.1":
+            place.until(lambda host=host: has_page(place, 7300, host))
+        place.until(lambda: place.server_status(sys.executable, __file__, "--datagrams6", "7301", "30") == 0)
+        need("flows", place.counters()["flows_now"] >= 30, True)
 
 
 def few_ports(place):
-    """As many ports of the gateway's as threads carry so many connections at once, whichever thread accepts them, and then no more."""
-    with place.usernet(0, "--threads", 4, "--ports", 4), place.start_client(sys.executable, __file__, "--accept", "8000"):
+    """Four ports of the gateway's carry four connections at once, again and again, and no more."""
+    with place.usernet(0, "--test-ports", 4), place.start_client(sys.executable, __file__, "--accept", "8000"):
         place.until(lambda: ":8000 " in place.client("ss", "-Htln"))
         for _ in range(3):
             place.until(lambda: place.counters()["now"] == 0)
@@ -263,8 +280,8 @@ def noise(path, seed, number):
             need("removed", ask(path, call("remove_hostfwd", {"id": published})), plain({"return": {}}))
 
 
-PUBLISHING = [api, api_callers, api_place, few_ports] + ([] if "WITHOUT_SECCOMP" in os.environ else [api_boxed])
+PUBLISHING = [api, api_callers, api_place, published_ipv6, few_ports] + ([] if "WITHOUT_SECCOMP" in os.environ else [api_boxed])
 
 if __name__ == "__main__":
-    calls = {"--echo": echo, "--datagrams": send_datagrams, "--hold": hold, "--accept": accept}
+    calls = {"--echo": echo, "--datagrams": send_datagrams, "--datagrams6": lambda port, number: send_datagrams(port, number, "::1"), "--hold": hold, "--accept": accept}
     calls[sys.argv[1]](*map(int, sys.argv[2:]))

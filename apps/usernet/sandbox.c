@@ -8,6 +8,7 @@
 #include <sched.h>
 #include <stdio.h>
 #include <string.h>
+#include <sys/ioctl.h>
 #include <sys/mount.h>
 #include <sys/prctl.h>
 #include <sys/stat.h>
@@ -79,7 +80,7 @@ int sandbox_enter(const struct words *options)
 }
 
 #ifdef HAS_SECCOMP
-/* What the loop calls, and what its memory, its threads and its end take. */
+/* What the loop calls, and what its memory and its end take. */
 static const int CALLS[] = {
     SCMP_SYS(epoll_wait), SCMP_SYS(epoll_pwait), SCMP_SYS(epoll_pwait2), SCMP_SYS(epoll_ctl), SCMP_SYS(read), SCMP_SYS(write), SCMP_SYS(close),
     SCMP_SYS(recvfrom), SCMP_SYS(recvmsg), SCMP_SYS(sendto), SCMP_SYS(sendmsg), SCMP_SYS(accept4), SCMP_SYS(connect), SCMP_SYS(bind),
@@ -88,24 +89,25 @@ static const int CALLS[] = {
     SCMP_SYS(rt_sigprocmask), SCMP_SYS(rt_sigreturn), SCMP_SYS(restart_syscall), SCMP_SYS(sched_yield), SCMP_SYS(sched_getaffinity), SCMP_SYS(set_robust_list),
     SCMP_SYS(rseq), SCMP_SYS(exit), SCMP_SYS(exit_group)};
 
-/* Beside them sockets of IPv4, and of IPv6 where that is there, and files that are only read. Whatever else is called ends the program. */
-int sandbox_filter(int has_ipv6)
+/* Beside them sockets of IPv4 and IPv6 (the host's name server may have either), files that are only read, and the number of an interface,
+   which a name server's address may name. Whatever else is called ends the program. */
+int sandbox_filter(void)
 {
     scmp_filter_ctx filter = seccomp_init(SCMP_ACT_KILL_PROCESS);
     int fault = !filter || seccomp_attr_set(filter, SCMP_FLTATR_CTL_TSYNC, 1) != 0;
     for (size_t at = 0; !fault && at < sizeof CALLS / sizeof CALLS[0]; at++)
         fault = seccomp_rule_add(filter, SCMP_ACT_ALLOW, CALLS[at], 0) != 0;
     fault = fault || seccomp_rule_add(filter, SCMP_ACT_ALLOW, SCMP_SYS(socket), 1, SCMP_A0(SCMP_CMP_EQ, AF_INET)) != 0 ||
-            (has_ipv6 && seccomp_rule_add(filter, SCMP_ACT_ALLOW, SCMP_SYS(socket), 1, SCMP_A0(SCMP_CMP_EQ, AF_INET6)) != 0) ||
+            seccomp_rule_add(filter, SCMP_ACT_ALLOW, SCMP_SYS(socket), 1, SCMP_A0(SCMP_CMP_EQ, AF_INET6)) != 0 ||
+            seccomp_rule_add(filter, SCMP_ACT_ALLOW, SCMP_SYS(ioctl), 1, SCMP_A1(SCMP_CMP_EQ, SIOCGIFINDEX)) != 0 ||
             seccomp_rule_add(filter, SCMP_ACT_ALLOW, SCMP_SYS(openat), 1, SCMP_A2(SCMP_CMP_MASKED_EQ, O_ACCMODE | O_CREAT, O_RDONLY)) != 0 ||
             seccomp_load(filter) != 0;
     seccomp_release(filter);
     return !fault || fails("--enable-seccomp");
 }
 #else
-int sandbox_filter(int has_ipv6)
+int sandbox_filter(void)
 {
-    (void)has_ipv6;
     fputs("usernet: --enable-seccomp: built without libseccomp\n", stderr);
     return 0;
 }

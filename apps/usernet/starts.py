@@ -56,28 +56,25 @@ def tapped(place):
 
 def boxed(place):
     """With its sandbox and its filter all goes on as before; it has no rights, and sees no files but those of two folders."""
-    for threads in 1, 3:
-        with place.usernet(0, "--enable-sandbox", "--enable-seccomp", "--threads", threads):
-            status = dict(line.split(":\t") for line in pathlib.Path(f"/proc/{place.program.pid}/status").read_text().splitlines() if ":\t" in line)
-            for name in "CapPrm", "CapEff", "CapBnd":
-                need(name, int(status[name], 16), 0)
-            need("filter", (status["NoNewPrivs"], status["Seccomp"]), ("1", "2"))
-            need("its root", sorted(os.listdir(f"/proc/{place.program.pid}/root")), ["etc", "run"])
-            mounts = [line.split()[4:6] for line in pathlib.Path(f"/proc/{place.program.pid}/mountinfo").read_text().splitlines()]
-            need("what is mounted below a folder", len(mounts) > 3, True)
-            need("what can be written to", [folder for folder, how in mounts if "ro" not in how.split(",")], [])
-            for call in download, upload, iperf, by_name, datagrams, pings, refused, published, half_close, killed_clients, counted_again:
-                call(place)
-            place.program.send_signal(signal.SIGTERM)
-            need("status", place.program.wait(10), 0)
+    with place.usernet(0, "--enable-sandbox", "--enable-seccomp"):
+        status = dict(line.split(":\t") for line in pathlib.Path(f"/proc/{place.program.pid}/status").read_text().splitlines() if ":\t" in line)
+        for name in "CapPrm", "CapEff", "CapBnd":
+            need(name, int(status[name], 16), 0)
+        need("filter", (status["NoNewPrivs"], status["Seccomp"]), ("1", "2"))
+        need("its root", sorted(os.listdir(f"/proc/{place.program.pid}/root")), ["etc", "run"])
+        mounts = [line.split()[4:6] for line in pathlib.Path(f"/proc/{place.program.pid}/mountinfo").read_text().splitlines()]
+        need("what is mounted below a folder", len(mounts) > 3, True)
+        need("what can be written to", [folder for folder, how in mounts if "ro" not in how.split(",")], [])
+        for call in download, upload, iperf, by_name, datagrams, pings, refused, published, half_close, killed_clients, counted_again:
+            call(place)
+        place.program.send_signal(signal.SIGTERM)
+        need("status", place.program.wait(10), 0)
 
 
 def boxed_quietly(place):
-    """The filter lets through what streams and threads call by themselves: what is written goes to a device, a word is at fault, and each of
-    sixteen threads asks for memory."""
+    """The filter lets through what streams call by themselves: what is written goes to a device, and a word is at fault."""
     with open(clients.__file__) as file, open(os.devnull, "w") as nowhere:
-        words = [world.HERE / "out" / place.program_name, "--netns", world.CLIENTS, "--enable-sandbox", "--enable-seccomp", "--threads", 16,
-                 "--exit-fd", file.fileno()]
+        words = [world.HERE / "out" / place.program_name, "--netns", world.CLIENTS, "--enable-sandbox", "--enable-seccomp", "--exit-fd", file.fileno()]
         with world.Child(place.words(world.SERVERS, words), stdout=nowhere, stderr=nowhere, pass_fds=[file.fileno()]) as child:
             place.until(lambda: child.poll() is not None or place.client_status("ping", "-c", "1", "-W", "1", GATEWAY) == 0)
             need("it runs", child.poll(), None)
@@ -90,12 +87,12 @@ def refused_words(place):
     """What can't be meant is said, and nothing begins: descriptors that nobody opened, ports that aren't, networks that are too small, names
     that are too long. A program whose descriptors are closed by mistake couldn't be ended, or would write to a connection."""
     path = "/" * 250 + f"run/netns/{world.CLIENTS}"
-    publish = ["127.0.0.1:99999:80", "127.0.0.1:7005:80x", "127.0.0.1:7005:", "127.0.0.1:0:80", "127.0.0.1:7005:0", "a:7005:80"]
+    publish = ["127.0.0.1:99999:80", "127.0.0.1:7005:80x", "127.0.0.1:7005:", "127.0.0.1:0:80", "127.0.0.1:7005:0", "a:7005:80", "::1:7005:80", "[::1:7005:80",
+               "[127.0.0.1]:7005:80", "[::1]7005:80", "[]:7005:80"]
     cidr = ["10.0.2.0/24x", "10.0.2.0/26", "10.0.2.0/0", "10.0.2.0", "10.0.2/24", ""]
     words = [["--ready-fd", "99"], ["-r", "3"], ["-e", "99"], ["-r", "4294967297"], ["-r", "-1"], ["--netns", path], ["--netns-type=path", path],
              *(["--publish", word] for word in publish), *(["--cidr", word] for word in cidr), ["--publish", "127.0.0.1:7006:80", "-r", "3"],
-             *([f"--{name}", "3", "--threads", "4"] for name in ("ports", "connections", "half-open", "half-open-each", "flows")),
-             ["--outbound-addr", ""], ["--outbound-addr6", "10.0.0.1"], ["-m", "575"], ["-6", "-m", "1279"], ["--api-socket", ""], ["--threads", "65"], ["sixteen_is_a_lot"]]
+             ["--outbound-addr", ""], ["--outbound-addr6", "10.0.0.1"], ["-m", "575"], ["-6", "-m", "1279"], ["--api-socket", ""], ["--threads", "2"], ["sixteen_is_a_lot"]]
     for call in words:
         space = [] if path in call else ["--netns", world.CLIENTS]
         done = subprocess.run(place.words(world.SERVERS, ["timeout", 5, world.HERE / "out" / place.program_name, *space, *call]), stdout=subprocess.PIPE,

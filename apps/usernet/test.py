@@ -10,10 +10,13 @@ import signal
 import time
 
 import world
-from clients import CLIENTS, MIB, download_past_all_numbers, flows_go, killed_program, many, sent_to_many
+from clients import CLIENTS, MIB, download_past_all_numbers, flows_go, killed_program, many, sent_to_many, stalled
 from paths import PATHS
 from publishing import PUBLISHING
+from spaces import SPACES
 from ipv6 import IPV6
+from mappings import MAPPINGS
+from names import NAMES
 from starts import STARTS
 from world import need
 
@@ -38,22 +41,22 @@ def main():
     signal.signal(signal.SIGALRM, take_too_long)
     count = 0
     with world.World(16 * MIB if words.short else 1024 * MIB) as place:
-        for fault, threads in [(0, 1), (1, 1), (0, 3), (1, 3)]:
+        for fault in 0, 1:
             more = [] if words.short else ["--connections", 12000, "--memory", 4096]  # of `many`
-            with place.usernet(fault, "--threads", threads, *more):
+            with place.usernet(fault, *more):
                 calls = [(call, ()) for call in CLIENTS]
                 calls.append((many, ((2000, 1000) if words.short else (10000, 100000)) if fault == 0 else (200, 200)))
-                if fault == 0 and threads == 1 and not words.short:
+                if fault == 0 and not words.short:
                     calls.append((download_past_all_numbers, ()))
                 if fault == 0:
-                    calls += [(flows_go, ()), (sent_to_many, ())]
+                    calls += [(stalled, ()), (flows_go, ()), (sent_to_many, ())]
                 calls.append((killed_program, ()))
                 for call, rest in calls:
                     if not words.only or words.only in call.__name__:
-                        name = call.__name__ + (", faults" if fault else "") + (f", {threads} threads" if threads > 1 else "")
+                        name = call.__name__ + (", faults" if fault else "")
                         run(place, name, call, *rest)
                         count += 1
-        for call in STARTS + PUBLISHING + PATHS + IPV6:
+        for call in STARTS + SPACES + NAMES + MAPPINGS + PUBLISHING + PATHS + IPV6:
             if not words.only or words.only in call.__name__:
                 run(place, call.__name__, call)
                 count += 1

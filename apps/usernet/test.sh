@@ -1,13 +1,15 @@
 #!/usr/bin/env bash
 # usernet under real clients, in namespaces of its own, and then, built with sanitizers, in a hostile namespace:
-# apps/usernet/test.sh [LIBRARY] [WORD ..]. The words behind are test.py's: --short, or --only WORD, which leaves the hostile one out.
+# apps/usernet/test.sh [LIBRARY] [WORD ..]. Without a library it takes what build.sh takes. The words behind are test.py's: --short, or --only WORD, which leaves the hostile one out.
 # --hostile [PACKETS [SEED]] runs that one alone. It wants root, network namespaces and /dev/net/tun, and installs packages by apt-get
 # where this machine lacks them; where one is missing it fails, or, with LEAVE_OUT=1 in the environment, says so and leaves the run out.
 set -euo pipefail
 cd "$(dirname "$0")"
 test=usernet
 . ../../checks/lib.sh
-library=$(realpath -m "${1:-../../crates/tcp_c/out/libtcp_c.a}")
+own=../../crates/tcp_c/out/libtcp_c.a
+[[ -e $own ]] || own=../../release/tcpcore.c
+library=$(realpath -m "${1:-$own}")
 shift || true
 
 need_network
@@ -25,9 +27,10 @@ sshd openssh-server
 scp openssh-client
 nc netcat-openbsd
 socat socat
+traceroute traceroute
 LIST
 has libseccomp-dev test -e /usr/include/seccomp.h || export WITHOUT_SECCOMP=1
-[[ -e $library ]] || { echo "usernet: no $library: run 'rt lib' in crates/tcp_c"; exit 1; }
+[[ -e $library ]] || { echo "usernet: no $library"; exit 1; }
 ./build.sh "$library"
 PROGRAM=usernet.sanitized ./build.sh "$library" -O1 -fsanitize=address,undefined -fno-sanitize-recover=all
 if [[ ${1-} == --hostile ]]; then
@@ -39,5 +42,5 @@ python3 test.py "$@"
 case " $* " in
 *" --only "*) ;;
 *" --short "*) python3 hostile.py ;;
-*) python3 hostile.py 400000 ;;
+*) python3 hostile.py 2000000 ;;
 esac

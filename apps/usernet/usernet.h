@@ -1,7 +1,5 @@
 /*
- * usernet.h: what the files of usernet share. Each thread has one struct usernet: a queue of the TUN device, the connections
- * that are dealt to it by a hash of their addresses and ports, and all that these need. Of another thread's it reads the counters,
- * and writes packets of that thread's connections to its inbox.
+ * usernet.h: what the files of usernet share. All is in one struct usernet, and one thread does it all.
  *
  * Whatever the namespace sends is taken for hostile. Nothing is connected for what is no segment, all that a client can hold is
  * bounded (limits.c), and a connection that is dropped stays in memory until the events that were found with it are worked off.
@@ -25,33 +23,35 @@
 #include "companions/wheel.h"
 
 #include <netinet/in.h>
-#include <pthread.h>
-#include <stdatomic.h>
 #include <time.h>
 
 /* The most and the fewest bytes kept for each direction of a connection, and by how much its windows are shifted. */
 enum { CAPACITY = 262144, LEAST_CAPACITY = 8192, SHIFT = 3, BUCKETS = 65536, FLOW_BUCKETS = 4096 };
 
-/* The most threads, and ports that are published; the queues of half-open connections by their destination. */
-enum { THREADS = 64, LISTENERS = 256, PLACES = 4096 };
+/* The most ports that are published; the queues of half-open connections by their destination. */
+enum { LISTENERS = 256, PLACES = 4096 };
 
-/* The IPv6 addresses that a thread knows at once: in so many sets, of so many each. */
+/* The IPv6 addresses that are known at once: in so many sets, of so many each. */
 enum { V6_SETS = 16384, V6_WAYS = 4 };
 
-/* The packets that a thread puts together from their pieces at once. */
+/* The packets that are put together from their pieces at once. */
 enum { CUT = 8 };
 
 /* The most clients of the API's socket at once. */
 enum { CALLERS = 8 };
 
 /* What an event of epoll is about: a published port by its place, one of these, or else a connection or relay by its address. */
-enum { DEVICE = LISTENERS, SIGNALS, INBOX, EXITS, API, CALLER, NAMED = CALLER + CALLERS };
+enum { DEVICE = LISTENERS, SIGNALS, EXITS, API, CALLER, NAMED = CALLER + CALLERS };
 
 /* The first of the gateway's ports from which connections and datagrams are carried in. */
 enum { FIRST_PORT = 32768 };
 
 /* The longest header of a segment; the bytes of the shortest IPv4 and TCP headers together. */
 enum { MOST_HEADER = 60, HEADERS = 40 };
+
+/* A place on the host: a socket's address. */
+union place { struct sockaddr any; struct sockaddr_in v4; struct sockaddr_in6 v6; };
+static inline socklen_t place_length(const union place *place) { return place->any.sa_family == AF_INET6 ? sizeof place->v6 : sizeof place->v4; }
 
 /* The connections of one kind, the oldest first, and a connection's place among them; all zero where it is in none. */
 struct link { struct link *older, *newer; struct queue *queue; };
@@ -75,23 +75,30 @@ struct conn {
     uint8_t can_read, can_write;    /* what epoll said of the socket, until a call would block */
     uint8_t host_done, client_done; /* whether that side's end of stream was passed on */
     uint64_t since;                 /* when it was made, or something of the client's came last */
+    uint64_t carried;               /* bytes of text that went through its end, either way */
     uint32_t first;                 /* the client's initial sequence number */
     uint8_t syn[MOST_HEADER];       /* the header of the client's SYN, summed: it opens the end */
     uint8_t syn_length;
 };
 
-/* Datagrams between two ports, or echoes with one identifier: a socket of the host that is connected to the other side. Or datagrams that
-   a client of the host's sends to a published port, whose socket serves all of its clients. */
+/* All datagrams of one of the namespace's sockets: an open socket of the host. Or questions to the host's name server, or echoes with one
+   identifier: a socket that is connected to the other side. Or datagrams that a client of the host's sends to a published port, whose socket
+   serves all of its clients. */
 struct relay {
-    struct pair pair;   /* as the namespace has it; of echoes the client's port is the identifier, and the server's 0 */
-    struct pair outer;  /* of a published port: the host's client, and as the server's port the published port's place */
-    struct link order;  /* among all, by when a packet went through last */
+    struct pair pair;    /* as the namespace has it; of echoes the client's port is the identifier, and the server's 0 */
+    struct pair outer;   /* of a published port: who sends, by a hash, and as the server's port the published port's place */
+    union place from;    /* who that is */
+    struct link order;   /* among all, by when a packet went through last */
     struct relay *next;  /* of those that were dropped */
-    uint64_t since;     /* when one went through last */
+    uint64_t since;      /* when one went through last */
     int socket;
-    uint8_t protocol;   /* IP_UDP, IP_ICMP or IP6_ICMP */
-    uint8_t is_inward;  /* whether its socket is a published port's */
-    uint8_t is_dropped; /* whether it waits to be freed */
+    int hops;            /* how many routers what it sends may pass, or -1: the host's choice */
+    uint8_t protocol;    /* IP_UDP, IP_ICMP or IP6_ICMP */
+    uint8_t is_open;     /* whether it leads to any place: its pair has no server then */
+    uint8_t is_inward;   /* whether its socket is a published port's */
+    uint8_t is_lasting;  /* whether it is more than questions to name servers, or an echo */
+    uint8_t has_loopback; /* of an open one: whether it has sent to the host's loopback, which may answer */
+    uint8_t is_dropped;  /* whether it waits to be freed */
 };
 
 /* An IPv6 address, and the address that stands for it. */
@@ -133,59 +140,47 @@ struct limits {
 
 /* A port of the host's, and the place in the namespace that it leads to. */
 struct published {
-    uint32_t id;               /* its number, never used again; 0 where there is none here */
-    int socket;                /* it listens, or takes datagrams */
-    uint8_t protocol;          /* IP_TCP or IP_UDP */
-    uint16_t port, guest_port; /* the host's port, and the namespace's */
-    struct in_addr addr;       /* the host's address */
-    tcpcore_addr guest;        /* the namespace's address */
+    uint32_t id;          /* its number, never used again; 0 where there is none here */
+    int socket;           /* it listens, or takes datagrams */
+    uint8_t protocol;     /* IP_TCP or IP_UDP */
+    uint16_t guest_port;  /* the namespace's */
+    union place at;       /* the host's address and port */
+    tcpcore_addr guest;   /* the namespace's address */
 };
 
-/* A connection that came to a published port: any thread may take it, that has a port of the gateway's left for it. */
-struct inward {
-    int socket;
-    uint32_t turn; /* the threads that had none */
-    tcpcore_addr guest;
-    uint16_t guest_port;
-};
-
-/* What all threads have in common. */
-struct shared {
-    struct usernet *all[THREADS];
-    uint32_t threads;
-    struct in_addr outbound;                   /* the address from which the host's sockets connect; all zero: the system's choice */
-    struct in6_addr outbound6;                 /* the same of IPv6 */
-    int has_loopback, has_dns;                 /* whether the host's loopback and its name server are reached */
-    pthread_mutex_t lock;                      /* of what is published */
-    struct published published[LISTENERS];
-    uint32_t last_id;                          /* of what was published */
-    int api;                                   /* the API's socket, or below 0 */
-    _Atomic int stops, status;                 /* whether all end, and the program's status then */
+/* The host's name servers: the first one of either kind, whose family is 0 where there is none. */
+struct servers {
+    struct timespec read_at; /* the age of the file that names them when it was read */
+    union place v4, v6;
 };
 
 struct usernet {
-    uint32_t index;            /* this thread's place */
-    struct shared *shared;
-    struct limits limits;      /* its share of what the program was told: all shares together are that */
-    int device, events;        /* its queue of the TUN device, and epoll's descriptor */
-    int inbox, to_inbox;       /* packets of its connections that another thread has read */
+    struct limits limits;
+    int device, events;        /* the TUN or TAP device, and epoll's descriptor, below 0 before there is one */
     int is_gone;               /* whether the device is */
+    int stops, status;         /* whether the program ends, and its status then */
     int offloads;              /* whether trains of segments are exchanged with the device */
     int is_tap;                /* whether packets lie behind Ethernet headers */
     struct ethernet_addr host; /* then: the namespace's address, as its last frame has it */
     uint32_t mtu;              /* of the device */
     uint16_t mss, next_port;   /* the maximum segment size; the last of the gateway's ports that was tried */
+    uint8_t hops;              /* how many routers the packet that came last may pass */
     uint16_t next_id;          /* the identification of the last packet that may be cut */
     tcpcore_addr own, gateway; /* the namespace's address, and that which means the host's loopback */
     tcpcore_addr resolver;     /* that which means the host's name server */
+    struct in_addr outbound;   /* the address from which the host's sockets send; all zero: the system's choice */
+    struct in6_addr outbound6; /* the same of IPv6 */
+    int has_loopback, has_dns; /* whether the host's loopback and its name server are reached */
+    struct published published[LISTENERS];
+    uint32_t last_id;          /* of what was published */
+    int api;                   /* the API's socket, or below 0 */
     struct v6_entry *v6;           /* NULL where there is no IPv6 */
     uint64_t v6_entered;      /* how many were entered */
     struct ip6_packet v6_packet; /* the last one that came */
-    struct timespec read_at;   /* the age of the file of name servers when it was read */
-    struct in_addr nameserver; /* the first one in it */
+    struct servers servers;
     uint64_t now;              /* milliseconds */
     uint64_t listens_at;       /* when it listens again, or 0 where it does */
-    _Atomic uint64_t counters[COUNTERS];
+    uint64_t counters[COUNTERS];
     struct wheel wheel;
     struct pairs pairs;
     struct pair *buckets[BUCKETS];
@@ -200,27 +195,19 @@ struct usernet {
     struct fragments_packet cut[CUT];
     struct relay *gone;        /* relays that are freed behind these events */
     uint64_t reserved;         /* bytes of all ends */
+    uint64_t used_up;          /* bytes that ends had touched which are gone, since the system was given back what is free */
     uint64_t second, answered; /* the second in which the last stray came, and resets in it */
     tcpcore_end reader;        /* an end that is never opened: it reads what comes for no other */
     uint8_t reader_block[TCPCORE_MEMORY(1, 1)];
     struct faults up, down;    /* the path between device and ends */
     uint8_t frame[TUN_HEADER + ETHERNET_HEADER + 65535]; /* what the device gave */
-    uint8_t front[TUN_HEADER + ETHERNET_HEADER];         /* what a packet that was put together has in front */
     uint8_t packet[ETHERNET_HEADER + IP6_MORE + TRAINS_ROOM]; /* what the device is given */
     uint8_t text[CAPACITY];    /* what a socket gave */
 };
 
-/* Adds to a counter, which no other thread writes. */
-static inline void count(struct usernet *net, enum counter which, uint64_t number)
-{
-    uint64_t before = atomic_load_explicit(&net->counters[which], memory_order_relaxed);
-    atomic_store_explicit(&net->counters[which], before + number, memory_order_relaxed);
-}
+static inline void count(struct usernet *net, enum counter which, uint64_t number) { net->counters[which] += number; }
 
-/* loop.c: which thread has this connection. */
-uint32_t owner_of(struct usernet *net, const struct pair *pair);
-
-/* A segment for the namespace is written to segment_place, then sent: summed and of `length` bytes, or what tcpcore_emit_train wrote. */
+/* loop.c: a segment for the namespace is written to segment_place, then sent: summed and of `length` bytes, or what tcpcore_emit_train wrote. */
 static inline uint8_t *segment_place(struct usernet *net) { return net->packet + ETHERNET_HEADER + IP6_MORE + TRAINS_FRONT; }
 void send_segment(struct usernet *net, size_t length, tcpcore_addr from, tcpcore_addr to, int may_be_cut);
 void send_packet(struct usernet *net, size_t length, tcpcore_addr from, tcpcore_addr to, uint8_t protocol);
@@ -232,8 +219,12 @@ void pass_on_wire(struct usernet *net, uint8_t *frame, size_t length);
 /* The gateway's address on Ethernet, and the name server's. */
 extern const struct ethernet_addr GATEWAY_ETHERNET;
 
-/* ipv6.c: addresses that mean the host's loopback and its name server. */
+/* ipv6.c: addresses that mean the host's loopback and its name server; whether an address is one of these, or the namespace's own. */
 extern const struct ip6_addr V6_GATEWAY, V6_RESOLVER;
+int v6_is_own(const struct ip6_addr *addr);
+
+/* Deals an address its surrogate; whether there is a place for it. */
+int v6_enter(struct usernet *net, const struct ip6_addr *addr, tcpcore_addr *surrogate);
 
 /* The address of a surrogate, or NULL. A pair holds its two (1), or lets go of them (-1). */
 const struct ip6_addr *v6_find(struct usernet *net, tcpcore_addr surrogate);
@@ -251,37 +242,37 @@ size_t v6_unreachable(struct usernet *net, const struct pair *key, uint8_t proto
 /* A frame with an IPv4 packet between surrogates becomes one between their addresses, which begins before it; NULL where one isn't known. */
 uint8_t *v6_write(struct usernet *net, uint8_t *frame, size_t *length);
 
-/* Makes what a thread has; whether it could. */
+/* Makes what the loop needs; whether it could. */
 int loop_init(struct usernet *net, const uint8_t secret[16]);
 
-/* Runs until all threads stop, then ends all connections. `signalled` is called where a signal came; where the other side of `exits` is
-   closed all stop. Either may be below 0. */
+/* Runs until `stops` is set, then ends all connections. `signalled` is called where a signal came; where the other side of `exits` is
+   closed the loop stops. Either may be below 0. */
 void loop_run(struct usernet *net, int signals, int exits, void (*signalled)(void));
 
-/* All threads stop, and the program ends with this status; whether no other one was told before. */
-int stop_all(struct shared *shared, int status);
-
-/* conn.c: a packet came from the namespace, whose checksum needs no look where `vouched`; a connection came from the host, to be
-   carried in. */
+/* conn.c: a packet came from the namespace, whose checksum needs no look where `vouched`; a connection of the host's came to a published
+   port, to be carried in. */
 void arrive(struct usernet *net, const struct ip_packet *packet, int vouched);
-void conn_publish(struct usernet *net, struct inward inward);
+void conn_publish(struct usernet *net, int socket, const struct published *published);
 
 /* An ICMP error came from the namespace about a packet that it was sent. */
 void conn_error(struct usernet *net, const struct icmp_error *error);
 
 /* ports.c: publishes a port, whose `id` and `socket` aren't looked at; answers its number, or 0 with errno. What has this number is no
    longer published; whether there was any. */
-uint32_t ports_publish(struct shared *shared, struct published wanted);
-int ports_remove(struct shared *shared, uint32_t id);
+uint32_t ports_publish(struct usernet *net, struct published wanted);
+int ports_remove(struct usernet *net, uint32_t id);
 
-/* This thread waits for what comes to published ports, again and again; something has come to the one at this place. */
+/* Reads a numeric address of either family, with port 0; whether it is one. */
+int ports_read_host(const char *word, union place *place);
+
+/* What comes to published ports is waited for from now on; something has come to the one at this place. */
 int ports_listen(struct usernet *net);
 void ports_take(struct usernet *net, uint64_t place);
 
-/* A port of the gateway's that is this thread's and not in use towards the key's client, as the key's server; whether there was one. */
+/* A port of the gateway's that isn't in use towards the key's client, as the key's server; whether there was one. */
 int ports_deal(struct usernet *net, struct pairs *used, struct pair *key);
 
-/* api.c, of the first thread alone: makes the API's socket at this path, below 0 where it can't; waits for its clients; one has come, or
+/* api.c: makes the API's socket at this path, below 0 where it can't; waits for its clients; one has come, or
    the one at this place has sent something; those that were silent for long go; the milliseconds until then, or `wait` where that is
    sooner; all go. */
 int api_open(const char *path);
@@ -293,8 +284,8 @@ int api_wait(int wait);
 void api_end(void);
 
 /* What the API answers to a request of so many bytes, written to `out`, of API_ROOM bytes; answers its length. */
-enum { API_REQUEST = 4095, API_ROOM = 64 + 160 * LISTENERS };
-size_t api_answer(struct shared *shared, const char *request, size_t length, char *out);
+enum { API_REQUEST = 4095, API_ROOM = 64 + 192 * LISTENERS };
+size_t api_answer(struct usernet *net, const char *request, size_t length, char *out);
 
 /* Drops a connection: it has no socket, no end and no place any more, and is freed by free_dropped. Where `resets`, the host gets a
    reset; where it is cut, the client does, too. */
@@ -306,20 +297,37 @@ void free_dropped(struct usernet *net);
 void turn_all(struct usernet *net);
 void end_all(struct usernet *net);
 
-/* host.c: a socket of the host's that is connected to where `to` and `port` lead, or begins to; below 0 where there is none, with errno:
-   EACCES where the program was told to leave that place alone. `kind` is SOCK_STREAM or SOCK_DGRAM. */
-int host_socket(struct usernet *net, tcpcore_addr to, uint16_t port, int kind, int protocol);
+/* host.c: where `to` and `port` lead on the host; 0 where that is nowhere, or where the program was told to leave that place alone, with
+   EACCES in errno. */
+int host_place(struct usernet *net, tcpcore_addr to, uint16_t port, union place *place);
 
-/* relays.c: the namespace is told that what it sent with these addresses and ports couldn't be delivered, as often as strays are answered. `front` is
+/* A socket of the host's that is connected to this place, or begins to; or of datagrams of a family, to any place. Below 0 where there is
+   none, with errno. `kind` is SOCK_STREAM or SOCK_DGRAM. */
+int host_socket(struct usernet *net, const union place *to, int kind, int protocol);
+int host_open(struct usernet *net, int family);
+
+/* Whether a place is the host's loopback, which its gateway's address leads to. */
+int host_is_loopback(const union place *place);
+
+/* The namespace's address for a host that sends to it; whether it may. Its loopback is the gateway. */
+int host_sender(struct usernet *net, const union place *from, tcpcore_addr *addr);
+
+/* The address of an interface of this family; whether it has one. */
+int host_interface(const char *name, int family, void *addr);
+
+/* relays.c and datagrams.c: the namespace is told that what it sent with these addresses and ports couldn't be delivered, as often as strays are answered. `front` is
    what its packet has behind the IPv4 header. */
 enum { UNREACHABLE_FRONT = 8 };
 void report_unreachable(struct usernet *net, const struct pair *key, uint8_t protocol, const uint8_t *front, int fault);
+
+/* The same of what may pass no more routers, from that which it has come to (RFC 1812, 5.2.7.3). */
+void report_expired(struct usernet *net, const struct pair *key, uint8_t protocol, const uint8_t *front, tcpcore_addr router);
 
 /* A datagram or an ICMP message came from the namespace; a socket of a relay has something, or that of the published port at this
    place; all relays of that one go; those that were silent for long go; those that were dropped are freed; all go. */
 void relays_datagram(struct usernet *net, const struct ip_packet *packet, int vouched);
 void relays_message(struct usernet *net, const struct ip_packet *packet, uint8_t protocol);
-void relays_readable(struct usernet *net, struct relay *relay);
+void relays_readable(struct usernet *net, struct relay *relay, uint32_t events);
 void relays_inward(struct usernet *net, const struct published *published, uint64_t place);
 void relays_remove(struct usernet *net, uint64_t place);
 void relays_expire(struct usernet *net);
@@ -358,8 +366,8 @@ int is_exhausted(int fault);
 struct words {
     struct tun_config device;
     char space[256];
-    struct limits limits;  /* of the whole program, with its memory in MiB */
-    uint64_t mtu, fault, threads;
+    struct limits limits;  /* with the memory in MiB */
+    uint64_t mtu, fault;
     uint64_t ready, exits; /* descriptors, or NO_DESCRIPTOR: one is written to once all is there, the other's end ends the program */
     uint32_t network;      /* its number, without the host's */
     const char *api;       /* the path of the API's socket, or NULL */
@@ -371,12 +379,12 @@ struct words {
 
 #define NO_DESCRIPTOR UINT64_MAX
 
-/* sandbox.c: with one thread, before the others are made: nothing of the file system is left but /etc and /run to be read, and no right. Then,
-   of all threads: no call of the system is left but those that the loop makes, with sockets of IPv6 or without. Whether it could be done. */
+/* sandbox.c: nothing of the file system is left but /etc and /run to be read, and no right. Then: no call of the system is left but those that
+   the loop makes. Whether it could be done. */
 int sandbox_enter(const struct words *options);
-int sandbox_filter(int has_ipv6);
+int sandbox_filter(void);
 
 /* Reads the program's words, which may publish ports. Answers below 0 where it goes on, else the status to end with. */
-int words_read(int number, char **words, struct words *options, struct shared *shared);
+int words_read(int number, char **words, struct words *options, struct usernet *net);
 
 #endif

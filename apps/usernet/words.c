@@ -17,13 +17,14 @@ static const char USAGE[] =
     "the namespace's TUN device gets (tun0), or of a TAP device that is there.\n"
     "\n"
     "  --publish HOST:PORT:INNER[/udp]\n"
-    "                             carries connections (or datagrams) to this address and port of the host to a port of the namespace\n"
+    "                             carries connections (or datagrams) to this address and port of the host, [::1] or the like among them, to a\n"
+    "                             port of the namespace's IPv4 address\n"
     "  -a, --api-socket PATH      publishes ports, lists them and removes them for who writes slirp4netns's requests to this socket: add_hostfwd,\n"
     "                             list_hostfwd, remove_hostfwd\n"
     "  --disable-host-loopback    10.0.2.2 leads nowhere\n"
     "  --disable-dns              10.0.2.3 leads nowhere\n"
-    "  --outbound-addr ADDRESS, --outbound-addr6 ADDRESS\n"
-    "                             connects from this address of the host\n"
+    "  --outbound-addr ADDRESS|INTERFACE, --outbound-addr6 ADDRESS|INTERFACE\n"
+    "                             connects from this address of the host, or from that which an interface has\n"
     "  -6, --enable-ipv6          IPv6, too: the namespace is fd00::100, fd00::2 leads to the host's loopback, fd00::3 to its name server\n"
     "  --cidr ADDRESS/PREFIX      the network, of at most 25 bits, in place of 10.0.2.0/24; its hosts keep their last numbers\n"
     "  -m, --mtu N                of the device, 576 to 65535 (1500), with IPv6 from 1280 on\n"
@@ -34,22 +35,18 @@ static const char USAGE[] =
     "  -c, --configure            gives a TAP device its address and a route, too, which a TUN device is always given\n"
     "  --enable-sandbox           gives up the file system, but for /etc and /run to be read, and all rights, once the network is there\n"
     "  --enable-seccomp           ends where the program makes a call of the system that it never makes by itself\n"
-    "  --threads N                so many threads, 1 to 64 (1)\n"
     "  --no-offloads              exchanges segments with the device one by one, each with its checksum\n"
     "  --stats                    reports counts at its end and on SIGUSR1\n"
-    "  --fault PERCENT            loses, doubles and delays so many percent of the packets, 0 to 20 (0), for tests\n"
     "  -h, --help, -v, --version  says this, or the version of its library, and ends\n"
     "\n"
-    "Limits of what the namespace can hold and is answered. Each thread takes a share, so that none of what is held is less than --threads:\n"
+    "Limits of what the namespace can hold and is answered:\n"
     "  --connections N     so many connections (4096), and no more than there may be descriptors: one whose client was silent for ten\n"
     "                      seconds makes way for another\n"
-    "  --half-open N       of them so many whose handshake isn't done (1024): after a second one makes way for another\n"
-    "  --half-open-each N  of these so many to one address and port (256)\n"
+    "  --half-open N       of them so many whose handshake isn't done (1024), and 256 to one address and port: after a second one makes way for\n"
+    "                      another\n"
     "  --memory MIB        so much memory for all ends, at least 4 (1024): the less is left, the smaller are the windows of new ones\n"
-    "  --flows N           so many flows of datagrams and echoes (1024): the one that was silent longest makes way for another\n"
-    "  --ports N           so many ports of 10.0.2.2 for connections that are carried in (32768), and so no more of these to one port\n"
+    "  --flows N           so many sockets for datagrams and echoes (1024): the one that was silent longest makes way for another\n"
     "  --strays N          so many resets and ICMP messages a second for what leads nowhere, refusals among them (1000)\n"
-    "  --quiet MS          a connection repeats no answer to what it doesn't take for so many milliseconds (500); 0: it always does\n"
     "\n"
     "An echo to a host needs the host's leave (net.ipv4.ping_group_range).\n";
 
@@ -61,44 +58,44 @@ static int read_number(const char *word, uint64_t least, uint64_t most, uint64_t
     return *word >= '0' && *word <= '9' && *end == 0 && *number >= least && *number <= most;
 }
 
+/* The host of HOST:PORT:INNER, of IPv6 in brackets, ends at its colon; NULL where there is none. */
+static const char *read_host(const char *word, union place *at)
+{
+    char host[INET6_ADDRSTRLEN];
+    int end = 0, is_v6 = *word == '[';
+    if (sscanf(word, is_v6 ? "[%45[0-9a-fA-F:.]]%n" : "%15[0-9.]%n", host, &end) != 1 || end == 0 || word[end] != ':' || !ports_read_host(host, at))
+        return NULL;
+    return (at->any.sa_family == AF_INET6) == is_v6 ? word + end : NULL;
+}
+
 /* Publishes HOST:PORT:INNER, or HOST:PORT:INNER/udp; whether it could. */
-static int publish(const char *word, struct shared *shared)
+static int publish(const char *word, struct usernet *net)
 {
     struct published wanted = {.protocol = IP_TCP};
-    char host[16], ports[2][6];
+    const char *rest = read_host(word, &wanted.at);
+    char ports[2][6];
     uint64_t port, inner;
     int end = 0;
-    if (sscanf(word, "%15[0-9.]:%5[0-9]:%5[0-9]%n", host, ports[0], ports[1], &end) != 3 ||
-        !read_number(ports[0], 1, UINT16_MAX, &port) || !read_number(ports[1], 1, UINT16_MAX, &inner) ||
-        inet_pton(AF_INET, host, &wanted.addr) != 1)
+    if (!rest || sscanf(rest, ":%5[0-9]:%5[0-9]%n", ports[0], ports[1], &end) != 2 || !read_number(ports[0], 1, UINT16_MAX, &port) ||
+        !read_number(ports[1], 1, UINT16_MAX, &inner))
         return 0;
-    if (strcmp(word + end, "/udp") == 0)
+    if (strcmp(rest + end, "/udp") == 0)
         wanted.protocol = IP_UDP;
-    else if (word[end] && strcmp(word + end, "/tcp") != 0)
+    else if (rest[end] && strcmp(rest + end, "/tcp") != 0)
         return 0;
-    wanted.port = (uint16_t)port, wanted.guest_port = (uint16_t)inner;
-    if (ports_publish(shared, wanted))
+    *(wanted.at.any.sa_family == AF_INET6 ? &wanted.at.v6.sin6_port : &wanted.at.v4.sin_port) = htons((uint16_t)port);
+    wanted.guest_port = (uint16_t)inner;
+    if (ports_publish(net, wanted))
         return 1;
     perror(word);
     return 0;
 }
 
 /* What is published leads to the namespace's own address, which other words may say later. */
-static void aim_published(struct shared *shared, uint32_t addr)
+static void aim_published(struct usernet *net, uint32_t addr)
 {
     for (int at = 0; at < LISTENERS; at++)
-        shared->published[at].guest = (tcpcore_addr){{(uint8_t)(addr >> 24), (uint8_t)(addr >> 16), (uint8_t)(addr >> 8), (uint8_t)addr}};
-}
-
-/* Whether each thread has a share of all limits. */
-static int has_shares(const struct words *options)
-{
-    const struct limits *limits = &options->limits;
-    const uint64_t numbers[] = {limits->connections, limits->half_open, limits->each, limits->flows, limits->ports};
-    for (size_t at = 0; at < sizeof numbers / sizeof numbers[0]; at++)
-        if (numbers[at] < options->threads)
-            return fputs("usernet: a limit is less than --threads: each thread takes a share of it (see usernet --help)\n", stderr), 0;
-    return 1;
+        net->published[at].guest = (tcpcore_addr){{(uint8_t)(addr >> 24), (uint8_t)(addr >> 16), (uint8_t)(addr >> 8), (uint8_t)addr}};
 }
 
 /* Whether a descriptor is one that the program was started with: its own are all closed where another one is started. */
@@ -109,11 +106,10 @@ static int read_limit(const char *name, const char *word, struct words *options)
 {
     struct limits *limits = &options->limits;
     const struct { const char *name; uint64_t *number, least, most; } NAMES[] = {
-        {"mtu", &options->mtu, 576, 65535}, {"fault", &options->fault, 0, 20}, {"threads", &options->threads, 1, THREADS},
-        {"connections", &limits->connections, 1, 1 << 20}, {"half-open", &limits->half_open, 1, 1 << 20},
-        {"half-open-each", &limits->each, 1, 1 << 20}, {"memory", &limits->memory, 4, 1 << 20}, {"flows", &limits->flows, 1, 1 << 20},
-        {"ports", &limits->ports, 1, 32768}, {"strays", &limits->strays, 0, UINT32_MAX}, {"quiet", &limits->quiet, 0, 60000},
-        {"ready-fd", &options->ready, 0, INT32_MAX}, {"exit-fd", &options->exits, 0, INT32_MAX}};
+        {"mtu", &options->mtu, 576, 65535}, {"connections", &limits->connections, 1, 1 << 20}, {"half-open", &limits->half_open, 1, 1 << 20},
+        {"memory", &limits->memory, 4, 1 << 20}, {"flows", &limits->flows, 1, 1 << 20}, {"strays", &limits->strays, 0, UINT32_MAX},
+        {"test-fault", &options->fault, 0, 20}, {"test-half-open-each", &limits->each, 1, 1 << 20}, {"test-ports", &limits->ports, 1, 32768},
+        {"test-quiet", &limits->quiet, 0, 60000}, {"ready-fd", &options->ready, 0, INT32_MAX}, {"exit-fd", &options->exits, 0, INT32_MAX}};
     for (size_t at = 0; at < sizeof NAMES / sizeof NAMES[0]; at++)
         if (strcmp(name, NAMES[at].name) == 0)
             return read_number(word, NAMES[at].least, NAMES[at].most, NAMES[at].number) &&
@@ -136,12 +132,12 @@ static int read_network(const char *word, struct words *options)
 }
 
 /* A word with its value, or without one; whether it could be read. */
-static int read_option(const char *name, const char *value, struct words *options, struct shared *shared)
+static int read_option(const char *name, const char *value, struct words *options, struct usernet *net)
 {
     const struct { const char *name; int *flag, value; } FLAGS[] = {
         {"stats", &options->shows, 1}, {"no-offloads", &options->device.offloads, 0}, {"configure", &options->device.configures, 1},
-        {"enable-sandbox", &options->is_boxed, 1}, {"enable-seccomp", &options->is_filtered, 1}, {"enable-ipv6", &options->has_ipv6, 1}, {"disable-host-loopback", &shared->has_loopback, 0},
-        {"disable-dns", &shared->has_dns, 0}};
+        {"enable-sandbox", &options->is_boxed, 1}, {"enable-seccomp", &options->is_filtered, 1}, {"enable-ipv6", &options->has_ipv6, 1}, {"disable-host-loopback", &net->has_loopback, 0},
+        {"disable-dns", &net->has_dns, 0}};
     for (size_t at = 0; at < sizeof FLAGS / sizeof FLAGS[0]; at++)
         if (strcmp(name, FLAGS[at].name) == 0)
             return *FLAGS[at].flag = FLAGS[at].value, 1;
@@ -154,11 +150,11 @@ static int read_option(const char *name, const char *value, struct words *option
     if (strcmp(name, "api-socket") == 0)
         return options->api = value, *value != 0;
     if (strcmp(name, "outbound-addr") == 0)
-        return inet_pton(AF_INET, value, &shared->outbound) == 1;
+        return inet_pton(AF_INET, value, &net->outbound) == 1 || host_interface(value, AF_INET, &net->outbound);
     if (strcmp(name, "outbound-addr6") == 0)
-        return inet_pton(AF_INET6, value, &shared->outbound6) == 1;
+        return inet_pton(AF_INET6, value, &net->outbound6) == 1 || host_interface(value, AF_INET6, &net->outbound6);
     if (strcmp(name, "publish") == 0)
-        return publish(value, shared);
+        return publish(value, net);
     if (strcmp(name, "cidr") == 0)
         return read_network(value, options);
     return read_limit(name, value, options);
@@ -190,9 +186,10 @@ static const struct option OPTIONS[] = {
     {"configure", 0, 0, 'c'}, {"mtu", 1, 0, 'm'}, {"ready-fd", 1, 0, 'r'}, {"exit-fd", 1, 0, 'e'}, {"help", 0, 0, 'h'}, {"version", 0, 0, 'v'},
     {"publish", 1, 0, 0}, {"disable-host-loopback", 0, 0, 0}, {"disable-dns", 0, 0, 0}, {"enable-sandbox", 0, 0, 0}, {"enable-seccomp", 0, 0, 0},
     {"outbound-addr", 1, 0, 0}, {"cidr", 1, 0, 0}, {"api-socket", 1, 0, 'a'}, {"enable-ipv6", 0, 0, '6'}, {"outbound-addr6", 1, 0, 0},
-    {"netns-type", 1, 0, 0}, {"userns-path", 1, 0, 0}, {"netns", 1, 0, 0}, {"threads", 1, 0, 0}, {"no-offloads", 0, 0, 0}, {"stats", 0, 0, 0},
-    {"fault", 1, 0, 0}, {"connections", 1, 0, 0}, {"half-open", 1, 0, 0}, {"half-open-each", 1, 0, 0}, {"memory", 1, 0, 0}, {"flows", 1, 0, 0},
-    {"ports", 1, 0, 0}, {"strays", 1, 0, 0}, {"quiet", 1, 0, 0}, {0}};
+    {"netns-type", 1, 0, 0}, {"userns-path", 1, 0, 0}, {"netns", 1, 0, 0}, {"no-offloads", 0, 0, 0}, {"stats", 0, 0, 0},
+    {"connections", 1, 0, 0}, {"half-open", 1, 0, 0}, {"memory", 1, 0, 0}, {"flows", 1, 0, 0}, {"strays", 1, 0, 0},
+    /* For tests alone, and told to nobody: packets that are lost, doubled and late; limits that no user has to know. */
+    {"test-fault", 1, 0, 0}, {"test-half-open-each", 1, 0, 0}, {"test-ports", 1, 0, 0}, {"test-quiet", 1, 0, 0}, {0}};
 
 /* The long name of an option that was told by its letter, or by its place. */
 static const char *name_of(int letter, int place)
@@ -209,7 +206,7 @@ static int fault(const char *before, const char *word, const char *value)
 }
 
 /* Reads all options; answers below 0 where it goes on. */
-static int read_options(int number, char **words, struct words *options, struct shared *shared)
+static int read_options(int number, char **words, struct words *options, struct usernet *net)
 {
     int letter, place = 0;
     opterr = 0;
@@ -221,20 +218,20 @@ static int read_options(int number, char **words, struct words *options, struct 
         if (letter == '?')
             return fault("", words[optind - 1], "");
         const char *name = name_of(letter, place);
-        if (!read_option(name, optarg, options, shared))
+        if (!read_option(name, optarg, options, net))
             return fault("--", name, optarg ? optarg : "");
     }
     return -1;
 }
 
-int words_read(int number, char **words, struct words *options, struct shared *shared)
+int words_read(int number, char **words, struct words *options, struct usernet *net)
 {
-    *options = (struct words){.device = {.name = "tun0", .prefix = 24, .offloads = 1}, .network = 0x0a000200, .mtu = 1500, .threads = 1,
+    *options = (struct words){.device = {.name = "tun0", .prefix = 24, .offloads = 1}, .network = 0x0a000200, .mtu = 1500,
                            .ready = NO_DESCRIPTOR, .exits = NO_DESCRIPTOR,
                            .limits = {.connections = 4096, .half_open = 1024, .each = 256, .memory = 1024, .ports = 32768, .flows = 1024,
                                       .strays = 1000, .quiet = ANSWERS_QUIET}};
-    shared->has_loopback = shared->has_dns = 1;
-    int status = read_options(number, words, options, shared);
+    net->has_loopback = net->has_dns = 1;
+    int status = read_options(number, words, options, net);
     if (status >= 0)
         return status;
     if (!read_rest(words + optind, options) || !*options->space)
@@ -244,9 +241,8 @@ int words_read(int number, char **words, struct words *options, struct shared *s
     options->device.addr = options->network + 100;
     options->device.gateway = options->network + 2;
     options->device.has_ipv6 = options->has_ipv6;
-    shared->threads = (uint32_t)options->threads;
-    aim_published(shared, options->device.addr);
+    aim_published(net, options->device.addr);
     if (options->has_ipv6 && options->mtu < IP6_LEAST_MTU)
         return fputs("usernet: IPv6 wants an MTU of 1280 or more\n", stderr), 1;
-    return has_shares(options) ? -1 : 1;
+    return -1;
 }

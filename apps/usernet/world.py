@@ -311,7 +311,7 @@ LogLevel ERROR
                  "127.0.0.1:7001:8001", *more]
         self.fault = fault
         if fault:
-            words += ["--fault", fault]
+            words += ["--test-fault", fault]
         with contextlib.ExitStack() as stack:
             self.program = self.start_server(stack, *words)
             yield
