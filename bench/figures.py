@@ -2,8 +2,9 @@
 
     figures.py FOLDER [--kit LINE] [--compiler LINE] [--library LINE] [--only NAME..] [--write [--because REASON]]
 
-FOLDER has the programs: bench_jobs, tcpkit and tcpjudge, proved; handed, over the C library; c_handed, c_tcpkit and c_tcpjudge, the C of
-release/. The three LINEs say what they were built by, and figures stand under such a line; where one isn't given its programs are left out.
+FOLDER has the programs: bench_jobs, tcpkit and tcpjudge, proved; handed, over the C library; handed, tcpkit and tcpjudge of release/*.c,
+with release_ before their names, and with portable_ where the code of no machine was taken. The three LINEs say what they were built by,
+and figures stand under such a line; where one isn't given its programs are left out.
 A figure is what `main` takes, with all that it calls: what loads a program doesn't count. More than 1 in 100 above it fails, and so does
 more than 3 in 100 below it, until the figure is lowered. What is written to the standard output has to be the same on all machines.
 Where no figures stand under a line, that alone is compared.
@@ -67,21 +68,22 @@ def rows(kit, compiler, library):
             yield Row(name, kit, [[crate, *small]])
         yield from on_inputs("", kit)
         yield Row("small logs", kit, [["tcpjudge", "--complete", f"small{number}"] for number in range(inputs.SMALL_LOGS)])
-    for prefix, line in ("C library: ", library), ("release/tcpcore.c: ", compiler):
-        if line:
-            yield from of_ends(prefix, line, "handed" if line == library else "c_handed")
-    if compiler:
-        yield from on_inputs("release/*.c: ", compiler, "c_")
+    if library:
+        yield from of_ends("C library: ", library)
+    for prefix, before in (("release/*.c: ", "release_"), ("portable C: ", "portable_")) if compiler else ():
+        yield from of_ends(prefix, compiler, before)
+        yield from on_inputs(prefix, compiler, before)
 
 
-def on_inputs(prefix, line, program=""):
-    for name, words in {"comments": ["decode"], "short": ["decode"], "listing": ["decode"], "script": ["replay"]}.items():
-        yield Row(f"{prefix}{name}", line, [[f"{program}tcpkit", *words, name]])
-    yield Row(f"{prefix}faults", line, [[f"{program}tcpjudge", "--complete", "faults"]])
+def on_inputs(prefix, line, before=""):
+    for name, job in {"comments": "decode", "short": "decode", "listing": "decode", "script": "replay"}.items():
+        yield Row(f"{prefix}{name}", line, [[f"{before}tcpkit", job, name]])
+    yield Row(f"{prefix}faults", line, [[f"{before}tcpjudge", "--complete", "faults"]])
 
 
-def of_ends(prefix, line, program):
+def of_ends(prefix, line, before=""):
     """By bench/handed.c; an acknowledgement is what one for each segment takes more than one for two."""
+    program = f"{before}handed"
     for mode in "in_order", "one_byte", "connection":
         yield Row(f"{prefix}{mode}", line, [[program, mode, "400"]])
     yield Row(f"{prefix}acknowledgement", line, [[program, "each_acknowledged", "400"]], [[program, "in_order", "400"]])

@@ -2,10 +2,10 @@
 # Whether later work keeps what was gained: the workloads of bench/workloads.txt and those of bench/inputs.py, the C library and the C of
 # release/, counted in instructions and compared with bench/figures.txt by bench/figures.py.
 #     checks/bench.sh [LIBRARY] [--only NAME..] [--write [--because REASON]]
-# LIBRARY is the C library (else crates/tcp_c's own); the programs of crates/ are built anew where they are stale. Figures are kept by what
-# builds: the kit's line, the C compiler's version, both for the C library, each with the version of the C library of the machine. Under
-# other lines the outputs alone are compared. CONTRIBUTING.md says how a figure is changed. It installs valgrind by apt-get where this
-# machine lacks it.
+# LIBRARY is the C library (else crates/tcp_c's own). The programs of crates/ are those that 'rt ci' has built, or 'rt run' where a source
+# is newer. Figures are kept by what builds: the kit's line, the C compiler's version, both for the C library, each with the version of
+# the machine's libc. Under other lines the outputs alone are compared. CONTRIBUTING.md says how a figure is changed. It installs
+# valgrind by apt-get where this machine lacks it.
 set -euo pipefail
 cd "$(dirname "$0")/.."
 top=$PWD
@@ -24,15 +24,17 @@ gcc gcc
 valgrind valgrind
 LIST
 
-# A proved program, by words with which it ends well.
+# A proved program, as 'rt ci' has built it. Where a source is newer it is built anew, by a run with words with which it ends well.
 proved() {
-    local crate=$1
+    local crate=$1 program=crates/$1/out/$1
     shift
-    (cd "crates/$crate" && rt run -- "$@") >"$work/log" 2>&1 || { tail -n 20 "$work/log"; echo "bench: $crate isn't built"; exit 1; }
-    cp "crates/$crate/out/$crate" "$work/$crate"
+    if [[ ! -x $program || -n $(find crates -name '*.rt' -newer "$program" -print -quit) ]]; then
+        (cd "crates/$crate" && rt run -- "$@") >"$work/log" 2>&1 || { tail -n 20 "$work/log"; echo "bench: $crate isn't built"; exit 1; }
+    fi
+    cp "$program" "$work/"
 }
 
-machine=$(getconf GNU_LIBC_VERSION)
+machine="$(getconf GNU_LIBC_VERSION), $(uname -m)"
 compiler="gcc $(gcc -dumpfullversion), $machine"
 words=(--compiler "$compiler")
 if command -v rt >/dev/null; then
@@ -49,8 +51,14 @@ if command -v rt >/dev/null; then
 else
     leave_out "kit: the C of release/ alone is counted"
 fi
-gcc -O2 -Irelease bench/handed.c release/tcpcore.c -o "$work/c_handed" &
-gcc -std=c99 -O1 release/tcpkit.c -o "$work/c_tcpkit" &
-gcc -std=c99 -O1 release/tcpjudge.c -o "$work/c_tcpjudge"
-wait
+
+# The files of release/ as their users compile them: release_NAME; and as C alone, on any machine: portable_NAME.
+for kind in release portable; do
+    chosen=()
+    [[ $kind != portable ]] || chosen=(-DTCPCORE_PORTABLE)
+    gcc -O2 "${chosen[@]}" -Irelease bench/handed.c release/tcpcore.c -o "$work/${kind}_handed" &
+    gcc -std=c99 -O1 "${chosen[@]}" release/tcpkit.c -o "$work/${kind}_tcpkit" &
+    gcc -std=c99 -O1 "${chosen[@]}" release/tcpjudge.c -o "$work/${kind}_tcpjudge"
+    wait
+done
 python3 "$top/bench/figures.py" "$work" "${words[@]}" "$@"
