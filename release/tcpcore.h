@@ -2,11 +2,13 @@
  * tcpcore.h: one end of one TCP connection, as a value (RFC 9293; window scale of RFC 7323; selective
  * acknowledgement of RFC 2018). IPv4.
  *
- * It is a library for x86-64 and aarch64; or, for any machine, of 32 bits too and of either order of bytes, one C99 file,
- * c/portable's tcpcore_portable.c, the same code translated to C.
+ * It is one C99 file for any machine, release/tcpcore.c: the proved machine code for x86-64 and aarch64 on Linux, and the same code translated
+ * to C for any other machine, of 32 bits too and of either order of bytes; or a library of that machine code.
  *
- * The library's code for x86-64 needs a processor of level v2, and doesn't test for one: 'rt lib --cpu x86-64' builds for
- * any, '--cpu x86-64-v3' for later ones. 'rt lib --target aarch64-unknown-linux-gnu' builds for any aarch64.
+ * Of the file x86-64's code of level v2 is taken where the compiler makes code for such processors (-march=x86-64-v2 or later ones), and
+ * else the code that any x86-64 runs; with -DTCPCORE_PORTABLE the C. The library that 'rt lib' builds needs a processor of level v2, and
+ * doesn't test for one: 'rt lib --cpu x86-64' builds for any, '--cpu x86-64-v3' for later ones. 'rt lib --target
+ * aarch64-unknown-linux-gnu' builds for any aarch64.
  *
  * WHAT IT IS
  *   An end has no socket, clock or thread. User calls, timers and the segments that arrive go in; segments and
@@ -16,10 +18,10 @@
  *   1. Make an end: tcpcore_new. Open it: tcpcore_connect or tcpcore_listen.
  *   2. After every call, or after a batch of arrivals, emit until nothing is due: call tcpcore_emit until it answers
  *      TCPCORE_NOT_DUE. Put each segment into an IPv4 packet (protocol 6) from the address of the config to the address
- *      that was told, and send it.
+ *      that it wrote through `to`, and send it.
  *   3. Hand each TCP segment that arrives to tcpcore_arrive, without its IPv4 header, with the packet's two addresses; or to
  *      tcpcore_arrive_with_at_once, which says where an answer may not wait for the rest of the batch, or tcpcore_arrive_with_report.
- *   4. Call tcpcore_receive when you want bytes. What isn't read shuts the window. A window that grows by reading makes a
+ *   4. Call tcpcore_receive when you want bytes. What isn't read closes the window. A window that grows by reading makes a
  *      segment due only where it stood at 0, and a peer that finds it too small waits for a timer of its own: read all that
  *      is there, or call tcpcore_acknowledge where the window has grown by the smaller of a segment and half the
  *      recv_capacity since it was advertised (RFC 9293, 3.8.6.2.2).
@@ -35,10 +37,10 @@
  *                                                      answered: the peer's FIN came     minutes (RFC 9293, 3.4.2)
  *                                                      again (RFC 9293, 3.10.7.4)
  *
- *      Retransmit runs while the peer's window is shut, too: it lets the end probe the window (RFC 9293, 3.8.6.1).
+ *      Retransmit runs while the peer's window is zero, too: it lets the end probe the window (RFC 9293, 3.8.6.1).
  *      A timer whose bit is clear is stopped.
- *   6. Free the end: tcpcore_free. Where there are many, each can be freed in TIME-WAIT once all was read: tcpcore_time_wait reports what
- *      takes its place, 48 bytes that answer late segments as it would.
+ *   6. Free the end: tcpcore_free. Where there are many, each can be freed in TIME-WAIT once all was read: tcpcore_time_wait
+ *      writes a record of 48 bytes that answers late segments as the end would.
  *
  * WHICH END A SEGMENT IS FOR
  *   A single end on its address needs no choice: hand it whatever comes. With several ends the caller deals out the
@@ -60,26 +62,26 @@
  *
  * MEMORY
  *   The library takes no memory from anywhere: an end lies in a block that the caller hands to tcpcore_new, all of it, and no
- *   call asks for more. tcpcore_new_at puts the struct there, too. Any block will do, static or from malloc, of any alignment. tcpcore_room says how many bytes are
- *   enough, and TCPCORE_MEMORY(send, receive) the same as a constant: the two capacities, each in whole units of 16 bytes, what
- *   the end takes beside them, and 15 bytes for a block that doesn't begin at a multiple of 16. That these are enough is
- *   measured by the tests (tests/room.c), not proved. The linker is asked for memcpy, memmove and memset alone.
+ *   call asks for more. tcpcore_new_at puts the struct there, too. Any block will do, static or from malloc, of any
+ *   alignment. tcpcore_room says how many bytes are enough, and TCPCORE_MEMORY(send, receive) the same as a constant: the
+ *   two capacities, each in whole units of 16 bytes, what the end takes beside them, and 15 bytes for a block that doesn't
+ *   begin at a multiple of 16. That these are enough is measured by the tests (tests/room.c), not proved. The linker is
+ *   asked for memcpy, memmove and memset alone.
  *
  * STACK
  *   A call takes less than TCPCORE_STACK bytes. That isn't proved: the tests read it from the disassembly (tests/depth.py:
- *   nothing calls through a pointer, and nothing calls itself) and measure it
- *   (tests/stack.c).
+ *   nothing calls through a pointer, and nothing calls itself) and measure it (tests/stack.c).
  *
  * THREADS
- *   None is started. One end is used by one thread at a time: two calls of one end at once break it, and that isn't found. Where
- *   threads share an end the caller holds a lock around each call. Two ends have nothing in common. Not for signal handlers.
+ *   None is started. One end is used by one thread at a time: two calls of one end at once are undefined behaviour and
+ *   aren't detected. Where threads share an end the caller holds a lock around each call. Two ends have nothing in common.
+ *   Not for signal handlers.
  *
  * WHO OWNS WHAT
  *   The caller places the struct tcpcore_end, sets it to TCPCORE_END_INIT, and frees what tcpcore_new put into it. The struct
- *   isn't copied or moved while it holds an end: a copy is refused (TCPCORE_COPIED). Whose places move, as a language's values
- *   do, lets it lie in the block (tcpcore_new_at), and moves the pointer alone. A struct whose bytes were saved,
- *   and put back to the same place after its end was freed, can't be found: it looks as it did while it held the end,
- *   and a call with it uses a block that was given back.
+ *   isn't copied or moved while it holds an end: a copy is refused (TCPCORE_COPIED). If your language moves values use
+ *   tcpcore_new_at: the struct lies in the block, and only the pointer moves. Saving a struct's bytes and restoring them to
+ *   the same place after its end was freed isn't detected: a call with it uses a block that was given back.
  *   The block is the end's from tcpcore_new to tcpcore_free: nobody else reads, writes, moves or frees it, and no other end
  *   is made in it. Then, and where tcpcore_new was refused, it is the caller's again, whatever its bytes are, and may serve the
  *   next end. Leaving an end without tcpcore_free loses nothing but the block.
@@ -124,7 +126,7 @@ extern "C" {
 #endif
 
 /* The version of this header: it grows with each change of a struct, a call or an answer. */
-#define TCPCORE_VERSION 9
+#define TCPCORE_VERSION 10
 
 /* The answers; tcpcore_strerror has a text for each. */
 enum {
@@ -150,6 +152,8 @@ enum {
     TCPCORE_BAD_MSS = 23,      /* the MSS isn't from 64 to 1,460 */
     TCPCORE_BAD_SHIFT = 24,    /* the window shift is above 14 */
     TCPCORE_BAD_LIMIT = 25,    /* the limit isn't from 1 to 2^62 */
+    TCPCORE_BAD_ADDR = 26,     /* the address is 0.0.0.0, which no end has (RFC 1122, 3.2.1.3) */
+    TCPCORE_BAD_PORT = 27,     /* the port is 0, which no end has (RFC 6335, 6) */
     /* The boundary refuses; nothing changed. */
     TCPCORE_NO_END = 31,    /* no end is in the struct: never made, or freed */
     TCPCORE_IN_USE = 32,    /* tcpcore_new: the struct holds an end already */
@@ -247,9 +251,9 @@ typedef struct tcpcore_addr {
 
 /* What an end is made from. */
 typedef struct tcpcore_config {
-    /* The address of this end. */
+    /* The address of this end, other than 0.0.0.0. */
     tcpcore_addr addr;
-    /* The port of this end. */
+    /* The port of this end, from 1. */
     uint16_t port;
     /* The maximum segment size that this end announces, in bytes, from 64 to 1460 (RFC 9293, 3.7.1). */
     uint16_t mss;
@@ -279,7 +283,8 @@ typedef struct tcpcore_config {
 
 /* A config with an MSS of 1,460 bytes, 65,535 bytes each way, selective acknowledgement, TCPCORE_LIMIT, and windows that aren't scaled:
        tcpcore_config config = TCPCORE_CONFIG_DEFAULT;
-   and then the address, the port and the initial sequence number, which have no default. */
+   and then the address, the port and the initial sequence number, which have no default. Without address or port no end is made; an initial
+   sequence number of 0 is one like any other, so that one that was forgotten isn't found. */
 #define TCPCORE_CONFIG_DEFAULT {{{0, 0, 0, 0}}, 0, 1460, 0, 65535, 65535, TCPCORE_LIMIT, 0, 0, 1}
 
 /* The least window shift with which all of a receive capacity can be advertised, 0 where no scaling is needed; `scales` is set where
@@ -477,11 +482,11 @@ struct tcpcore_parts {
 struct tcpcore_time_wait {
     /* The library's word for it; with any other there is no record. */
     uint32_t mark;
-    /* The address of this end. */
+    /* The address of this end, other than 0.0.0.0. */
     tcpcore_addr addr;
     /* The peer's address. */
     tcpcore_addr peer_addr;
-    /* The port of this end. */
+    /* The port of this end, from 1. */
     uint16_t port;
     /* The peer's port. */
     uint16_t peer_port;
@@ -512,8 +517,8 @@ struct tcpcore_time_wait {
 /*
  * Makes an end in *end: CLOSED, empty, nothing due. All of it lies in the `length` bytes at `block`, which may hold anything: see
  * MEMORY and WHO OWNS WHAT above. *config is read and not kept.
- *   DONE; IN_USE; BAD_CAPACITY, BAD_MSS, BAD_SHIFT, BAD_LIMIT, NO_MEMORY, the first that applies; NULL; LENGTH; OVERLAP (the
- *   block lies over the struct); COPIED (the struct is neither TCPCORE_END_INIT nor one that was freed).
+ *   DONE; IN_USE; BAD_ADDR, BAD_PORT, BAD_CAPACITY, BAD_MSS, BAD_SHIFT, BAD_LIMIT, NO_MEMORY, the first that applies; NULL; LENGTH;
+ *   OVERLAP (the block lies over the struct); COPIED (the struct is neither TCPCORE_END_INIT nor one that was freed).
  */
 uint32_t tcpcore_new(tcpcore_end *end, const tcpcore_config *config, void *block, size_t length);
 
@@ -521,8 +526,8 @@ uint32_t tcpcore_new(tcpcore_end *end, const tcpcore_config *config, void *block
  * As tcpcore_new, with the struct in the block too, at its front: *end is where. So the caller keeps a pointer, which can be copied
  * and moved, and an end is one piece of memory. The block has TCPCORE_STRUCT_ROOM bytes more. It may hold anything: that an end is in
  * it already isn't found. tcpcore_free(*end) frees the end, and the whole block is the caller's again.
- *   DONE; BAD_CAPACITY, BAD_MSS, BAD_SHIFT, BAD_LIMIT, NO_MEMORY, the first that applies; NULL; LENGTH; OVERLAP (`end` lies in the
- *   block).
+ *   DONE; BAD_ADDR, BAD_PORT, BAD_CAPACITY, BAD_MSS, BAD_SHIFT, BAD_LIMIT, NO_MEMORY, the first that applies; NULL; LENGTH; OVERLAP
+ *   (`end` lies in the block).
  */
 uint32_t tcpcore_new_at(tcpcore_end **end, const tcpcore_config *config, void *block, size_t length);
 
@@ -825,6 +830,13 @@ const char *tcpcore_strerror(uint32_t answer);
  * own. While the soname stays, later versions add calls, answers, and fields in the place of reserved words, and change nothing.
  */
 uint32_t tcpcore_version(void);
+
+/*
+ * What code the library is: "x86-64-v2 machine code", "x86-64 machine code" or "aarch64 machine code", the proved code as the proof left it;
+ * "machine code", where it isn't said for which machine; "portable C", translated from it, with a test of each access; "portable C,
+ * unchecked". It is never NULL, and nobody frees it. A later version may have other texts.
+ */
+const char *tcpcore_build(void);
 
 #ifdef __cplusplus
 #ifdef __GNUC__
