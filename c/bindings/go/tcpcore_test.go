@@ -281,9 +281,14 @@ func TestTrain(t *testing.T) {
 }
 
 func TestRefusals(t *testing.T) {
-	_, err := New(Config{Addr: a, MSS: 1, SendCapacity: 1, RecvCapacity: 1})
+	_, err := New(Config{Addr: a, Port: 1, MSS: 1, SendCapacity: 1, RecvCapacity: 1})
 	if err == nil || err.Error() != "the maximum segment size isn't from 64 to 1,460 bytes" {
 		t.Fatal(err)
+	}
+	for config, wanted := range map[Config]Refused{{Port: 1, MSS: 1}: 26, {Addr: a, MSS: 1}: 27} {
+		if _, err := New(config); !errors.Is(err, wanted) {
+			t.Fatal(err)
+		}
 	}
 	end := made(t, a)
 	defer end.Free()
