@@ -156,7 +156,7 @@ if has python3-pip /usr/bin/python3 -m pip --version && has python3-setuptools /
         bare env PYTHONPATH="$there/site" python3 alone/calls.py
         grep -q '^calls.py: [1-9][0-9]* checks' told
         # The functions in C have names of their own.
-        if nm site/tcpcore/libtcpcore.so | grep -q w2c_; then found="portable C"; else found="$(uname -m | sed 's/^x86_64$/x86-64/') machine code"; fi
+        if nm site/tcpcore/libtcpcore.so | grep w2c_ >/dev/null; then found="portable C"; else found="$(uname -m | sed 's/^x86_64$/x86-64/') machine code"; fi
         bare env PYTHONPATH="$there/site" python3 -c 'import tcpcore; print(tcpcore.build())'
         [[ $words != *PORTABLE || $found == "portable C" ]] && [[ $(<told) == "$found" ]] || fail "the wheel isn't over what was asked for"
         pass

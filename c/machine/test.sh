@@ -53,11 +53,19 @@ choices() {
         chosen "" $compiler -m32 -nostdinc -isystem "$(gcc -print-file-name=include)" -ffreestanding
         chosen "" $compiler -mx32 -nostdinc -isystem "$(gcc -print-file-name=include)" -ffreestanding
     done
-    if has clang clang --version; then chosen "" clang -fsanitize=memory; fi
+    if has clang clang --version; then
+        chosen "" clang -fsanitize=memory
+        bare=(-nostdinc -isystem "$(clang -print-resource-dir)/include" -ffreestanding)
+        chosen aarch64 clang -target aarch64-linux-gnu "${bare[@]}"
+        chosen "" clang -target aarch64-linux-gnu "${bare[@]}" -fsanitize=shadow-call-stack -ffixed-x18
+        chosen "" clang -target aarch64-linux-gnu "${bare[@]}" -mcmodel=large
+        chosen "" clang -target aarch64-linux-android "${bare[@]}"
+    fi
     if has_aarch64; then
         chosen aarch64 aarch64-linux-gnu-gcc
         chosen "" aarch64-linux-gnu-gcc -mbranch-protection=standard
         chosen "" aarch64-linux-gnu-gcc -mgeneral-regs-only
+        chosen "" aarch64-linux-gnu-gcc -mcmodel=large -fno-pic
     fi
 }
 
