@@ -1,7 +1,7 @@
 /*
  * handed MODE COUNT: two ends of the C library, in memory that the program hands in, moved as crates/bench_transfer moves two of Rattle's.
  * - in_order: COUNT bursts of two segments with an acknowledgement, their text copied in and out; each_acknowledged: with one of each.
- * - one_byte: the same with segments of one byte.
+ * - one_byte: the same with segments of one byte; sixteen: as in_order, with bursts of 16 segments.
  * - connection: makes two ends, opens, closes them one after the other, and frees them, COUNT times.
  * - lent: as in_order, but the reader has the text lent, and both ends leave sums to a device.
  * - trains: as lent, with bursts of TRAIN segments that go out as one, and arrive so.
@@ -15,7 +15,7 @@
 enum { SEGMENT = 1460, CAPACITY = 65536, TRAIN = 30 };
 
 static const tcpcore_addr A = {{10, 0, 0, 1}}, B = {{10, 0, 0, 2}};
-static unsigned char blocks[2][TCPCORE_MEMORY(CAPACITY, CAPACITY)], text[TRAIN * SEGMENT], read_bytes[2 * SEGMENT];
+static unsigned char blocks[2][TCPCORE_MEMORY(CAPACITY, CAPACITY)], text[TRAIN * SEGMENT], read_bytes[16 * SEGMENT];
 static tcpcore_end a = TCPCORE_END_INIT, b = TCPCORE_END_INIT;
 static int is_lent;
 
@@ -96,15 +96,16 @@ static void burst_of_trains(void)
     carry(&b, B, &a);
 }
 
-/* Two segments that are written at once. */
-static void burst(int acknowledges_each)
+/* Segments that are written at once. */
+static void burst(int segments, int acknowledges_each)
 {
     size_t count;
-    tcpcore_send(&a, text, (size_t)2 * SEGMENT, &count);
-    carry(&a, A, &b);
-    if (acknowledges_each)
-        carry(&b, B, &a);
-    carry(&a, A, &b);
+    tcpcore_send(&a, text, (size_t)segments * SEGMENT, &count);
+    for (int k = 0; k < segments; k++) {
+        if (k > 0 && acknowledges_each)
+            carry(&b, B, &a);
+        carry(&a, A, &b);
+    }
     carry(&b, B, &a);
     if (is_lent)
         read_lent();
@@ -138,7 +139,7 @@ int main(int number, char **words)
     if (number != 3)
         return 2;
     const char *mode = words[1];
-    unsigned long count = strtoul(words[2], NULL, 10), each = (unsigned long)2 * SEGMENT;
+    unsigned long count = strtoul(words[2], NULL, 10), each;
     memset(text, 'a', sizeof text);
     if (strcmp(mode, "connection") == 0)
         return connections(count);
@@ -146,10 +147,13 @@ int main(int number, char **words)
     is_lent = strcmp(mode, "lent") == 0 || strcmp(mode, "trains") == 0;
     int is_of_bytes = strcmp(mode, "one_byte") == 0, is_of_trains = strcmp(mode, "trains") == 0;
     int acknowledges_each = strcmp(mode, "each_acknowledged") == 0;
+    int segments = strcmp(mode, "sixteen") == 0 ? 16 : 2;
     if (is_of_bytes || is_of_trains)
         each = is_of_bytes ? 2 : sizeof text;
+    else
+        each = (unsigned long)segments * SEGMENT;
     for (unsigned long k = 0; k < count; k++)
-        is_of_bytes ? burst_of_bytes() : is_of_trains ? burst_of_trains() : burst(acknowledges_each);
+        is_of_bytes ? burst_of_bytes() : is_of_trains ? burst_of_trains() : burst(segments, acknowledges_each);
     tcpcore_status(&a, &status);
     printf("%llu bytes were moved and acknowledged\n", (unsigned long long)status.released);
     return status.released == count * each ? 0 : 1;

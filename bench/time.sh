@@ -11,8 +11,9 @@
 # - connection: two ends made in memory that is handed in, handshake, orderly close (bench/handed.c); lwIP's from its pool.
 # - lent: the reader lent its text, and both ends leaving sums to a device; trains: as lent, and 30 segments go out and arrive as one.
 # - floor: four copies and two sums of 1,460 bytes; once: one copy (bench/floor.c).
-# - bindings (bench/bound): what each takes more than C for the same calls, over the same library.
-# It wants gcc, g++, cargo, go, python3, apt-get, the network, the C library (`rt lib` in crates/tcp_c) and the portable file
+# - bindings (bench/bound): what each takes more than C for the same calls, over the same library; of Go and Python also what the same
+#   bursts take by batches (in turns), and bursts of 16 segments with one acknowledgement.
+# It wants gcc, g++, cargo, go, python3 with its header, apt-get, the network, the C library (`rt lib` in crates/tcp_c) and the portable file
 # (c/portable/build.sh, or else that of release/); the one unit is built anew where it is stale.
 set -eu
 
@@ -47,6 +48,10 @@ build_bound() {
     cp "$top/bench/bound/handed.go" "$bound/go/main.go"
     printf 'module handed\n\ngo 1.19\n\nrequire tcpcore v0.0.0\n\nreplace tcpcore => %s\n' "$top/c/bindings/go" >"$bound/go/go.mod"
     (cd "$bound/go" && CGO_LDFLAGS=-L$bound GOPROXY=off GOFLAGS=-mod=mod go build -tags tcpcore_native -o "$bound/handed.go" .)
+    mkdir -p "$bound/site/tcpcore"
+    cp "$core/tcpcore.py" "$bound/site/tcpcore/__init__.py"
+    gcc -O2 -std=c99 -shared -fPIC -I"$(python3 -c 'import sysconfig; print(sysconfig.get_path("include"))')" -I"$core" \
+        "$top/c/bindings/python/batch.c" -o "$bound/site/tcpcore/_batch.abi3.so"
 }
 build_bound
 
@@ -75,6 +80,11 @@ bound() {
     windows "$@" "$mode" "$count" | awk -v what="$column $mode" -v count="$count" -v less="$less" '{ print what, $2 * ($1 - less) / 100 / count }'
 }
 
+# The same of Python.
+python() {
+    LIBTCPCORE=$(echo "$bound"/libtcpcore.so.*) PYTHONPATH=$bound/site bound python "$1" "$2" python3 "$top/bench/bound/handed.py"
+}
+
 turn() {
     for mode in in_order one_byte each_acknowledged; do
         burst unit $mode 100000 "$ours" $mode 100000 65536
@@ -93,11 +103,17 @@ turn() {
     burst c trains 10000 "$out/handed" trains 10000
     burst portable lent 40000 "$out/portable" lent 40000
     burst portable trains 10000 "$out/portable" trains 10000
+    burst c sixteen 10000 "$out/handed" sixteen 10000
     for mode in in_order one_byte; do
         bound cpp $mode 40000 "$bound/cpp"
         bound rust $mode 40000 "$bound/rust/target/release/handed"
-        bound go $mode 40000 "$bound/handed.go"
-        LIBTCPCORE=$(echo "$bound"/libtcpcore.so.*) PYTHONPATH=$core bound python $mode 4000 python3 "$top/bench/bound/handed.py"
+    done
+    for mode in in_order one_byte sixteen in_turns bytes_in_turns sixteen_in_turns; do
+        bound go $mode 10000 "$bound/handed.go"
+        python $mode 4000
+    done
+    for mode in in_order one_byte sixteen; do
+        python ctypes_$mode 2000
     done
 }
 
@@ -135,9 +151,12 @@ done | awk '
         ratio(name ", a segment in order", over, under, "in_order"); ratio(name ", one byte", over, under, "one_byte")
         ratio(name ", a connection", over, under, "connection")
     }
-    # What a binding takes more than C for a segment.
-    function more(name, column) {
-        printf "%-28s %12.0f %12.0f\n", name, (least(column, "in_order") - least("c", "in_order")) / 2, (least(column, "one_byte") - least("c", "one_byte")) / 2
+    # What a binding takes more than C for a segment, in order, of one byte, and of sixteen; "-" where that mode has no program.
+    function more(name, column, in_order, one_byte, sixteen) {
+        printf "%-28s %12s %12s %12s\n", name, beyond(column, in_order, "in_order", 2), beyond(column, one_byte, "one_byte", 2), beyond(column, sixteen, "sixteen", 16)
+    }
+    function beyond(column, mode, of_c, segments) {
+        return least(column, mode) == "" ? "-" : sprintf("%.0f", (least(column, mode) - least("c", of_c)) / segments)
     }
     END {
         split("c portable best shipped unit", columns, " ")
@@ -147,6 +166,10 @@ done | awk '
         row("lent, sums left to a device", "lent", 2); row("so, in trains of 30", "trains", 30)
         printf "%-28s %12.0f\n%-28s %12.0f\n", "four copies and two sums", least("floor", "floor") / 2, "one copy", least("floor", "once") / 2
         ratios("lwIP, best / C library", "best", "c"); ratios("lwIP, as it ships / portable", "shipped", "portable")
-        printf "%-28s %12s %12s\n", "more than C", "in order", "one byte"
-        more("C++", "cpp"); more("Rust", "rust"); more("Go", "go"); more("Python", "python")
+        printf "%-28s %12s %12s %12s\n", "more than C", "in order", "one byte", "of sixteen"
+        more("C++", "cpp", "in_order", "one_byte", "sixteen"); more("Rust", "rust", "in_order", "one_byte", "sixteen")
+        more("Go", "go", "in_order", "one_byte", "sixteen"); more("Go, in turns", "go", "in_turns", "bytes_in_turns", "sixteen_in_turns")
+        more("Python", "python", "in_order", "one_byte", "sixteen")
+        more("Python, in turns", "python", "in_turns", "bytes_in_turns", "sixteen_in_turns")
+        more("Python, ctypes alone", "python", "ctypes_in_order", "ctypes_one_byte", "ctypes_sixteen")
     }'

@@ -1,4 +1,5 @@
-// handed MODE COUNT in Go: COUNT bursts of in_order or one_byte, as bench/handed.c moves them in C.
+// handed MODE COUNT in Go: COUNT bursts of in_order, one_byte or sixteen, as bench/handed.c moves them in C; in_turns, bytes_in_turns and
+// sixteen_in_turns are the same bursts by batches.
 package main
 
 // #include <stdlib.h>
@@ -7,6 +8,7 @@ import "C"
 import (
 	"os"
 	"strconv"
+	"strings"
 	"tcpcore"
 )
 
@@ -36,12 +38,12 @@ func carry(from *tcpcore.End, src tcpcore.Addr, to *tcpcore.End) {
 	}
 }
 
-func burst(one, other *tcpcore.End, text, read []byte) int {
-	if len(text) > 2 {
+func burst(one, other *tcpcore.End, text, read []byte, segments int) int {
+	if len(text) > segments {
 		one.Send(text)
 	}
-	for k := 0; k < 2; k++ {
-		if len(text) == 2 {
+	for k := 0; k < segments; k++ {
+		if len(text) == segments {
 			one.Send(text[:1])
 		}
 		carry(one, a, other)
@@ -52,11 +54,39 @@ func burst(one, other *tcpcore.End, text, read []byte) int {
 	return count
 }
 
-func main() {
-	text := make([]byte, 2*1460)
-	if os.Args[1] == "one_byte" {
-		text = text[:2]
+var there, back tcpcore.Batch
+
+func turn(one, other *tcpcore.End, text, read []byte, segments int) int {
+	there.Reset()
+	back.Reset()
+	if len(text) > segments {
+		one.Send(text)
+		must(one.EmitAll(&there))
+	} else {
+		for k := 0; k < segments; k++ {
+			one.Send(text[:1])
+			must(one.EmitAll(&there))
+		}
 	}
+	must(other.Turn(a, b, &there, &back))
+	must(one.ArriveAll(b, a, &back))
+	count, err := other.Receive(read)
+	must(err)
+	return count
+}
+
+func main() {
+	mode, segments, each, move := os.Args[1], 2, 1460, burst
+	if strings.HasPrefix(mode, "sixteen") {
+		segments = 16
+	}
+	if mode == "one_byte" || mode == "bytes_in_turns" {
+		each = 1
+	}
+	if strings.HasSuffix(mode, "in_turns") {
+		move = turn
+	}
+	text := make([]byte, segments*each)
 	count, err := strconv.Atoi(os.Args[2])
 	must(err)
 	one, other := made(a, 1), made(b, 2)
@@ -68,7 +98,7 @@ func main() {
 	read := make([]byte, len(text))
 	left := count * len(text)
 	for k := 0; k < count; k++ {
-		left -= burst(one, other, text, read)
+		left -= move(one, other, text, read, segments)
 	}
 	// Not os.Exit, behind which what is preloaded tells nothing.
 	if left != 0 {

@@ -42,6 +42,7 @@ if has golang-go go version; then
     is_native out/go_test
     passed=$((passed + 2))
 fi
+python_header() { test -e "$(/usr/bin/python3 -c 'import sysconfig; print(sysconfig.get_path("include"))')/Python.h"; }
 # Python's package, installed in a folder of its own, with the library that TCPCORE_PREBUILT and CFLAGS ask for; what it says that is.
 python_over() {
     local site=$PWD/out/site.$1 said
@@ -49,8 +50,9 @@ python_over() {
     TCPCORE_PREBUILT=$2 /usr/bin/python3 -m pip install --quiet --no-index --no-deps --no-build-isolation --root-user-action=ignore \
         --target "$site" ./python
     mkdir -p out/alone/tests out/alone/examples
-    cp ../tcpcore/tests/calls.py out/alone/tests
+    cp ../tcpcore/tests/{calls,batches}.py out/alone/tests
     PYTHONPATH=$site timeout 300 /usr/bin/python3 out/alone/tests/calls.py
+    PYTHONPATH=$site timeout 300 /usr/bin/python3 out/alone/tests/batches.py module
     said=$(cd / && PYTHONPATH=$site /usr/bin/python3 -c 'import tcpcore; print(tcpcore.build())')
     [[ $said == "$3" ]] || { echo "bindings: Python's package over $1 says '$said'"; exit 1; }
     # The examples by themselves, as a user has them who has installed the package: they find it, and print what they print in the
@@ -61,10 +63,10 @@ python_over() {
         (cd out/alone/examples && env -i PATH="$PATH" PYTHONPATH="$site" timeout 300 /usr/bin/python3 "$example.py") >out/printed
         diff out/printed "../tcpcore/tests/expected/$example"
     done
-    passed=$((passed + 2))
+    passed=$((passed + 3))
 }
 if has python3-pip /usr/bin/python3 -m pip --version && has python3-setuptools /usr/bin/python3 -c 'import setuptools' &&
-    has python3-wheel /usr/bin/python3 -c 'import wheel'; then
+    has python3-wheel /usr/bin/python3 -c 'import wheel' && has python3-dev python_header; then
     native=$(uname -m | sed 's/^x86_64$/x86-64/')
     python_over file "" "$native machine code"
     is_native out/site.file/tcpcore/libtcpcore.so

@@ -46,7 +46,7 @@ bindings() {
         mkdir "$place/$folder/csrc"
         cp "$file" "$core/"{tcpcore.h,tcpcore_old_names.h} "$place/$folder/csrc"
     done
-    cp "$top/c/bindings/python/"{pyproject.toml,setup.py} "$place/python"
+    cp "$top/c/bindings/python/"{pyproject.toml,setup.py,batch.c} "$place/python"
     cp "$core/tcpcore.py" "$place/python/tcpcore/__init__.py"
     touch "$place/python/tcpcore/py.typed"
     cp "$top/c/bindings/cpp/"{tcpcore.hpp,test.cpp} "$place/cpp"

@@ -251,9 +251,9 @@ typedef struct tcpcore_addr {
 
 /* What an end is made from. */
 typedef struct tcpcore_config {
-    /* The address of this end, other than 0.0.0.0. */
+    /* The address of this end. */
     tcpcore_addr addr;
-    /* The port of this end, from 1. */
+    /* The port of this end. */
     uint16_t port;
     /* The maximum segment size that this end announces, in bytes, from 64 to 1460 (RFC 9293, 3.7.1). */
     uint16_t mss;
@@ -482,11 +482,11 @@ struct tcpcore_parts {
 struct tcpcore_time_wait {
     /* The library's word for it; with any other there is no record. */
     uint32_t mark;
-    /* The address of this end, other than 0.0.0.0. */
+    /* The address of this end. */
     tcpcore_addr addr;
     /* The peer's address. */
     tcpcore_addr peer_addr;
-    /* The port of this end, from 1. */
+    /* The port of this end. */
     uint16_t port;
     /* The peer's port. */
     uint16_t peer_port;

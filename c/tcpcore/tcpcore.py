@@ -5,15 +5,19 @@ buffer of bytes (bytearray, memoryview). A number that doesn't fit its field is 
 
 An end is used by one thread at a time: ctypes lets other threads run during a call, and two calls of one end at once break it. Where
 threads share an end, a lock (threading.Lock) is held around each call. Ends have nothing in common.
+
+Text and segments go by the module _batch, in C, where it was built beside the library, and else by ctypes, which takes longer and does the
+same. `turn`, `arrive_all` and `emit_all` take many segments in one call.
 """
 
 from __future__ import annotations
 
 import ctypes
 import enum
+import importlib.util
 import ipaddress
 import os
-from typing import Any, Callable, NamedTuple, NoReturn, Optional, Union
+from typing import Any, Callable, Iterable, NamedTuple, NoReturn, Optional, Union
 
 VERSION = 10
 EMIT_ROOM = 1520
@@ -404,6 +408,8 @@ def transmit_of(told: TransmitStruct) -> Transmit:
 
 
 loaded: dict[str, Callable[..., Any]] = {}
+# The module _batch, bound to these calls, or None where it wasn't built.
+batch: Any = None
 
 
 def found_by(answer: int) -> bool:
@@ -413,12 +419,17 @@ def found_by(answer: int) -> bool:
     return answer == DONE
 
 
-def address(addr: Address) -> AddrStruct:
-    """The C struct of an address."""
+def packed(addr: Address) -> bytes:
+    """The 4 bytes of an address."""
     found = ipaddress.IPv4Address(addr).packed if isinstance(addr, (str, ipaddress.IPv4Address)) else bytes(addr)
     if len(found) != 4:
         raise ValueError(f"an IPv4 address has 4 bytes, not {len(found)}")
-    return AddrStruct.from_buffer_copy(found)
+    return found
+
+
+def address(addr: Address) -> AddrStruct:
+    """The C struct of an address."""
+    return AddrStruct.from_buffer_copy(packed(addr))
 
 
 def number(name: str, value: int, bits: int) -> int:
@@ -454,13 +465,31 @@ def load(path: str) -> dict[str, Callable[..., Any]]:
     return calls
 
 
+def load_batch(path: str, calls: dict[str, Any]) -> Any:
+    """The module _batch of this file, bound to these calls."""
+    spec = importlib.util.spec_from_file_location("_batch", path)
+    if spec is None or spec.loader is None:
+        raise ImportError(f"{path} is no module")
+    module = importlib.util.module_from_spec(spec)
+    spec.loader.exec_module(module)
+    places = [ctypes.cast(calls[name], ctypes.c_void_p).value for name in ("send", "receive", "emit", "arrive_with_at_once")]
+    answers = tuple(Answer(answer) if answer in ANSWERS else None for answer in range(64))
+    module.bind(*places, answers, Answer, Refused, octets, packed)
+    return module
+
+
 def library() -> dict[str, Callable[..., Any]]:
     """The calls of the library that LIBTCPCORE names, else of libtcpcore.so beside this file, else of out/libtcpcore.so. It is
-    loaded once."""
+    loaded once, with the module _batch beside this file or in out/, where there is one."""
+    global batch
     if not loaded:
         here = os.path.dirname(os.path.realpath(__file__))
         beside = f"{here}/libtcpcore.so"
-        loaded.update(load(os.environ.get("LIBTCPCORE", beside if os.path.exists(beside) else f"{here}/out/libtcpcore.so")))
+        calls = load(os.environ.get("LIBTCPCORE", beside if os.path.exists(beside) else f"{here}/out/libtcpcore.so"))
+        for path in (f"{here}/_batch.abi3.so", f"{here}/out/_batch.abi3.so"):
+            if batch is None and os.path.exists(path):
+                batch = load_batch(path, calls)
+        loaded.update(calls)
     return loaded
 
 
@@ -477,6 +506,12 @@ def version() -> int:
 def build() -> str:
     """What code the library is, such as "x86-64-v2 machine code" or "portable C"."""
     return bytes(library()["build"]()).decode()
+
+
+def batches() -> bool:
+    """Whether the module _batch was built, so that `turn`, `arrive_all` and `emit_all` are one call each; else they make the single calls."""
+    library()
+    return batch is not None
 
 
 def stray_reset(src: Address, dst: Address, data: Buffer) -> Optional[bytes]:
@@ -574,6 +609,8 @@ class End:
         answer = self.calls["new_at"](self.end, told, self.memory, size)
         if answer != DONE:
             raise Refused(answer)
+        # For the module _batch: where the struct and the room for text lie, which stay there as long as this object.
+        self.batch, self.at, self.text_at = batch, ctypes.addressof(self.end.contents), ctypes.addressof(self.text)
 
     def ask(self, name: str, *args: Any) -> None:
         """A call that is done or refused."""
@@ -625,12 +662,17 @@ class End:
 
     def send(self, text: Buffer) -> int:
         """How many bytes were taken."""
+        if self.batch is not None:
+            return int(self.batch.send(self.at, text))
         text = octets(text)
         self.ask("send", text, len(text), self.count)
         return self.count.value
 
     def receive(self) -> Optional[bytes]:
         """Bytes, b"" at the end of the stream, None where there is nothing yet."""
+        if self.batch is not None:
+            text: Optional[bytes] = self.batch.receive(self.at, self.text_at, self.room)
+            return text
         answer = self.calls["receive"](self.end, self.text, self.room, self.count)
         if answer in (NOTHING, END_OF_STREAM):
             return b"" if answer == END_OF_STREAM else None
@@ -669,12 +711,41 @@ class End:
 
     def arrive(self, src: Address, dst: Address, data: Buffer) -> Answer:
         """What became of the segment."""
-        return self.takes("arrive", src, dst, data)
+        return self.arrive_with_at_once(src, dst, data)[0]
 
     def arrive_with_at_once(self, src: Address, dst: Address, data: Buffer) -> tuple[Answer, bool]:
         """What became of the segment, and whether the segment has to be answered at once."""
+        if self.batch is not None:
+            told: tuple[Answer, bool] = self.batch.arrive(self.at, src, dst, data)
+            return told
         answer = self.takes("arrive_with_at_once", src, dst, data, self.due)
         return answer, self.due.value == 1
+
+    def arrive_all(self, src: Address, dst: Address, segments: Iterable[Buffer]) -> list[tuple[Answer, bool]]:
+        """`arrive_with_at_once` for each segment in order: what each one tells. All are handed in, whatever the answers are, so that one which
+        has to be answered at once is answered behind the last one: `turn` doesn't let it wait."""
+        if self.batch is not None:
+            told: list[tuple[Answer, bool]] = self.batch.arrive_all(self.at, src, dst, segments)
+            return told
+        # All are bytes before the first one arrives.
+        source, destination, arriving = packed(src), packed(dst), list(map(octets, segments))
+        return [self.arrive_with_at_once(source, destination, segment) for segment in arriving]
+
+    def turn(self, src: Address, dst: Address, segments: Iterable[Buffer]) -> tuple[list[Answer], list[tuple[bytes, bytes]]]:
+        """`arrive` for each segment in order, with `emit_all` behind each that has to be answered at once (RFC 5681, 4.2), and behind the last
+        one: what became of each, and the addresses and bytes of the segments to send. Of no segments it is `emit_all`."""
+        if self.batch is not None:
+            told: tuple[list[Answer], list[tuple[bytes, bytes]]] = self.batch.turn(self.at, src, dst, segments)
+            return told
+        source, destination, arriving = packed(src), packed(dst), list(map(octets, segments))
+        answers: list[Answer] = []
+        out: list[tuple[bytes, bytes]] = []
+        for segment in arriving:
+            answer, at_once = self.arrive_with_at_once(source, destination, segment)
+            answers.append(answer)
+            if at_once:
+                out += self.emit_all()
+        return answers, out + self.emit_all()
 
     def arrive_with_report(self, src: Address, dst: Address, data: Buffer) -> tuple[Answer, ArriveReport]:
         """What became of the segment, and what it is to the end."""
@@ -699,9 +770,19 @@ class End:
 
     def emit(self) -> Optional[tuple[bytes, bytes]]:
         """The address and the bytes of a segment, or None."""
+        if self.batch is not None:
+            found: Optional[tuple[bytes, bytes]] = self.batch.emit(self.at)
+            return found
         if not self.finds("emit", self.segment, EMIT_ROOM, self.to, self.count):
             return None
         return bytes(self.to.byte), ctypes.string_at(self.segment, self.count.value)
+
+    def emit_all(self) -> list[tuple[bytes, bytes]]:
+        """`emit` until nothing is due: the addresses and the bytes of the segments."""
+        if self.batch is not None:
+            found: list[tuple[bytes, bytes]] = self.batch.emit_all(self.at)
+            return found
+        return list(iter(self.emit, None))
 
     def emit_partial(self) -> Optional[tuple[bytes, bytes]]:
         """As `emit`, for a device that sums: the checksum field has the sum of the pseudo-header alone."""

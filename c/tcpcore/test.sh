@@ -94,7 +94,7 @@ check_with() {
     "$compiler" $warnings -O2 -shared -fPIC tcpcore.c "$library" -Wl,--exclude-libs,ALL -Wl,-z,defs \
         -o "$shared"
     same "exported names" "$(exports -D "$shared")" "$(printf 'tcpcore_%s\n' $calls strerror version build new_at | sort)"
-    for source in examples/two_ends examples/hello examples/lossy_link tests/fields tests/answers tests/lifetime tests/calls; do
+    for source in examples/two_ends examples/hello examples/lossy_link tests/fields tests/answers tests/lifetime tests/calls tests/batches; do
         prints "${source#*/}" env LIBTCPCORE="$shared" PYTHONPATH="$PWD" python3 "$source.py"
     done
     if has "$package" "$compiler" $sanitizers -I. tests/misuse.c tcpcore.c "$library" -o out/sanitized; then

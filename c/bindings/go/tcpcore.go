@@ -5,7 +5,7 @@ package tcpcore
 
 /*
 #cgo CFLAGS: -std=c99 -O2 -I${SRCDIR}/../../../release
-#include "tcpcore.h"
+#include "batch.h"
 #include <stdlib.h>
 */
 import "C"
@@ -165,21 +165,19 @@ func front(bytes []byte) unsafe.Pointer {
 
 // Send takes the front of the text that fits, and tells its length.
 func (end *End) Send(text []byte) (int, error) {
-	var taken C.size_t
-	err := done(C.tcpcore_send(end.raw, front(text), C.size_t(len(text)), &taken))
-	return int(taken), err
+	told := C.batch_send(end.raw, bytesOf(text), C.size_t(len(text)))
+	return int(told.count), done(told.answer)
 }
 
 // Receive hands over what came in order; 0 where there is nothing yet, io.EOF at the end of the stream.
 func (end *End) Receive(out []byte) (int, error) {
-	var count C.size_t
-	switch answer := C.tcpcore_receive(end.raw, front(out), C.size_t(len(out)), &count); answer {
+	switch told := C.batch_receive(end.raw, bytesOf(out), C.size_t(len(out))); told.answer {
 	case C.TCPCORE_NOTHING:
 		return 0, nil
 	case C.TCPCORE_END_OF_STREAM:
 		return 0, io.EOF
 	default:
-		return int(count), done(answer)
+		return int(told.count), done(told.answer)
 	}
 }
 
@@ -211,9 +209,9 @@ func (end *End) Consume(count int) (int, error) {
 
 // Emit writes the segment that is due; 0 where none is.
 func (end *End) Emit(room *[EmitRoom]byte) (to Addr, length int) {
-	var count C.size_t
-	found(C.tcpcore_emit(end.raw, unsafe.Pointer(room), EmitRoom, (*C.tcpcore_addr)(unsafe.Pointer(&to)), &count))
-	return to, int(count)
+	told := C.batch_emit_one(end.raw, (*C.uchar)(&room[0]))
+	found(told.answer)
+	return *(*Addr)(unsafe.Pointer(&told.to)), int(told.length)
 }
 
 // EmitAcknowledgement writes the acknowledgement that is pending, alone, though data is due; 0 where none goes out before that.
@@ -277,9 +275,8 @@ func (end *End) EmitTrain(room []byte, most int) (Train, error) {
 
 // Arrive takes a segment: nil where it was taken, else what became of it; and whether it has to be answered at once.
 func (end *End) Arrive(src, dst Addr, segment []byte) (atOnce bool, err error) {
-	var found C.uint32_t
-	err = done(C.tcpcore_arrive_with_at_once(end.raw, src.c(), dst.c(), front(segment), C.size_t(len(segment)), &found))
-	return found == 1, err
+	told := C.batch_arrive_one(end.raw, src.c(), dst.c(), bytesOf(segment), C.size_t(len(segment)))
+	return told.length == 1, done(told.answer)
 }
 
 // ArriveReport is what an arrival was to the end, by the fields of struct tcpcore_arrive_report; Rule has the header's number, TCPCORE_RULE_FOREIGN and

@@ -2,13 +2,18 @@
 one for what that compiles for, the layer tcpcore.c and prebuilt/MACHINE/libtcp_c.a, as the tarball has them, around this folder or in the
 one that TCPCORE_PREBUILT names (empty, it says that there is none); else of the one C file for any machine, which has the machine code in it,
 too. That and its header are in csrc beside this, with the package's text; or in release/ of the repository, whose c/tcpcore/tcpcore.py is
-the text then."""
+the text then.
+
+Beside it the module _batch, of batch.c, where Python's header is there (Debian: python3-dev): without it the package does the same by
+ctypes, in more time, and tcpcore.batches() says so."""
 
 import os
 import pathlib
 import shlex
 import shutil
 import subprocess
+import sys
+import sysconfig
 
 from setuptools import Distribution, setup
 from setuptools.command.build_py import build_py
@@ -56,13 +61,24 @@ def words():
     return ["-std=c99", f"-I{SOURCE}", SOURCE / "tcpcore.c"]
 
 
+def batch(out):
+    """Builds the module _batch where Python's header is there."""
+    include = pathlib.Path(sysconfig.get_path("include"))
+    if not (include / "Python.h").exists():
+        print(f"tcpcore: no {include}/Python.h, so that batches are made by single calls", file=sys.stderr)
+        return
+    undefined = ["-undefined", "dynamic_lookup"] if sys.platform == "darwin" else []
+    subprocess.run([*compiler(), "-std=c99", "-shared", *undefined, f"-I{include}", f"-I{SOURCE}", HERE / "batch.c", "-o", out], check=True)
+
+
 class Build(build_py):
     """The package with its library."""
 
     def run(self):
         super().run()
-        out = pathlib.Path(self.build_lib, "tcpcore", "libtcpcore.so")
-        subprocess.run([*compiler(), "-shared", *words(), "-o", out], check=True)
+        out = pathlib.Path(self.build_lib, "tcpcore")
+        subprocess.run([*compiler(), "-shared", *words(), "-o", out / "libtcpcore.so"], check=True)
+        batch(out / "_batch.abi3.so")
 
 
 class Binary(Distribution):

@@ -1,0 +1,133 @@
+package tcpcore
+
+/*
+#include "batch.h"
+*/
+import "C"
+
+import "unsafe"
+
+// Batch is segments in their order: those that arrive, or those that were emitted. The zero Batch is empty and ready for use. It grows as
+// it has to and keeps its memory over Reset, so that a batch used again and again allocates nothing. It is used by one goroutine at a
+// time, and not copied.
+type Batch struct {
+	bytes   []byte
+	records []C.struct_batch_record
+	used    int // of bytes
+	count   int // of records
+}
+
+// Reset empties the batch. What Segment lent is written over by what comes next.
+func (batch *Batch) Reset() { batch.used, batch.count = 0, 0 }
+
+// Len is the number of segments.
+func (batch *Batch) Len() int { return batch.count }
+
+// Add appends a copy of a segment.
+func (batch *Batch) Add(segment []byte) {
+	batch.grow(len(segment))
+	copy(batch.bytes[batch.used:], segment)
+	batch.records[batch.count] = C.struct_batch_record{at: C.size_t(batch.used), length: C.size_t(len(segment))}
+	batch.used, batch.count = batch.used+len(segment), batch.count+1
+}
+
+// grow makes room for a record and so many bytes.
+func (batch *Batch) grow(more int) {
+	if len(batch.bytes)-batch.used < more || len(batch.bytes) == 0 {
+		bytes := make([]byte, 2*len(batch.bytes)+more+8*EmitRoom)
+		copy(bytes, batch.bytes[:batch.used])
+		batch.bytes = bytes
+	}
+	if len(batch.records) == batch.count {
+		records := make([]C.struct_batch_record, 2*batch.count+16)
+		copy(records, batch.records)
+		batch.records = records
+	}
+}
+
+func (batch *Batch) record(i int) *C.struct_batch_record { return &batch.records[:batch.count][i] }
+
+// Segment lends segment i, until the next Reset, Add, or call that fills the batch.
+func (batch *Batch) Segment(i int) []byte {
+	record := batch.record(i)
+	return batch.bytes[record.at : record.at+record.length : record.at+record.length]
+}
+
+// To is where segment i goes, of those that were emitted.
+func (batch *Batch) To(i int) Addr { return *(*Addr)(unsafe.Pointer(&batch.record(i).to)) }
+
+// Err is what Arrive would have told of segment i, once it has arrived: nil where it was taken.
+func (batch *Batch) Err(i int) error { return done(batch.record(i).answer) }
+
+// AtOnce is whether segment i had to be answered at once, once it has arrived.
+func (batch *Batch) AtOnce(i int) bool { return batch.record(i).at_once == 1 }
+
+// ArriveAll is Arrive for each segment in order, in one call of C; Err and AtOnce tell of each. It returns an error where there is no end,
+// as after Free: then no segment was handed in.
+//
+// All are handed in, whatever the answers are. So one that has to be answered at once is answered behind the last one: an end that lets
+// acknowledgements wait for a second segment uses Turn, or looks at AtOnce.
+func (end *End) ArriveAll(src, dst Addr, in *Batch) error {
+	return end.turn(src, dst, in, nil, false)
+}
+
+// EmitAll is Emit until nothing is due, in one call of C. What it writes is appended to the batch. It returns an error where there is no
+// end, as after Free.
+func (end *End) EmitAll(out *Batch) error {
+	return end.turn(Addr{}, Addr{}, nil, out, true)
+}
+
+// Turn is, in one call of C, Arrive for each segment in order, with Emit until nothing is due behind each one that has to be answered at
+// once (RFC 5681, 4.2), and behind the last one. What it emits is appended to `out`, another Batch than `in`; where `in` is empty it is
+// EmitAll. It returns an error where there is no end, as after Free.
+func (end *End) Turn(src, dst Addr, in, out *Batch) error {
+	if in == out {
+		return Refused(C.TCPCORE_OVERLAP)
+	}
+	return end.turn(src, dst, in, out, in.count == 0)
+}
+
+var none Batch
+
+// turn calls C, and again where `out` has to grow before more can be emitted.
+func (end *End) turn(src, dst Addr, in, out *Batch, emits bool) error {
+	from, to, next := in, out, C.size_t(0)
+	if in == nil {
+		from = &none
+	}
+	if out == nil {
+		to = &none
+	}
+	for {
+		if out != nil {
+			out.grow(EmitRoom)
+		}
+		told := C.batch_turn(end.raw, src.c(), dst.c(), bytesOf(from.bytes), recordsOf(from.records), next, C.size_t(from.count),
+			is(out != nil), is(emits), bytesOf(to.bytes), C.size_t(len(to.bytes)), recordsOf(to.records), C.size_t(len(to.records)),
+			C.size_t(to.used), C.size_t(to.count))
+		if out != nil {
+			out.used, out.count = int(told.used), int(told.count)
+		}
+		if told.is_full == 0 {
+			return done(C.uint32_t(told.answer))
+		}
+		next, emits = told.next, true
+	}
+}
+
+func is(so bool) C.int {
+	if so {
+		return 1
+	}
+	return 0
+}
+
+// bytesOf and recordsOf are where a slice begins, nil where it is empty; of types without pointers, in which cgo has nothing to look for.
+func bytesOf(bytes []byte) *C.uchar { return (*C.uchar)(front(bytes)) }
+
+func recordsOf(records []C.struct_batch_record) *C.struct_batch_record {
+	if len(records) == 0 {
+		return nil
+	}
+	return &records[0]
+}
