@@ -243,7 +243,8 @@ static void report_now(struct usernet *net)
 
 int loop_init(struct usernet *net, const uint8_t secret[16])
 {
-    const tcpcore_config config = {.mss = 64, .send_capacity = 1, .recv_capacity = 1, .limit = 1};
+    /* The reader's address is one to which no packet of a network goes (RFC 1122, 3.2.1.3): what it reads is another's. */
+    const tcpcore_config config = {.addr = {{127, 0, 0, 1}}, .port = 1, .mss = 64, .send_capacity = 1, .recv_capacity = 1, .limit = 1};
     net->events = epoll_create1(EPOLL_CLOEXEC);
     net->now = milliseconds();
     wheel_init(&net->wheel, net->now);
