@@ -118,7 +118,7 @@ function watch() {
         watched.blocked = Math.max(watched.blocked, now - watched.last);
         watched.last = now;
         watched.read ??= document.getElementById("reading-told").textContent.startsWith("Segments") ? now - start : null;
-        watched.shown ??= document.getElementById("said").textContent.endsWith("is open.") ? now - start : null;
+        watched.shown ??= document.getElementById("said").textContent.includes(" is open.") ? now - start : null;
         watched.judged ??= watched.shown !== null && document.getElementById("reading").hidden ? now - start : null;
         if (!watched.is_over) {
             setTimeout(tick, 0);

@@ -93,13 +93,32 @@ function findings_told({ count, counts, left, complete, columns, findings }) {
     ]);
 }
 
+// The verdict in a sentence, by how many segments of each end break a rule.
+function verdict_of_ends({ ends, counts }) {
+    if (counts[0] === 0 && counts[1] === 0) {
+        return `No rule is broken by A (${ends.A}) or B (${ends.B}).`;
+    }
+    const told = ENDS.map((end, place) => `${end} (${ends[end]}) ${
+        counts[place] === null ? "can't be judged in the memory that there is"
+            : counts[place] === 0 ? "breaks no rule" : `breaks a rule in ${counted(counts[place], "segment")}`}`);
+    return `${told.join(", ")}.`;
+}
+
 function option_told({ ends, count, counts }) {
     const sum = counts === undefined || counts.includes(null) ? 0 : counts[0] + counts[1];
     return `${ends.A} > ${ends.B}, ${counted(count, "segment")}${sum === 0 ? "" : `, ${counted(sum, "finding")}`}`;
 }
 
-export function captured({ part, choice, complete, told, box, canvas, picture, heads, listed }, judge_one) {
-    let shown = null, drawn = [0, -1], frame = 0, is_fine = false, known = [], added = 0;
+export function captured({ part, choice, complete, told, box, canvas, picture, heads, listed, verdict, verdict_told }, judge_one, say) {
+    let shown = null, drawn = [0, -1], frame = 0, is_fine = false, known = [], added = 0, name = "", total = 0, broken = 0, whole = "";
+
+    // What is seen at the top of the window is what is said.
+    function tell() {
+        const which = total > 1 ? `Connection ${Number(choice.value) + 1} of ${total}: ` : "";
+        verdict.hidden = false;
+        verdict_told.textContent = parts_told([`${name} is open.`, which + verdict_of_ends(shown), whole]);
+        say(verdict_told.textContent);
+    }
 
     function draw(is_forced) {
         if (shown === null) {
@@ -159,18 +178,18 @@ export function captured({ part, choice, complete, told, box, canvas, picture, h
     }
 
     // Asks for the verdict on the connection that is chosen, and shows it once it is there.
-    function judge(then = () => {}) {
+    function judge() {
         part.setAttribute("aria-busy", "true");
         judge_one(Number(choice.value), { A: complete.A.checked, B: complete.B.checked }, found => {
             part.setAttribute("aria-busy", "false");
             show_judged(found);
-            then();
+            tell();
         });
     }
 
     function hide() {
         shown = null;
-        part.hidden = true;
+        part.hidden = verdict.hidden = true;
         part.setAttribute("aria-busy", "false");
     }
 
@@ -188,21 +207,33 @@ export function captured({ part, choice, complete, told, box, canvas, picture, h
         frame = requestAnimationFrame(() => draw(false));
     }, { passive: true });
     return {
-        // The connections of a capture; the first is shown, and `then` is called once it is.
-        show(found, then) {
+        // A capture is read.
+        expect(file) {
+            verdict.hidden = false;
+            verdict_told.textContent = `${file} is being read. The verdict on it will be here.`;
+            say(verdict_told.textContent);
+        },
+        // The connections of a capture; the first is shown.
+        show(found) {
             ENDS.forEach(end => { complete[end].checked = false; });
             [is_fine, known, added] = [found.is_fine, found.connections.length, 0];
+            [name, total, broken, whole] = [found.name, found.total, 0, ""];
             choice.replaceChildren(...found.connections.map((one, number) => new Option(option_told(one), number)));
             choice.disabled = found.total < 2;
             if (found.total === 0) {
                 hide();
-                then();
+                say(`${name} is open. It has no segment to judge.`);
             } else {
-                judge(then);
+                judge();
             }
         },
-        // Of these connections the findings are counted.
-        count(found) {
+        // Of these connections the findings are counted, of all in the end.
+        count(found, is_over) {
+            broken += found.filter(({ counts }) => counts[0] + counts[1] > 0).length;
+            if (is_over && total > 1) {
+                whole = broken === 0 ? `No rule is broken in any of the ${total}.` : `Rules are broken in ${broken} of the ${total}.`;
+                shown !== null && tell();
+            }
             for (const one of found) {
                 if (one.number < known) {
                     choice.options[one.number].text = option_told(one);

@@ -5,6 +5,8 @@ import os from "node:os";
 import path from "node:path";
 
 const WORDS = ["--headless", "--no-sandbox", "--disable-gpu", "--hide-scrollbars", "--no-first-run",
+    // Else the page's process gives way to all others of the machine.
+    "--disable-renderer-backgrounding", "--disable-backgrounding-occluded-windows",
     "--remote-debugging-pipe"];
 const PATIENCE = 30000;
 

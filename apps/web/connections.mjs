@@ -1,6 +1,6 @@
 // The connections of a capture's segments, and each as the log of one end, which the module judges (docs/JUDGE.md).
 import { bytes_of } from "./captures.mjs";
-import { NO_MEMORY, NO_ROOM, REFUSED, WELL } from "./module.mjs";
+import { REFUSED, WELL } from "./module.mjs";
 
 const FLAGS = ["FIN", "SYN", "RST", "PSH", "ACK", "URG"], SYN_BIT = 2, ACK_BIT = 16, LEAST_HEADER = 16, SUM_AT = 16;
 
@@ -75,6 +75,11 @@ function sum_of(addresses, bytes, count) {
     return sum % 0xffff;
 }
 
+// The addresses of a segment as bytes, one behind the other.
+function addresses_of(source, target) {
+    return Uint8Array.from([...source.split("."), ...target.split(".")], Number);
+}
+
 // The segment's bytes, with the checksum made right that was left to a device: a sum over the pseudo-header alone.
 function sent_bytes(addresses, bytes) {
     const is_whole = bytes.length >= SUM_AT + 2;
@@ -87,6 +92,11 @@ function sent_bytes(addresses, bytes) {
     const sum = 0xffff - sum_of(addresses, mended, mended.length);
     mended.set([sum >> 8, sum & 255], SUM_AT);
     return { bytes: mended, is_left };
+}
+
+// The same of a segment of a capture.
+export function as_sent({ source, target, bytes }) {
+    return sent_bytes(addresses_of(source, target), bytes);
 }
 
 const HEX_DIGITS = new TextEncoder().encode("0123456789abcdef"), BREAK = 10;
@@ -106,8 +116,7 @@ function add_line(log, at, words, bytes) {
 
 // The log of one end as bytes: line N is segment N of the connection. Checksums that were left to a device are counted.
 export function log_of({ ends, segments }, side) {
-    const addresses = { A: ends.A.split(":")[0], B: ends.B.split(":")[0] }, sums = Uint8Array.from(
-        [...addresses.A.split("."), ...addresses.B.split(".")], Number);
+    const addresses = { A: ends.A.split(":")[0], B: ends.B.split(":")[0] }, sums = addresses_of(addresses.A, addresses.B);
     const words = Object.fromEntries(["AB", "BA"].map(([from, to]) => [from, new TextEncoder().encode(
         `${from === side ? "went" : "came"} ${addresses[from]} ${addresses[to]} `)]));
     const log = new Uint8Array(segments.reduce((sum, { side: from, bytes }) => sum + words[from].length + 2 * bytes.length + 1, 0));
@@ -125,20 +134,11 @@ export function findings_of(report) {
     return new Map([...report.matchAll(/^line (\d+): (.*)$/gm)].map(([, line, rule]) => [Number(line), rule]));
 }
 
-// The judge's answer on a log, with more memory where it needs that and can get it.
-function judged_log(core, log, is_complete) {
-    let found = core.judge(log, is_complete);
-    while ((found.answer === NO_MEMORY || found.answer === NO_ROOM) && core.grow()) {
-        found = core.judge(log, is_complete);
-    }
-    return found;
-}
-
 // The verdict on one end of a connection: its findings by the place of the segment, counted from 0, and how many checksums were left
 // to a device. There is null in place of the findings where there is no memory for the log or for the module that judges it.
 export function verdict_of(core, connection, side, is_complete) {
     try {
-        const { log, left } = log_of(connection, side), { answer, text } = judged_log(core, log, is_complete);
+        const { log, left } = log_of(connection, side), { answer, text } = core.judge(log, is_complete);
         const findings = answer === WELL || answer === REFUSED ? [...findings_of(text)].map(([line, rule]) => [line - 1, rule]) : null;
         return { findings, left };
     } catch (error) {

@@ -3,7 +3,7 @@
 import fs from "node:fs";
 import path from "node:path";
 import { fileURLToPath } from "node:url";
-import { calls, FAULT, WELL } from "./module.mjs";
+import { calls, compiled_of, FAULT, WELL } from "./module.mjs";
 import { SIDES, event_at, fields_of, is_report, other, phase_of, read_report, read_run } from "./run.mjs";
 import { fault_of, judged_told, segments_told, sentence } from "./told.mjs";
 
@@ -126,7 +126,7 @@ async function main(args) {
         write(words, read_report(letters), null, script);
         return 0;
     }
-    const core = await calls(await WebAssembly.compile(read(words.module)));
+    const core = await calls(await compiled_of(read(words.module)));
     const { answer, text } = core.steps(script);
     if (answer === FAULT) {
         const { line, cause, cure } = fault_of(text, script.toString("utf8"));

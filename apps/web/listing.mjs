@@ -10,14 +10,18 @@ function with_addresses(text) {
     return text.split("\n").map(line => DIGITS.test(line) ? line_of_hex(line, "10.0.0.1", "10.0.0.2") : line).join("\n");
 }
 
+const MENDED = "  (its checksum was left to a device, and is made right)";
+
 export function listing({ part, list, told, shown }, core_of, on_typing) {
-    function show() {
+    // With a word at the lines, by their numbers, whose checksum is made right.
+    function show(mended = []) {
         if (list.value.trim() === "") {
             told.textContent = shown.textContent = "";
             return;
         }
         const { answer, text, line } = core_of().list(with_addresses(list.value));
-        shown.textContent = text;
+        const is_mended = new Set(mended);
+        shown.textContent = mended.length === 0 ? text : text.split("\n").map((one, place) => is_mended.has(place + 1) ? `${one}${MENDED}` : one).join("\n");
         told.textContent = answer === FAULT ? `Line ${line} isn't of this form: two IPv4 addresses and an even number of ` +
             "hexadecimal digits, with one space between; or digits alone, 40 or more." : "";
     }
@@ -28,13 +32,14 @@ export function listing({ part, list, told, shown }, core_of, on_typing) {
     });
     return {
         // The segments of a capture, or the first of them where it has many.
-        show_capture({ name, lines, count, left_out, fault, connections, total }) {
+        show_capture({ name, lines, mended, count, left_out, fault, connections, total }) {
             list.value = lines.map(line => `${line}\n`).join("");
             part.open = true;
-            show();
+            show(mended);
             told.textContent = [
                 `${name}: ${count} segments${left_out === 0 ? "" : `, ${left_out} packets without a whole IPv4 TCP segment left out`}.`,
                 fault === null ? "" : `The file is ${fault}.`,
+                mended.length === 0 ? "" : `${mended.length} of the list's checksums ${mended.length === 1 ? "was" : "were"} left to a device, and made right.`,
                 lines.length === count ? "" : `The list has the first ${lines.length}.`,
                 connections.length === total ? "" : `Of ${total} connections the first ${connections.length} are listed, and then those with findings.`,
             ].filter(words => words !== "").join(" ");

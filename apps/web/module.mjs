@@ -1,12 +1,49 @@
 // Calls the module (MODULE.md): texts in, texts out. There is no TCP here.
 
-const BLOCK_UNIT = 16n, PAGE = 65536;
+const BLOCK_UNIT = 16n, PAGE = 65536, MODULE_HEADER = 8, MEMORY_SECTION = 5;
+// A text takes a quarter of the memory at first: of steps the block takes four times as much as their text.
+const PARTS = 4n;
 
 function rounded(n) {
     return (n + BLOCK_UNIT - 1n) / BLOCK_UNIT * BLOCK_UNIT;
 }
 
 export const WELL = 0, REFUSED = 1, FAULT = 2, NO_MEMORY = 3, NO_ROOM = 4, NO_SEGMENT = 5;
+
+// The module's bytes without the most that its memory may have (WebAssembly's specification, 5.5.8): it is built with as much as it
+// begins with, and a long script needs more.
+function without_most(bytes) {
+    let at = MODULE_HEADER;
+    const number = () => {
+        let value = 0, unit = 1, byte;
+        do {
+            byte = bytes[at];
+            value += (byte & 127) * unit;
+            unit *= 128;
+            at += 1;
+        } while (byte > 127);
+        return value;
+    };
+    while (at < bytes.length) {
+        const start = at, section = bytes[at];
+        at += 1;
+        const size = number(), end = at + size;
+        if (section === MEMORY_SECTION && bytes[at] === 1 && bytes[at + 1] === 1) {
+            at += 2;
+            const from = at;
+            number();
+            const least = bytes.subarray(from, at);
+            return Uint8Array.from([...bytes.subarray(0, start), MEMORY_SECTION, least.length + 2, 1, 0, ...least, ...bytes.subarray(end)]);
+        }
+        at = end;
+    }
+    return bytes;
+}
+
+// The compiled module of these bytes, whose memory may grow.
+export function compiled_of(bytes) {
+    return WebAssembly.compile(without_most(bytes));
+}
 
 // The calls over a compiled module. Each answers { answer, text }: `text` is empty where there is none.
 export async function calls(module) {
@@ -17,24 +54,8 @@ export async function calls(module) {
     const record = rounded(BigInt(exports.__heap_base.value));
     const count = record + 16n, start = record + 32n;
 
-    // The script, then what the text may take, half of the rest; and what is left is the block.
-    function call(run, script) {
-        const bytes = typeof script === "string" ? encoder.encode(script) : script;
-        const end = BigInt(exports.memory.buffer.byteLength);
-        const out = start + rounded(BigInt(bytes.length) + 1n);
-        if (out >= end) {
-            return { answer: NO_MEMORY, text: "" };
-        }
-        const room = (end - out) / 2n / BLOCK_UNIT * BLOCK_UNIT;
-        const words = new DataView(exports.memory.buffer);
-        words.setBigUint64(Number(record), out + room, true);
-        words.setBigUint64(Number(record) + 8, room, true);
-        new Uint8Array(exports.memory.buffer).set(bytes, Number(start));
-        const answer = run(record, start, BigInt(bytes.length), out, room, count);
-        const told = words.getBigUint64(Number(count), true);
-        const is_told = answer === WELL || answer === REFUSED || answer === FAULT;
-        const text = is_told ? new Uint8Array(exports.memory.buffer, Number(out), Number(told)) : new Uint8Array(0);
-        return { answer, text: decoder.decode(text) };
+    function end() {
+        return BigInt(exports.memory.buffer.byteLength);
     }
 
     // Twice as much memory, or as much as there can be; false where there can't be more.
@@ -51,8 +72,44 @@ export async function calls(module) {
         return false;
     }
 
+    // One call: the script, then the room of the text, and what is left is the block. It answers how long the text is, too.
+    function tried(run, bytes, out, room) {
+        const words = new DataView(exports.memory.buffer);
+        words.setBigUint64(Number(record), out + room, true);
+        words.setBigUint64(Number(record) + 8, (end() - out - room) / BLOCK_UNIT * BLOCK_UNIT, true);
+        new Uint8Array(exports.memory.buffer).set(bytes, Number(start));
+        const answer = run(record, start, BigInt(bytes.length), out, room, count);
+        return { answer, told: new DataView(exports.memory.buffer).getBigUint64(Number(count), true) };
+    }
+
+    // Where the block or the room is too small the call is made again, over more memory, as long as there is more.
+    function call(run, script) {
+        const bytes = typeof script === "string" ? encoder.encode(script) : script;
+        const out = start + rounded(BigInt(bytes.length) + 1n);
+        let wanted = 0n;
+        for (;;) {
+            const least = wanted + BLOCK_UNIT;
+            if (out + least < end()) {
+                const part = (end() - out) / PARTS / BLOCK_UNIT * BLOCK_UNIT, room = wanted > part ? wanted : part;
+                const { answer, told } = tried(run, bytes, out, room);
+                if (answer !== NO_MEMORY && answer !== NO_ROOM) {
+                    const is_told = answer === WELL || answer === REFUSED || answer === FAULT;
+                    const text = is_told ? new Uint8Array(exports.memory.buffer, Number(out), Number(told)) : new Uint8Array(0);
+                    return { answer, text: decoder.decode(text) };
+                }
+                if (answer === NO_ROOM && rounded(told) > room && out + rounded(told) + BLOCK_UNIT < end()) {
+                    wanted = rounded(told);
+                    continue;
+                }
+                wanted = answer === NO_ROOM ? rounded(told) : wanted;
+            }
+            if (!grow()) {
+                return { answer: NO_MEMORY, text: "" };
+            }
+        }
+    }
+
     return {
-        grow,
         replay: script => call(exports.tcp_web_replay, script),
         steps: script => call(exports.tcp_web_steps, script),
         // The listing of a list of segments; `line` is that of the first bad one, or 0.

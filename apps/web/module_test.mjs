@@ -3,13 +3,14 @@
 import fs from "node:fs";
 import path from "node:path";
 import { fileURLToPath } from "node:url";
-import { calls, WELL, REFUSED, FAULT, NO_SEGMENT } from "./module.mjs";
+import { calls, compiled_of, WELL, REFUSED, FAULT, NO_SEGMENT } from "./module.mjs";
 import { capture_lines } from "./captures.mjs";
 import { connections_of, findings_of, log_of } from "./connections.mjs";
+import { long_script } from "./cases.mjs";
 
 const here = path.dirname(fileURLToPath(import.meta.url));
 const at = (...parts) => path.join(here, "..", "..", ...parts);
-const module = new WebAssembly.Module(fs.readFileSync(process.argv[2] ?? at("apps/web/out/tcp_web.wasm")));
+const module = await compiled_of(fs.readFileSync(process.argv[2] ?? at("apps/web/out/tcp_web.wasm")));
 let passed = 0, failed = 0;
 // Asking for the rule of each event, or the numbers after it, replays the script each time: of long ones they aren't asked for.
 const LONG = 20000, LEAST_MET = 8, MOST_SHOWN = 200;
@@ -208,6 +209,13 @@ function expect_clean(module_calls) {
     }
 }
 
+// A script that needs more memory than the module begins with is replayed in more.
+function expect_long(module_calls) {
+    const count = 200000, { answer, text } = module_calls.steps(long_script(count));
+    expect("a long script's answer", answer, WELL);
+    expect("its last event", text.split("\n").at(-4)?.split(" ")[0], String(count));
+}
+
 const module_calls = await calls(module);
 const reports = stored();
 const met = new Set();
@@ -239,6 +247,7 @@ const first = module_calls.replay(fs.readFileSync(at("crates/tcpkit/data/first-r
 expect("the first run", first.text, fs.readFileSync(at("crates/tcpkit/stdout"), "utf8"));
 expect_judged(module_calls);
 expect_clean(module_calls);
+expect_long(module_calls);
 expect("what is imported", WebAssembly.Module.imports(module).length, 0);
 console.log(`${scripts} scripts: ${passed} comparisons passed, ${failed} failed`);
 process.exit(failed === 0 ? 0 : 1);

@@ -1,8 +1,8 @@
 """Puts the page into one file: python3 apps/web/pack.py MODULE OUT.
 
 The scripts are joined into one, without their imports and exports, so that a name may stand in one of them only; and those of the
-worker that reads captures into another. The module is put in as base64, and each file of apps/web/examples/ with its first comment as
-title.
+workers that read captures and replay long scripts into two others. The module is put in as base64, and each file of
+apps/web/examples/ with its first comment as title.
 """
 
 import base64
@@ -13,8 +13,9 @@ import sys
 
 WEB = pathlib.Path(__file__).resolve().parent
 SCRIPTS = ["module", "run", "words", "told", "draw", "bars", "editor", "ladder", "link", "actions", "acts", "history", "files",
-    "pcapng", "captures", "packets", "connections", "captured", "listing", "reader", "page"]
-WORKER = ["module", "pcapng", "captures", "connections", "reading"]
+    "pcapng", "captures", "packets", "connections", "captured", "listing", "reader", "replayer", "player", "page"]
+READING = ["module", "pcapng", "captures", "connections", "reading"]
+REPLAYING = ["module", "replaying"]
 PICTURES = ["first-run", "loss-and-blocks", "shut-window"]
 IMPORT = re.compile(r"^import .*?;\n", re.MULTILINE | re.DOTALL)
 NAME = re.compile(r"^(?:async )?(?:function|const|let) (\w+)", re.MULTILINE)
@@ -52,7 +53,8 @@ def main():
         ('id="examples">[]', f'id="examples">{examples()}'),
         ('id="pictures">[]', f'id="pictures">{pictures()}'),
         ('id="module">', 'id="module">' + base64.b64encode(module.read_bytes()).decode()),
-        ("/* reading.mjs */", joined(WORKER)),
+        ("/* reading.mjs */", joined(READING)),
+        ("/* replaying.mjs */", joined(REPLAYING)),
         ("/* page.mjs */", joined(SCRIPTS)),
     ]:
         if page.count(place) != 1:

@@ -1,7 +1,7 @@
 // The page: the script is replayed by the module as it is edited, and what comes of it is shown.
-import { calls, WELL, REFUSED, FAULT } from "./module.mjs";
+import { calls, compiled_of, WELL, REFUSED, FAULT } from "./module.mjs";
 import { SIDES, comment_at, event_at, other, places_of, read_run, segment_at, spaces_of, state_of } from "./run.mjs";
-import { fault_of, FORMS, judged_told, NO_MEMORY_FAULT, printable, segments_told, sentence } from "./told.mjs";
+import { fault_of, FORMS, judged_told, MOST_EVENTS, NO_MEMORY_FAULT, printable, segments_told, sentence, too_long_fault } from "./told.mjs";
 import { key_drawn, whole_drawn } from "./draw.mjs";
 import { counts_told, end_drawn } from "./bars.mjs";
 import { editor } from "./editor.mjs";
@@ -15,13 +15,17 @@ import { captured, MOST_OPTIONS } from "./captured.mjs";
 import { listing } from "./listing.mjs";
 import { capture_of, is_capture } from "./captures.mjs";
 import { reader } from "./reader.mjs";
+import { replayer } from "./replayer.mjs";
+import { player } from "./player.mjs";
 import { packets_of } from "./packets.mjs";
 
 const at = id => document.getElementById(id);
 const field = at("script"), slider = at("step"), report = at("report");
 const examples = JSON.parse(at("examples").textContent);
 const ONE_COLUMN = matchMedia("(max-width: 899.98px)");
-const PICTURE_WIDTH = 760, SLOW = 1000, JUMP = 10, PLAY_MS = 900;
+const PICTURE_WIDTH = 760, SLOW = 1000, JUMP = 10;
+// A script of more letters is replayed apart from the page, and of a longer report only the beginning is shown.
+const LONG = 250000, MOST_REPORT = 200000;
 
 const text_view = editor(field, at("gutter"), at("marks"), at("callout"));
 const texts = history(field, () => edited(false));
@@ -31,16 +35,17 @@ const buttons = acts({
 }, lines => change(with_lines(field.value, lines), true));
 const judged = captured({ part: at("judged"), choice: at("connection"), complete: { A: at("complete-A"), B: at("complete-B") },
     told: at("judged-told"), box: at("captured"), canvas: at("captured-canvas"), picture: at("captured-picture"),
-    heads: at("captured-heads"), listed: at("findings") }, (...words) => captures.judge(...words));
+    heads: at("captured-heads"), listed: at("findings"), verdict: at("verdict"), verdict_told: at("verdict-told") },
+(...words) => captures.judge(...words), say);
 const segments = listing({ part: at("listing-part"), list: at("segments"), told: at("segments-told"),
     shown: at("segments-listing") }, () => core, close_capture);
 const captures = reader({ part: at("reading"), bar: at("reading-bar"), told: at("reading-told"), cancel: at("reading-cancel") }, {
     program_of: () => at("reader").textContent, module_of: () => compiled,
     on_listed(found) {
         segments.show_capture(found);
-        judged.show(found, () => say(`${found.name} is open.`));
+        judged.show(found);
     },
-    on_counted: ({ found }) => judged.count(found),
+    on_counted: ({ found, done, total }) => judged.count(found, done === total),
     on_end(words, is_over) {
         if (is_over) {
             judged.hide();
@@ -48,43 +53,86 @@ const captures = reader({ part: at("reading"), bar: at("reading-bar"), told: at(
         say(words);
     },
 });
+const long = replayer({ program_of: () => at("replayer").textContent, module_of: () => compiled, call_here: (call, words) => core[call](...words) });
+const { play, stop } = player(at("play"), { is_over: () => step === run.count, begin: () => go(0), step: () => go(step + 1) });
 const view = ladder(at("ladder"), at("heads"), at("canvas"), at("picture"), { on_row: go, on_segment: choose });
 
 // What is shown: the last script that was taken, its run, and the current event.
 let compiled = null, core = null, taken = "", run = null, places = null, refused_lines = new Set(), step = 0, chosen = null;
-// The script that was saved or linked last, the timer of a play, and the timers of what the module is asked for.
-let kept = "", playing = 0;
+// Whether the next run is shown at its last event.
+let to_last = false;
+// The script that was saved or linked last, and the timers of what the module is asked for.
+let kept = "";
 const asked = new Map();
 
-// Does what replays the script once more. Of a long script it waits until the stepping rests.
-function ask(name, act) {
+// Calls back with what the module says of the script that is shown, once for each name. Of a long one it waits until the stepping
+// rests, and the page's thread stays free.
+function ask(name, call, words, then) {
     clearTimeout(asked.get(name));
-    if (act !== null && run.count < SLOW) {
-        act();
-    } else if (act !== null) {
-        asked.set(name, setTimeout(act, 100));
+    long.forget(name);
+    if (call !== null && run.count < SLOW) {
+        then(core[call](taken, ...words));
+    } else if (call !== null) {
+        asked.set(name, setTimeout(() => long.ask(name, call, [taken, ...words], then), 100));
     }
 }
 
 function replay(is_typing) {
-    const script = field.value;
-    const { answer, text } = core.steps(script);
-    text_view.count(script.split("\n").length);
-    const is_taken = answer === WELL || answer === REFUSED;
-    document.body.classList.toggle("is-stale", !is_taken && run !== null);
-    at("stale").hidden = is_taken || run === null;
+    const script = field.value, { at: rows, lines } = places_of(script), count = rows.length - 1;
+    text_view.count(lines.length);
+    long.stop();
+    wait(count <= MOST_EVENTS && script.length > LONG);
+    if (count > MOST_EVENTS) {
+        show_replayed(script, is_typing, too_long_fault(count), null);
+    } else if (script.length <= LONG) {
+        const { answer, text } = core.steps(script), is_taken = answer === WELL || answer === REFUSED;
+        show_replayed(script, is_typing, is_taken ? null : fault_told(answer, text, script), is_taken ? read_run(text) : null);
+    } else {
+        announce(at("waiting").textContent);
+        long.replay(script, is_typing, (answer, text, new_run) => {
+            wait(false);
+            show_replayed(script, is_typing, new_run === null ? fault_told(answer, text, script) : null, new_run);
+        });
+    }
+}
+
+function fault_told(answer, text, script) {
+    return answer === FAULT ? fault_of(text, script) : NO_MEMORY_FAULT;
+}
+
+// While a long script is replayed, what is shown is the run of the one before it.
+function wait(is_waiting) {
+    at("waiting").hidden = !is_waiting;
+    document.body.classList.toggle("is-waiting", is_waiting);
+    if (is_waiting) {
+        text_view.show_fault(null, true);
+        text_view.show_lines(null, new Set());
+        at("stale").hidden = true;
+        allow(false);
+    }
+}
+
+// Whether there is a run of the script in the field, to save and to add to.
+function allow(is_taken) {
     at("save").disabled = at("save-capture").disabled = !is_taken;
     at("acts").querySelectorAll("button").forEach(part => { part.disabled = !is_taken && part.id !== "lossy"; });
-    if (!is_taken) {
-        const fault = answer === FAULT ? fault_of(text, script) : NO_MEMORY_FAULT;
+}
+
+// The run of the script, or its fault.
+function show_replayed(script, is_typing, fault, new_run) {
+    document.body.classList.toggle("is-stale", fault !== null && run !== null);
+    at("stale").hidden = fault === null || run === null;
+    allow(fault === null);
+    if (fault !== null) {
         text_view.show_fault(fault, is_typing);
         announce(`${fault.line === null ? "" : `Line ${fault.line + 1}: `}${fault.cause}. Cure: ${fault.cure}.`);
+        to_last = false;
         show_report();
         return;
     }
     const was_last = run !== null && step === run.count && step > 0;
     taken = script;
-    run = read_run(text);
+    run = new_run;
     places = places_of(script);
     refused_lines = new Set(run.refused.map(row => places.at[row]));
     slider.max = run.count;
@@ -92,12 +140,23 @@ function replay(is_typing) {
     view.show_run(run);
     buttons.show_run(run, script);
     at("finish").disabled = run.count > SLOW;
-    go(is_typing && was_last ? run.count : Math.min(step, run.count));
+    go(is_typing && was_last || to_last ? run.count : Math.min(step, run.count));
+    to_last = false;
     show_report();
 }
 
 function show_report() {
-    report.lastElementChild.textContent = report.open ? core.replay(field.value).text : "";
+    const part = report.lastElementChild, script = field.value;
+    long.forget("report");
+    part.textContent = "";
+    if (report.open && script.length <= LONG) {
+        part.textContent = core.replay(script).text;
+    } else if (report.open && at("waiting").hidden) {
+        long.ask("report", "replay", [script], ({ text }) => {
+            const most = text.lastIndexOf("\n", MOST_REPORT) + 1;
+            part.textContent = text.length <= MOST_REPORT ? text : `${text.slice(0, most)}These are the first lines. tcpkit replay writes all.\n`;
+        });
+    }
 }
 
 // Makes an event the current one; 0 is before the first.
@@ -142,20 +201,16 @@ function show_ends(row) {
     if (run.count >= SLOW) {
         draw({});
     }
-    ask("numbers", () => {
-        const { answer, text } = core.numbers(taken, row);
-        draw(answer === WELL ? spaces_of(text) : {});
-    });
+    ask("numbers", "numbers", [row], ({ answer, text }) => draw(answer === WELL ? spaces_of(text) : {}));
 }
 
 // By which rule a segment was judged that arrived, and what came of it.
 function show_rule(event) {
     at("rule").textContent = "";
     const is_judged = event !== null && event.kind === "deliver" && !event.refused && !event.is_repeat;
-    ask("rule", is_judged ? () => {
-        const { answer, text } = core.rule(taken, event.row - 1);
+    ask("rule", is_judged ? "rule" : null, [step - 1], ({ answer, text }) => {
         at("rule").textContent = answer === WELL ? judged_told(run, event, text) : "";
-    } : null);
+    });
 }
 
 function choose(side, number) {
@@ -174,7 +229,7 @@ function show_segment(segment, number) {
     if (segment === null) {
         at("segment-told").textContent = "A click on an arrow shows its segment here.";
         buttons.show_segment(null, false);
-        ask("segment", null);
+        ask("segment", null, [], () => {});
         return;
     }
     const group = segment.count > 1 ? ` (one of ${segments_told(segment)})` : "";
@@ -182,8 +237,7 @@ function show_segment(segment, number) {
     at("segment-told").textContent = `${segment.side}'s segment ${number}${group}, emitted at event ${segment.row}: ` +
         `${arrows.map(fate).join("; ")}.`;
     buttons.show_segment(chosen, arrows.some(arrow => arrow.kind !== "lost"));
-    ask("segment", () => {
-        const { text } = core.show(taken, segment.side, number);
+    ask("segment", "show", [segment.side, number], ({ text }) => {
         at("listing").textContent = text;
         const letters = printable(text.slice(text.lastIndexOf(" ") + 1));
         at("segment-text").textContent = letters === null ? "" : `Its text in letters: “${letters}”`;
@@ -201,10 +255,8 @@ function fate(arrow) {
 function change(script, to_end) {
     stop();
     field.value = script;
+    to_last = to_end;
     edited(false);
-    if (to_end && run !== null && taken === script) {
-        go(run.count);
-    }
 }
 
 // The text of the field has changed.
@@ -213,7 +265,7 @@ function edited(is_typing) {
     const { undo, redo } = texts.can();
     at("undo").disabled = !undo;
     at("redo").disabled = !redo;
-    const example = examples.findIndex(one => one.script === field.value);
+    const script = field.value, example = examples.findIndex(one => one.script === script);
     at("example").value = example < 0 ? "" : String(example);
     replay(is_typing);
 }
@@ -267,10 +319,12 @@ function save_script() {
 
 // What both ends emit, or what is seen at one of them, as packets.
 function save_capture() {
-    const where = at("capture-at").value, { answer, text } = core.sent(taken);
-    const packets = answer === WELL ? packets_of(run, places, text, where) : [];
-    save_file("tcp.pcap", "application/vnd.tcpdump.pcap", capture_of(packets));
-    say(`The capture is saved as tcp.pcap. It has ${packets.length} packet${packets.length === 1 ? "" : "s"}.`);
+    const where = at("capture-at").value;
+    ask("sent", "sent", [], ({ answer, text }) => {
+        const packets = answer === WELL ? packets_of(run, places, text, where) : [];
+        save_file("tcp.pcap", "application/vnd.tcpdump.pcap", capture_of(packets));
+        say(`The capture is saved as tcp.pcap. It has ${packets.length} packet${packets.length === 1 ? "" : "s"}.`);
+    });
 }
 
 function close_capture() {
@@ -283,6 +337,7 @@ async function open_file(file) {
     if (is_capture(new Uint8Array(await file.slice(0, 4).arrayBuffer()))) {
         close_capture();
         at("listing-part").open = true;
+        judged.expect(file.name);
         captures.read(file, MOST_OPTIONS);
         return;
     }
@@ -313,30 +368,6 @@ function choose_example() {
     const was_own = is_own();
     load(examples[at("example").value].script);
     say(was_own ? "Undo brings your script back." : "");
-}
-
-// A step each time that the timer expires, until the last event or another step.
-function play() {
-    if (playing !== 0) {
-        stop();
-        return;
-    }
-    if (step === run.count) {
-        go(0);
-    }
-    at("play").textContent = "▮▮ Pause";
-    playing = setInterval(() => {
-        go(step + 1);
-        if (step === run.count) {
-            stop();
-        }
-    }, PLAY_MS);
-}
-
-function stop() {
-    clearInterval(playing);
-    playing = 0;
-    at("play").textContent = "▸▸ Play";
 }
 
 function finish() {
@@ -393,6 +424,13 @@ function listen() {
     })) {
         at(id).addEventListener("click", act);
     }
+    // To the findings, and not to another script: the address stays.
+    at("verdict-link").addEventListener("click", event => {
+        event.preventDefault();
+        at("listing-part").open = true;
+        at("judged").scrollIntoView();
+        at("captured").focus({ preventScroll: true });
+    });
     at("example").addEventListener("change", choose_example);
     at("gutter").addEventListener("click", event => {
         const row = places.at.indexOf(Number(event.target.dataset.line));
@@ -437,7 +475,7 @@ async function start() {
     ONE_COLUMN.addEventListener("change", order_parts);
     try {
         const bytes = Uint8Array.from(atob(at("module").textContent.trim()), letter => letter.charCodeAt(0));
-        compiled = await WebAssembly.compile(bytes);
+        compiled = await compiled_of(bytes);
         core = await calls(compiled);
     } catch {
         at("unsupported").hidden = false;

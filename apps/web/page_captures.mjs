@@ -121,16 +121,80 @@ async function cut(tab, expect, open) {
         [false, "header.pcap: 0 segments. The file is cut at byte 0, after 0 whole packets."]);
 }
 
-// An empty segment from 10.0.0.1 to port 80 of 10.0.0.2, with the right checksum, and without ACK, which breaks a rule of form.
-function without_ack(port) {
+// An empty segment from 10.0.0.1 to port 80 of 10.0.0.2, with the right checksum, and without ACK, which breaks a rule of form; or with
+// the sum over the pseudo-header alone, as it goes to a device that adds the rest.
+function without_ack(port, is_left = false) {
     const bytes = Buffer.from([port >> 8, port & 255, 0, 80, 0, 0, 0, 1, 0, 0, 0, 1, 80, 0, 0, 0, 0, 0, 0, 0]);
     const pseudo = Buffer.from([10, 0, 0, 1, 10, 0, 0, 2, 0, 6, 0, bytes.length]), all = Buffer.concat([pseudo, bytes]);
     let sum = 0;
-    for (let place = 0; place < all.length; place += 2) {
+    for (let place = 0; place < (is_left ? pseudo : all).length; place += 2) {
         sum += all.readUInt16BE(place);
     }
-    bytes.writeUInt16BE(0xffff - sum % 0xffff, 16);
+    bytes.writeUInt16BE(is_left ? sum % 0xffff : 0xffff - sum % 0xffff, 16);
     return Uint8Array.from(bytes);
+}
+
+// A checksum that was left to a device is made right in the list as for the verdict, and the list says so; a wrong one stays wrong.
+async function mended(tab, expect, open) {
+    const wrong = without_ack(9);
+    wrong[16] ^= 255;
+    const segments = [without_ack(7), without_ack(7, true), wrong];
+    await open("mended.pcap", capture_of(segments.map((bytes, turn) => ({ seconds: 0, turn, source: "10.0.0.1", target: "10.0.0.2", bytes }))));
+    const [listing, told, judged_told, list] = await tab.run(() => ["segments-listing", "segments-told", "judged-told", "segments"].map(
+        id => document.getElementById(id).value ?? document.getElementById(id).textContent));
+    const line = "7 > 80 seq 1 ack 1 reserved 0 flags - window 0 urgent 0 options - pad 0 text -";
+    expect("the list of a capture with checksums of each kind", listing.split("\n"), [`1 ${line}`,
+        `2 ${line}  (its checksum was left to a device, and is made right)`, "3 malformed 3 BadChecksum", "total 3 malformed 1", ""]);
+    expect("what is told of it", told, "mended.pcap: 3 segments. 1 of the list's checksums was left to a device, and made right.");
+    expect("what the verdict tells", judged_told.includes("1 checksum was left to a device, and made right."), true);
+    const lines = list.split("\n");
+    expect("its bytes are those that are judged", lines[1], lines[0]);
+}
+
+// Whoever opens a capture sees its verdict at once, wherever the page is scrolled to, and hears the same; from there a link leads to the
+// findings, and leaves the address.
+async function seen_at_once(tab, expect, open) {
+    const log = capture_of_log(fs.readFileSync(at("crates/tcpjudge/data/faults.log"), "utf8"));
+    const words = "faults.pcap is open. A (10.0.0.1:1) breaks no rule, B (10.0.0.2:2) breaks a rule in 6 segments.";
+    const seen = () => tab.run(() => {
+        const { top, bottom, left, right } = document.getElementById("verdict").getBoundingClientRect(), text = id => document.getElementById(id).textContent;
+        return { is_seen: top >= 0 && bottom <= innerHeight && left >= 0 && right <= innerWidth && bottom > top, verdict: text("verdict-told"),
+            said: text("said"), live: text("live"), is_small: bottom - top < innerHeight / 5, out: document.documentElement.scrollWidth - innerWidth };
+    });
+    for (const [width, height] of [[1280, 720], [360, 740]]) {
+        await tab.size(width, height);
+        for (const from of ["script", "open-capture"]) {
+            await tab.run(id => {
+                document.getElementById("listing-part").open = true;
+                document.getElementById(id).scrollIntoView();
+            }, from);
+            await open("faults.pcap", log);
+            const { out, ...found } = await seen();
+            expect(`the verdict at ${width}, from ${from}`, [found, out <= 0], [{ is_seen: true, verdict: words, said: words, live: words, is_small: true }, true]);
+        }
+        const address = await tab.run(() => {
+            document.getElementById("listing-part").open = false;
+            window.scrollTo(0, 0);
+            document.getElementById("verdict-link").click();
+            return location.href;
+        });
+        const led = await tab.run(() => {
+            const part = document.getElementById("judged").getBoundingClientRect(), bar = document.getElementById("verdict").getBoundingClientRect();
+            return [document.getElementById("listing-part").open, part.top >= bar.bottom - 1 && part.top < innerHeight / 2, document.activeElement.id,
+                location.href];
+        });
+        expect(`where the link leads at ${width}`, led, [true, true, "captured", address.split("#judged")[0]]);
+    }
+    await tab.size(1600, 6000);
+    await open("plain.pcap", fs.readFileSync(at("checks/judge/data/plain-B.pcap")));
+    const { verdict } = await seen();
+    expect("the verdict on a clean capture", /^plain\.pcap is open\. No rule is broken by A \(\S+\) or B \(\S+\)\.$/.test(verdict), true);
+    await open("many.pcap", many(3, 2));
+    await tab.until(rested);
+    expect("the verdict on three connections", (await seen()).verdict, "many.pcap is open. Connection 1 of 3: A (10.0.0.1:0) breaks a rule in " +
+        "2 segments, B (10.0.0.2:80) breaks no rule. Rules are broken in 3 of the 3.");
+    await tab.run(() => document.getElementById("segments").dispatchEvent(new Event("input")));
+    expect("no verdict on a list that is typed", await tab.run(() => document.getElementById("verdict").hidden), true);
 }
 
 // So many connections, of so many such segments each.
@@ -187,7 +251,7 @@ async function cancelled(tab, expect, write) {
     expect("nothing of it is shown", (await tab.run(judged_shown)).is_shown, false);
     expect("a judging that is cancelled", await at_once("rest.pcap", many(2500, 2), "Segments judged: 0",
         "The judging of the other connections is cancelled."), true);
-    await tab.until(() => document.getElementById("said").textContent === "rest.pcap is open.");
+    await tab.until(() => document.getElementById("said").textContent.startsWith("rest.pcap is open."));
     await tab.run(() => {
         document.getElementById("connection").value = "7";
         document.getElementById("connection").dispatchEvent(new Event("change"));
@@ -226,10 +290,12 @@ export async function captures(tab, expect) {
     };
     const open = async (name, bytes) => {
         await tab.choose_file("#capture", write(name, bytes));
-        await tab.until(asked => document.getElementById("said").textContent === `${asked} is open.`, name);
+        await tab.until(asked => document.getElementById("said").textContent.startsWith(`${asked} is open.`), name);
         return tab.run(judged_shown);
     };
     await judged(tab, expect, open);
+    await seen_at_once(tab, expect, open);
+    await mended(tab, expect, open);
     await times(tab, expect, open);
     await cut(tab, expect, open);
     await large(tab, expect, open);

@@ -11,6 +11,7 @@ import { handling } from "./page_handling.mjs";
 import { looks } from "./page_looks.mjs";
 import { building } from "./page_building.mjs";
 import { captures } from "./page_captures.mjs";
+import { long_scripts } from "./page_long.mjs";
 
 const [page, command, draw] = process.argv.slice(2);
 const address = pathToFileURL(path.resolve(page)).href;
@@ -163,6 +164,7 @@ try {
     await handling(tab, tools, expect, address);
     await tab.size(1600, 1000);
     await ten_thousand(tab, tools);
+    await long_scripts(tab, tools, expect);
     expect("no error in the page", tab.errors, []);
 } catch (error) {
     failed += 1;

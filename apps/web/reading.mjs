@@ -2,7 +2,7 @@
 // its own, so that the page's thread is free. It answers `judge` about one connection between the others.
 import { calls } from "./module.mjs";
 import { capture_reader, line_of } from "./captures.mjs";
-import { grouping, header_of, verdict_of } from "./connections.mjs";
+import { as_sent, grouping, header_of, verdict_of } from "./connections.mjs";
 
 const PIECE = 1 << 22, TURN_MS = 50, TOLD_MS = 100, SIDES_JUDGED = ["A", "B"];
 // What the page gets of a large capture: so many letters of the list, segments of a ladder, and findings.
@@ -80,7 +80,7 @@ async function judge_all(total) {
 
 async function read({ module, file, most_connections }) {
     core = await calls(module);
-    const { add, connections: groups } = grouping(), lines = [];
+    const { add, connections: groups } = grouping(), lines = [], mended = [];
     let count = 0, letters = 0, is_fine = false;
     const reader = capture_reader(segment => {
         count += 1;
@@ -88,7 +88,10 @@ async function read({ module, file, most_connections }) {
         add(segment, count);
         letters += 2 * segment.bytes.length + 40;
         if (letters <= MOST_LETTERS) {
-            lines.push(line_of(segment));
+            // A checksum that was left to a device is made right, as it is for the verdict.
+            const { bytes, is_left } = as_sent(segment);
+            lines.push(line_of({ ...segment, bytes }));
+            is_left && mended.push(lines.length);
         }
     });
     for (let at = 0; at < file.size; at += PIECE) {
@@ -97,7 +100,7 @@ async function read({ module, file, most_connections }) {
     }
     connections = groups;
     const listed = connections.slice(0, most_connections).map(({ ends, segments }) => ({ ends, count: segments.length }));
-    postMessage({ kind: "listed", name: file.name, lines, count, is_fine, connections: listed, total: connections.length, ...reader.end() });
+    postMessage({ kind: "listed", name: file.name, lines, mended, count, is_fine, connections: listed, total: connections.length, ...reader.end() });
     await turn();
     await judge_all(connections.reduce((sum, { segments }) => sum + segments.length, 0));
 }

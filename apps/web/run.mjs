@@ -10,11 +10,26 @@ export function other(side) {
 // The run of the lines of `tcp_web_steps`: two state lines, and for each event its line and two state lines. Lines are
 // many, and few of them are looked at: of most it is kept where they stand.
 export function read_run(text) {
+    const reading = reading_run(text);
+    let part = reading.next();
+    while (!part.done) {
+        part = reading.next();
+    }
+    return part.value;
+}
+
+const PART = 256;
+
+// The same in parts, between which others can have their turn; what it returns is the run.
+export function* reading_run(text) {
     const starts = starts_of(text), count = (starts.length - 3) / 3;
     const run = { text, starts, count, events: new Array(count + 1), emitted: new Map(), refused: [],
         segments: { A: [], B: [] }, arrows: [], firsts: { A: new Map(), B: new Map() }, looked: { A: 0, B: 0 } };
     for (let row = 1; row <= count; row += 1) {
         add_row(run, row);
+        if (row % PART === 0) {
+            yield;
+        }
     }
     add_lost(run);
     return run;

@@ -234,7 +234,18 @@ export function fault_of(text, script) {
         text: text.trim() };
 }
 
-export const NO_MEMORY_FAULT = { line: null, text: "tcpkit: 42", cause: "memory ran out", cure: "a shorter script" };
+const ELSEWHERE = "a shorter script here; tcpkit replay writes the report of a longer one";
+
+export const NO_MEMORY_FAULT = { line: null, text: "tcpkit: 42",
+    cause: "the browser gives this page less memory than the states after all events need", cure: ELSEWHERE };
+
+// So high a picture is drawn by every browser: the highest row has 46 pixels, and Firefox places nothing below 17,895,697.
+export const MOST_EVENTS = 300000;
+
+export function too_long_fault(count) {
+    const [events, most] = [count, MOST_EVENTS].map(number => number.toLocaleString("en"));
+    return { line: null, text: "", cause: `the script has ${events} events, and the ladder has room for ${most}`, cure: ELSEWHERE };
+}
 
 // Why a line has no form. What can be seen without reading it as a line is said first; else its forms are shown.
 function cause_of(lines, at) {
