@@ -289,6 +289,8 @@ export async function captures(tab, expect) {
         return file;
     };
     const open = async (name, bytes) => {
+        // What was said of an earlier one isn't taken for this one's.
+        await tab.run(() => { document.getElementById("said").textContent = ""; });
         await tab.choose_file("#capture", write(name, bytes));
         await tab.until(asked => document.getElementById("said").textContent.startsWith(`${asked} is open.`), name);
         return tab.run(judged_shown);
