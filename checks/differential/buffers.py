@@ -11,13 +11,14 @@ import sys
 
 CRATE = pathlib.Path(__file__).resolve().parents[2] / "crates" / "test_buffers"
 GREATEST = 1048576
+GREATEST_RUNS = 4096
 
 
 class Queue:
     """RFC 9293, 3.3.1: the bytes that were offered and not released, the oldest first, and which of them are marked."""
 
-    def __init__(self, capacity):
-        self.capacity, self.bytes, self.marked = capacity, b"", []
+    def __init__(self, capacity, most_runs=16):
+        self.capacity, self.most_runs, self.bytes, self.marked = capacity, most_runs, b"", []
 
     def offer(self, text):
         taken = text[: self.capacity - len(self.bytes)]
@@ -41,7 +42,7 @@ class Queue:
             return "outside"
         marked = [True if start <= place < end else flag for place, flag in enumerate(self.marked)]
         runs = sum(1 for place, flag in enumerate(marked) if flag and not (place + 1 < len(marked) and marked[place + 1]))
-        if runs > 16:
+        if runs > self.most_runs:
             return "false"
         self.marked = marked
         return "true"
@@ -71,8 +72,9 @@ class Queue:
 class Inbox:
     """RFC 9293, 3.10.7.4, and RFC 2018, 4: the bytes in order, and what is held at each place of the window."""
 
-    def __init__(self, capacity):
-        self.capacity, self.unread, self.places, self.calls = capacity, b"", [None] * capacity, 0
+    def __init__(self, capacity, most_runs=16):
+        self.capacity, self.most_runs = capacity, most_runs
+        self.unread, self.places, self.calls = b"", [None] * capacity, 0
 
     def runs(self, places):
         runs, at = [], 0
@@ -94,7 +96,7 @@ class Inbox:
             if 0 <= place < len(laid):
                 laid[place] = (byte if laid[place] is None else laid[place][0], self.calls)
                 touched.append(place)
-        if not touched or (0 not in touched and len(self.runs(laid)) > 16):
+        if not touched or (0 not in touched and len(self.runs(laid)) > self.most_runs):
             return "not kept"
         count = 0
         while count < len(laid) and laid[count] is not None:
@@ -135,17 +137,19 @@ class Second:
     def __init__(self):
         self.buffer = None
 
-    def begin(self, kind, capacity):
+    def begin(self, kind, capacity, most_runs=16):
         self.buffer = None
+        if not 1 <= most_runs <= GREATEST_RUNS:
+            return "outside"
         if not 1 <= capacity <= GREATEST:
             return "refused 21: the capacity is not from 1 to 1048576 bytes"
-        self.buffer = {"queue": Queue, "inbox": Inbox}[kind](capacity)
+        self.buffer = {"queue": Queue, "inbox": Inbox}[kind](capacity, most_runs)
         return "new"
 
     def answer(self, line):
         word, *rest = line.split(" ")
         if word in ("queue", "inbox"):
-            return self.begin(word, int(rest[0]))
+            return self.begin(word, *map(int, rest))
         if word == "offer":
             return self.buffer.offer(read_hex(rest[0]))
         if word == "place":
@@ -184,6 +188,32 @@ def worked(turns):
         text = bytes((3 * turn + place) % 256 for place in range(3)).hex()
         yield from (f"place 1 {text[2:]}", f"place 0 {text}", "read 3")
     yield "state"
+    yield from few_runs()
+    yield from many_runs(300)
+
+
+def few_runs():
+    """The least and the greatest number of runs; one run, then two, and one more than that."""
+    for kind in ("queue", "inbox"):
+        yield from (f"{kind} 8 {most}" for most in (0, 1, GREATEST_RUNS, GREATEST_RUNS + 1))
+    yield from "queue 10 1,offer 30313233343536373839,mark 2 3,mark 4 5,mark 3 5,unmarked 2,mark 7 8,release 5,mark 2 3,unmarked 0".split(",")
+    yield from "queue 10 2,offer 30313233343536373839,mark 2 3,mark 4 5,mark 8 9,mark 3 4,mark 8 9,mark 6 7,forget,mark 6 7".split(",")
+    yield from "inbox 10 1,place 3 61,place 5 62,place 4 63,place 5 62,place 8 64,blocks,place 0 5a,blocks,place 0 5959,read 10".split(",")
+    yield from "place 2 61,clear_held,place 4 62,place 1 63,blocks".split(",")
+    yield from "inbox 10 2,place 3 61,place 5 62,place 8 63,blocks,place 4 64,place 8 63,blocks,place 6 65,clear,place 6 65".split(",")
+
+
+def many_runs(most):
+    """As many runs as the number says, and one more; two of them joined, and then one more again."""
+    length = 2 * most + 8
+    yield from [f"queue {length} {most}", "offer " + "61" * length]
+    yield from (f"mark {2 * k + 1} {2 * k + 2}" for k in range(most))
+    yield from f"mark {2 * most + 1} {2 * most + 2},marked,mark 2 3,mark {2 * most + 1} {2 * most + 2},marked,unmarked {most},release 100".split(",")
+    yield from f"unmarked 0,unmarked {most},mark {length - 101} {length - 100},marked".split(",")
+    yield f"inbox {length} {most}"
+    yield from (f"place {2 * k + 1} 61" for k in range(most))
+    yield from f"place {2 * most + 1} 62,blocks,place 2 63,blocks,place {2 * most + 1} 62,blocks,place {2 * most + 3} 64,place 0 65".split(",")
+    yield from "blocks,state,read 4,clear_held,place 7 66,blocks,state".split(",")
 
 
 def queue_call(draw, queue):
@@ -214,13 +244,13 @@ def inbox_call(draw, inbox, longest):
 
 
 def random_calls(draw, second, count):
-    for capacity in (1, 2, 3, 7, 40, 120):
-        yield f"queue {capacity}"
+    for capacity, most in ((1, 1), (2, 16), (3, 2), (7, 2), (40, 1), (40, 16), (120, 16), (120, 2), (1500, 300)):
+        yield f"queue {capacity} {most}"
         for _ in range(count // 12):
             yield queue_call(draw, second.buffer)
     for capacity in (1, 2, 3, 5, 8, 16, 33, 64, 100, 200):
-        for longest in (1, 5):
-            yield f"inbox {capacity}"
+        for longest, most in ((1, 16), (5, 16), (1, 1), (2, 2)):
+            yield f"inbox {capacity} {most}"
             for _ in range(count // 40):
                 yield inbox_call(draw, second.buffer, longest)
 

@@ -26,7 +26,7 @@ class Small:
 
     def wants(self):
         wanted = {"retransmit": self.una < self.nxt, "reorder": self.gap, "time-wait": self.rests,
-                  "fin-wait-2": self.closed and self.una == self.accepted and not self.rests}  # fmt: skip
+                  "fin-wait-2": self.closed and self.una == self.accepted and not self.rests and not self.unread}  # fmt: skip
         return {timer for timer, is_wanted in wanted.items() if is_wanted and not self.over}
 
     def due(self):
@@ -105,6 +105,7 @@ class Second:
         self.deadlines, self.sent = {}, set()
         self.since, self.expiries, self.patience, self.bursts = None, 0, self.estimator.rto, False
         self.shut, self.fin_wait_2, self.left = False, fin_wait_2, None
+        self.postponed = False
         self.follow()
         return "new"
 
@@ -128,6 +129,8 @@ class Second:
             self.left = None
         elif self.left is None:
             self.left = self.clock
+        if "retransmit" not in wanted or is_news:
+            self.postponed = False
         if "retransmit" not in wanted:
             self.since, self.expiries = None, 0
         elif self.since is None or is_news:
@@ -157,7 +160,8 @@ class Second:
         if self.end.rests and fin == 1:
             # RFC 9293, 3.10.7.4, eighth: the peer's FIN again starts TIME-WAIT anew.
             self.deadlines.pop("time-wait", None)
-        if fin == 1:
+        if fin == 1 or window > 0:
+            # What is the peer's has a FIN here, or an open window.
             self.left = None
         acked = self.end.arrive(ack, gap, fin)
         if self.una == 0 and self.end.una > 0 and self.expiries > 0:
@@ -187,6 +191,10 @@ class Second:
         else:
             if out[1] and out[0] < max(self.sent, default=-1) + 1:
                 self.deadlines.pop("reorder", None)
+                if out[0] == self.una and not self.postponed:
+                    # RFC 6298, 5: a segment isn't sent again earlier than a timeout after it went out. Once for each SND.UNA.
+                    self.deadlines.pop("retransmit", None)
+                    self.postponed = True
             self.watch.sent(*out, self.clock)
             self.sent.update(range(out[0], out[0] + out[1]))
         self.follow()
@@ -238,14 +246,18 @@ class Second:
 class Turns:
     """The caller's loop, a wire that loses the segments that `lost` has, counted from 0, and a peer that keeps what comes early."""
 
-    def __init__(self, first, limits, window, lost=(), shown=9):
-        self.second, self.lines, self.window, self.lost, self.shown = Second(), [], window, set(lost), shown
+    def __init__(self, first, limits, window, lost=(), shown=9, way=WAY):
+        self.second, self.lines, self.window, self.lost, self.shown, self.way = Second(), [], window, set(lost), shown, way
+        self.expired = []
         self.now, self.count, self.next, self.early, self.coming = 0, 0, first, set(), []
         self.call(f"new 0 {first} {limits}")
 
     def call(self, line):
         self.lines.append(line)
-        return self.second.answer(line).split(" ")
+        answer = self.second.answer(line).split(" ")
+        if line.startswith("timeout ") and answer[0] != "-":
+            self.expired.append(answer[0])
+        return answer
 
     def emits(self):
         while (answer := self.call(f"emit {self.now} {self.window}"))[0] == "sent":
@@ -255,7 +267,7 @@ class Turns:
                 while self.next in self.early:
                     self.next += 1
                 gap = int(any(number > self.next for number in self.early))
-                self.coming.append((self.now + 2 * WAY, f"{self.next} {gap} 0 {self.shown} 0"))
+                self.coming.append((self.now + 2 * self.way, f"{self.next} {gap} 0 {self.shown} 0"))
             self.count += 1
 
     def turn(self, *calls):
@@ -295,6 +307,17 @@ def worked():
     gap = Turns(1, LIMITS, MOST, lost=(2, 9))
     gap.turn("send 9")
     gap.runs(9)
+    # 600 ms there and back, where a timeout takes a second: a segment is lost within a window, and goes out again in time. Where it is lost
+    # for good the timeout expires all the same.
+    far, cut = (Turns(1, LIMITS, MOST, lost=lost, way=300_000) for lost in ((11,), (11, *range(24, 99))))
+    for turns in (far, cut):
+        for _ in range(9):
+            turns.turn("send 1")
+            turns.runs(3)
+        turns.turn("send 15")
+        turns.runs(9)
+    assert far.expired == ["reorder"] and far.second.end.una == 25, far.expired
+    assert "retransmit" in cut.expired, cut.expired
     # The SYN is lost twice, so that text begins with 3 s; then the last of three numbers three times.
     late = Turns(0, LIMITS, 9, lost=(0, 1, 5, 6, 7))
     late.turn("send 1")
@@ -346,16 +369,34 @@ def worked():
     alone.runs(9)
     gone = Turns(1, "1000000 3 180000000 300000000 60000000", 9)
     gone.turn("send 1", "close")
-    gone.runs(2)
+    gone.runs(1)
     gone.now += 50 * SECOND
     gone.turn("arrive 3 0 1 9 0")
     gone.runs(3)
+    # A peer that is heard is there, and while something is unread nothing is asked of it.
+    heard = Turns(1, "1000000 3 180000000 300000000 60000000", 9)
+    heard.turn("send 1", "close")
+    heard.runs(1)
+    for coming in ("3 0 0 9 0", "3 0 0 0 0"):
+        heard.now += 40 * SECOND
+        heard.turn(f"arrive {coming}")
+    heard.runs(3)
+    assert heard.expired == ["user"] and heard.now == 2 * WAY + 100 * SECOND, (heard.expired, heard.now)
+    unread = Turns(1, "1000000 3 180000000 300000000 60000000", 9)
+    unread.turn("send 1", "close")
+    unread.turn("arrive 1 0 1 9 0")
+    unread.runs(9)
+    assert not unread.expired and unread.second.end.una == 3, unread.expired
+    unread.now += 90 * SECOND
+    unread.turn("timeout", "receive")
+    unread.runs(9)
+    assert unread.expired == ["user"], unread.expired
     # Nothing is taken in a burst, no timer expires, and time doesn't go back.
     burst = ["new 7 1 5 3 - - -", "send 7 4", "emit 7 100", "emit 6 100", "timeout 1000006", "timeout 1000007", "arrive 1000008 2 0 0 9 0", "timeout 9000000",
              "send 9000000 1", "emit 8000000 100", "arrive 9000000 2 0 1 9 0", "emit 9000000 1", "emit 9000000 1", "arrive 9000000 2 0 1 9 0",
              "emit 9000000 0", "resend-first 9000001", "emit 9000001 0", "emit 9000001 0", f"timeout {MOST}", f"emit {MOST} 3", f"abort {MOST}",
              f"abort {MOST}", "emit 9000002 3", "close 9000003", f"timeout {MOST}"]  # fmt: skip
-    turns = (orderly, gap, late, silent, unanswered, shut, opened, resting, alone, gone)
+    turns = (orderly, gap, far, cut, late, silent, unanswered, shut, opened, resting, alone, gone, heard, unread)
     return [line for turn in turns for line in turn.lines] + burst
 
 

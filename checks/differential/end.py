@@ -85,6 +85,8 @@ class End:
         self.iss = config["isn"]
         # how many bytes the direction takes from its user
         self.limit = config.get("limit", SHORT_LIMIT)
+        # how many runs it keeps out of order, and how many of the peer's it remembers
+        self.most_runs = config.get("runs", 16)
         self.phase, self.ending, self.closing = "CLOSED", "not-ended", False
         self.peer = (None, None)
         self.peer_mss, self.scaling, self.peer_shift, self.sack = 536, False, 0, False
@@ -535,11 +537,11 @@ class End:
                 continue
             at, stop = self.place(left), min(self.place(right), len(self.queue))
             marked = self.marked | {(self.queue_start + i) % SPACE for i in range(max(0, at), stop)}
-            if sum((number - 1) % SPACE not in marked for number in marked) <= 16:
+            if sum((number - 1) % SPACE not in marked for number in marked) <= self.most_runs:
                 self.note("block marked")
                 self.marked = marked
             else:
-                self.note("seventeenth mark refused")
+                self.note("one marked run too many")
 
     def take_own_fin(self):
         fin_number = (self.queue_start + len(self.queue)) % SPACE
@@ -565,8 +567,8 @@ class End:
         for place, byte in piece.items():
             over[place] = (over[place][0] if place in over else byte, self.stamp)
         runs = sum(place - 1 not in over for place in over)
-        if not piece or (0 not in piece and runs > 16):
-            self.note("piece not kept")
+        if not piece or (0 not in piece and runs > self.most_runs):
+            self.note("one held run too many" if piece else "piece not kept")
             return
         count = 0
         while count in over:

@@ -164,10 +164,11 @@ def first_call(rng, end):
 
 def one(rng, note):
     """The lines of one end, and what is told of them."""
-    config = config_of(rng)
+    config = config_of(rng) | ({"runs": rng.choice([1, 2, 3, 16, 300])} if rng.random() < 0.4 else {})
     end = End(config, note)
     shift = "none" if config["shift"] is None else config["shift"]
-    lines = [f"new {config['isn']} {config['mss']} {config['send']} {config['recv']} {shift} {int(config['sack'])}"]
+    runs = f" {config['runs']}" if "runs" in config else ""
+    lines = [f"new {config['isn']} {config['mss']} {config['send']} {config['recv']} {shift} {int(config['sack'])}{runs}"]
     told = []
     if first := first_call(rng, end):
         lines.append(first[0])

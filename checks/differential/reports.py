@@ -182,11 +182,12 @@ def differs(seed, words, found, wanted):
 def one(seed, seen):
     """One end, its calls and what is reported of each."""
     rng = random.Random(seed)
-    config = config_of(rng)
+    config = config_of(rng) | {"runs": rng.choice([1, 2, 4, 16])}
     end = Reporting(config)
     library = tcpcore.End(
         tcpcore.Config(
-            config["addr"], config["port"], config["isn"], config["mss"], config["send"], config["recv"], config["shift"], config["sack"]
+            config["addr"], config["port"], config["isn"], config["mss"], config["send"], config["recv"], config["shift"], config["sack"],
+            runs=config["runs"],
         )
     )
     first = first_call(rng, end)

@@ -32,10 +32,11 @@ BOTH = mss(1460) + NOP + NOP + SACK_OK
 class Row:
     """Lines for one end, and what the second program tells of them."""
 
-    def __init__(self, name, isn=ISN, own_mss=1460, send=65536, recv=65536, shift=None, sack=True):
+    def __init__(self, name, isn=ISN, own_mss=1460, send=65536, recv=65536, shift=None, sack=True, runs=None):
         config = {"addr": OWN[0], "port": OWN[1], "isn": isn, "mss": own_mss, "send": send, "recv": recv, "shift": shift, "sack": sack}
+        config |= {} if runs is None else {"runs": runs}
         self.end = End(config)
-        settings = f"{isn} {own_mss} {send} {recv} {'none' if shift is None else shift} {int(sack)}"
+        settings = f"{isn} {own_mss} {send} {recv} {'none' if shift is None else shift} {int(sack)}" + ("" if runs is None else f" {runs}")
         self.lines, self.told = [f"# {name}", f"new {settings}"], []
         self.own, self.peer = (isn + 1) % SPACE, PEER_ISN + 1
 
@@ -360,6 +361,24 @@ def single_rows():
     yield Row("a full queue takes none, and an empty text always 0", send=3).opened().send(b"abcd").send(b"e").send(b"").call("close").send(b"")
 
 
+def runs_marked(runs):
+    """One run more than the number is reported; then two of them grow together, and there is room for it."""
+    r = Row(f"a run is marked where at most {runs} result", runs=runs).opened().send(b"a" * (2 * runs + 4)).emit()
+    for k in range(runs + 1):
+        r.arrive(ACK, options=sack((r.own + 2 * k + 1, r.own + 2 * k + 2)))
+    r.arrive(ACK, options=sack((r.own + 2, r.own + 3))).arrive(ACK, options=sack((r.own + 2 * runs + 1, r.own + 2 * runs + 2)))
+    return r.timer("reorder").emit(4).timer("retransmit").emit(2)
+
+
+def runs_held(runs):
+    """One run more than the number comes early; then two of them grow together, and there is room for it."""
+    r = Row(f"a run is held where at most {runs} result", runs=runs).opened()
+    for k in range(runs + 1):
+        r.arrive(ACK, seq=2 * k + 2, text=b"x")
+    r.emit().arrive(ACK, seq=3, text=b"y").arrive(ACK, seq=2 * runs + 2, text=b"z").emit()
+    return r.arrive(ACK, seq=1, text=b"w").emit().arrive(ACK, seq=2 * runs + 4, text=b"v").emit().receive(10)
+
+
 def block_rows():
     def flight(name):
         return Row(name).opened().send(b"0123456789").emit()
@@ -377,6 +396,9 @@ def block_rows():
     for k in range(17):
         r.arrive(ACK, options=sack((r.own + 2 * k + 1, r.own + 2 * k + 2)))
     yield r.timer("reorder").emit(20)
+    for runs in (1, 2, 20):
+        yield runs_marked(runs)
+        yield runs_held(runs)
     r = Row("four blocks, and options of 36 bytes in a full-sized text", own_mss=100).opened()
     for k in (2, 4, 6, 8, 10):
         r.arrive(ACK, seq=k, text=b"x")

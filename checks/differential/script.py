@@ -175,7 +175,7 @@ def read_settings(lines):
 def read_script(text, note=lambda name: None):
     """The world of a script without bad lines, and its events, each with the number of its line."""
     lines = list(enumerate(text.split("\n"), 1))
-    is_long = lines[0][1] == "tcpkit 2"
+    is_long = lines[0][1] in ("tcpkit 2", "tcpkit 3")
     lines = [(number, line) for number, line in lines[is_long:] if line and not line.startswith("#")]
     settings, life = read_settings(line for _, line in lines if line.startswith("config "))
     if is_long:

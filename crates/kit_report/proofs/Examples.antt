@@ -18,6 +18,7 @@ use Rattle.tcp_conn.specs.Due.{resend_of, new_text_of, due_of}
 use Rattle.tcp_conn.specs.Forms.{segment_of}
 use Rattle.tcp_conn.specs.Writing.{bytes_of}
 use Rattle.tcp_conn.specs.Emission.{emitted_bytes, after_emission}
+use Rattle.tcp_reasm.specs.Reassembly.{default_runs}
 use Rattle.tcp_replay.specs.declared.event.Side.TheVariants.{A, B}
 use Rattle.tcp_replay.specs.Events.{Connect, Listen, Emit, Deliver}
 use Rattle.tcp_replay.proofs.run.Examples.{a, b}
@@ -31,7 +32,7 @@ use Rattle.kit_report.specs.Outcomes.{outcome_text}
 use Rattle.kit_report.specs.Report.{event_line, event_lines, refusals, world_after_turns, is_well, counts_text, end_line, report_text, report_is_well}
 
 script : ScriptContent
-script = record { version = 1; life = max_life; a = a; b = b; events = once (Listen B) ∷ once (Connect A) ∷ once (Emit A) ∷ once (Deliver A 0) ∷ [] }
+script = record { version = 1; life = max_life; a = a; b = b; runs_a = default_runs; runs_b = default_runs; events = once (Listen B) ∷ once (Connect A) ∷ once (Emit A) ∷ once (Deliver A 0) ∷ [] }
 
 events_written : List ℕ
 events_written =

@@ -3,3 +3,4 @@ pub mod Repeats
 pub mod UnmarkedRuns
 pub mod EventsBefore
 pub mod SentLines
+pub mod MemoryFaults

@@ -1,5 +1,5 @@
 -- The unmarked runs of a queue, the first of those that are left and the others.
-use Rattle.std.proofs.Common.{◌≡◌, ℕ, zero, suc, ◌-◌, ◌<◌, ◌∷◌, ◌++◌, Bool, true, false, Some, ap, refl, ◌∙◌, arith}
+use Rattle.std.proofs.Common.{◌≡◌, ℕ, zero, suc, ◌-◌, ◌<◌, ◌∷◌, ◌++◌, Bool, true, false, Some, None, ap, refl, ◌∙◌, arith}
 use Rattle.std.specs.Prelude.{Option, List, []}
 use Rattle.std.specs.Option.{option_map_or}
 use Rattle.tcp_sendq.specs.SendQueue.{Queue, next_unmarked}
@@ -21,3 +21,8 @@ runs_text-cons false run runs = refl
 pub next_run_written : (is_first : Bool) (left : ℕ) (q : Queue) (at : ℕ) (run : ℕ × ℕ) → 0 < left → next_unmarked q at ≡ Some run
     → runs_text is_first (unmarked_runs left q at) ≡ run_text is_first run ++ runs_text false (unmarked_runs (left - 1) q run.1)
 next_run_written is_first left q at run some is = ap (runs_text is_first) (next_run left q at run some is) ∙ runs_text-cons is_first run _
+
+pub no_run_left : (is_first : Bool) (left : ℕ) (q : Queue) (at : ℕ) → 0 < left → next_unmarked q at ≡ None → runs_text is_first (unmarked_runs left q at) ≡ runs_text is_first []
+unfolding unmarked_runs
+no_run_left is_first zero q at some none = absurd (omega (arith, some))
+no_run_left is_first (suc n) q at some none = ap (λ next. runs_text is_first (option_map_or (λ (run : ℕ × ℕ). run ∷ unmarked_runs n q run.1) next [])) none

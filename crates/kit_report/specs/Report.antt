@@ -3,7 +3,7 @@ use Rattle.std.specs.Prelude.{ℕ, zero, suc, ◌+◌, ◌-◌, ◌^◌, ◌==�
 use Rattle.tcp_replay.specs.declared.event.Side.{Side}
 use Rattle.tcp_replay.specs.declared.event.Side.TheVariants.{A, B}
 use Rattle.tcp_replay.specs.Events.{EventContent, Send, Deliver, Damage, side_of}
-use Rattle.tcp_replay.specs.World.{PartyState, WorldState, new_world_with, party_of, step_answer, world_after, world_after_all}
+use Rattle.tcp_replay.specs.World.{PartyState, WorldState, world_with_runs, party_of, step_answer, world_after, world_after_all}
 use Rattle.tcp_replay.specs.Names.{side_name}
 use Rattle.kit_script.specs.Script.{TurnContent, ScriptContent}
 use Rattle.tcp_conn.specs.Names.{phase_name, ending_name}
@@ -102,7 +102,7 @@ end_lines w = end_line A w.a ++ end_line B w.b
 
 -- THE REPORT
 abbrev pub first_world : ScriptContent → WorldState
-first_world s = new_world_with s.life s.a s.b
+first_world s = world_with_runs s.life s.a s.b s.runs_a s.runs_b
 
 unfoldable pub report_text : ScriptContent → List ℕ
 report_text s = event_lines 1 (first_world s) s.events ++ end_lines (world_after_turns (first_world s) s.events)

@@ -23,9 +23,9 @@ unfoldable pub unmarked_runs : ℕ → Queue → ℕ → List (ℕ × ℕ)
 unmarked_runs zero q at = []
 unmarked_runs (suc n) q at = option_map_or (λ run. run ∷ unmarked_runs n q run.1) (next_unmarked q at) []
 
--- between at most sixteen marked runs, and around them
+-- between the marked runs, at most 4,096, and around them
 abbrev pub max_unmarked_runs : ℕ
-max_unmarked_runs = 17
+max_unmarked_runs = 4097
 
 -- THE BUFFERS. The send queue: its bytes, how many of them were sent, and which the peer hasn't reported as received
 unfoldable pub queue_text : State → List ℕ

@@ -2,7 +2,7 @@
 ghost use Rattle.std.specs.Prelude.{◌≡◌, ◌++◌, map, take, IfOk, IfErr, OnOk, string_bytes};
 ghost use Rattle.tcp_wire.specs.Position.{number};
 ghost use Rattle.tcp_replay.specs.World.{party_of, HasGoodConfigs};
-ghost use Rattle.kit_script.specs.Script.{turn_content, script_content, HasLife};
+ghost use Rattle.kit_script.specs.Script.{turn_content, script_content, CanBegin};
 ghost use Rattle.kit_report.specs.Ends.{send_text, receive_text, timers_text, numbers_line, numbers_lines, numbers_text};
 ghost use Rattle.kit_report.specs.Faults.{HasReportFault};
 ghost use Rattle.kit_report.specs.Report.{world_after_turns};
@@ -134,7 +134,7 @@ pub fn show_numbers<A: Allocator + Copy>(
     script: &Script<A>,
     n: usize,
 ) -> Result<String<A>, ReportError>
-    requires { HasLife script.now }
+    requires { CanBegin script.now }
     ensures text { IfOk result (λ text. string_bytes text ≡ numbers_text (script_content script.now) n) }
     ensures good { OnOk result (HasGoodConfigs script.now.a script.now.b) }
     ensures fault { IfErr result (HasReportFault (script_content script.now)) }

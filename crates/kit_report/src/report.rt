@@ -1,7 +1,7 @@
 //! The report of a script.
 ghost use Rattle.std.specs.Prelude.{◌≡◌, ◌++◌, map, IfOk, IfErr, OnOk, string_bytes};
 ghost use Rattle.tcp_replay.specs.World.{party_of, HasGoodConfigs};
-ghost use Rattle.kit_script.specs.Script.{turn_content, script_content, HasLife};
+ghost use Rattle.kit_script.specs.Script.{turn_content, script_content, CanBegin};
 ghost use Rattle.kit_report.specs.Report.{world_after_turns, event_lines, is_well, counts_text, end_line, end_lines, first_world, report_text, report_is_well};
 ghost use Rattle.kit_report.specs.Faults.{HasReportFault};
 
@@ -82,12 +82,19 @@ pub(crate) fn new_world<A: Allocator + Copy>(
     alloc: A,
     script: &Script<A>,
 ) -> Result<World<A>, ReportError>
-    requires { HasLife script.now }
+    requires { CanBegin script.now }
     ensures new { IfOk result (λ world. world ≡ first_world (script_content script.now)) }
     ensures good { OnOk result (HasGoodConfigs script.now.a script.now.b) }
     ensures fault { IfErr result (HasReportFault (script_content script.now)) }
 {
-    match World::with_lifetime_in(alloc, script.a, script.b, script.life) {
+    match World::with_runs_in(
+        alloc,
+        script.a,
+        script.b,
+        script.life,
+        script.runs_a,
+        script.runs_b,
+    ) {
         Ok(world) => Ok(world),
         Err(WorldError::Config(_, ConfigError::NoMemory)) => Err(ReportError::NoMemory),
         Err(WorldError::Config(side, fault)) => Err(ReportError::Config(side, fault)),
@@ -115,7 +122,7 @@ pub fn make_report<A: Allocator + Copy>(
     alloc: A,
     script: &Script<A>,
 ) -> Result<Report<A>, ReportError>
-    requires { HasLife script.now }
+    requires { CanBegin script.now }
     ensures text { IfOk result (λ report. string_bytes report.text ≡ report_text (script_content script.now)) }
     ensures well { IfOk result (λ report. report.is_well ≡ report_is_well (script_content script.now)) }
     ensures good { OnOk result (HasGoodConfigs script.now.a script.now.b) }

@@ -2,7 +2,7 @@
 ghost use Rattle.std.specs.Prelude.{◌≡◌, option_map, map, slice_get, take, IfOk, IfErr, OnOk};
 ghost use Rattle.tcp_replay.specs.World.{HasGoodConfigs};
 ghost use Rattle.tcp_replay.specs.Events.{event_content};
-ghost use Rattle.kit_script.specs.Script.{turn_content, script_content, HasLife};
+ghost use Rattle.kit_script.specs.Script.{turn_content, script_content, CanBegin};
 ghost use Rattle.kit_report.specs.Faults.{HasReportFault};
 ghost use Rattle.kit_report.specs.Report.{world_after_turns};
 ghost use Rattle.kit_report.specs.Rules.{event_rule, rule_at, rule_in, rule_text, shown_rule};
@@ -102,7 +102,7 @@ pub fn show_rule<A: Allocator + Copy>(
     script: &Script<A>,
     n: usize,
 ) -> Result<Option<&'static str>, ReportError>
-    requires { HasLife script.now }
+    requires { CanBegin script.now }
     ensures rule { IfOk result (λ rule. option_map (λ text. text.now) rule ≡ shown_rule (script_content script.now) n) }
     ensures good { OnOk result (HasGoodConfigs script.now.a script.now.b) }
     ensures fault { IfErr result (HasReportFault (script_content script.now)) }

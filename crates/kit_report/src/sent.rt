@@ -1,7 +1,7 @@
 //! All segments that the run of a script emits, as bytes.
 ghost use Rattle.std.specs.Prelude.{◌≡◌, ◌++◌, map, IfOk, IfErr, OnOk, string_bytes};
 ghost use Rattle.tcp_replay.specs.World.{HasGoodConfigs};
-ghost use Rattle.kit_script.specs.Script.{turn_content, script_content, HasLife};
+ghost use Rattle.kit_script.specs.Script.{turn_content, script_content, CanBegin};
 ghost use Rattle.kit_report.specs.Ends.{sent_line, sent_lines, sent_text};
 ghost use Rattle.kit_report.specs.Faults.{HasReportFault};
 ghost use Rattle.kit_report.specs.Report.{world_after_turns};
@@ -73,7 +73,7 @@ pub fn list_sent<A: Allocator + Copy>(
     alloc: A,
     script: &Script<A>,
 ) -> Result<String<A>, ReportError>
-    requires { HasLife script.now }
+    requires { CanBegin script.now }
     ensures text { IfOk result (λ text. string_bytes text ≡ sent_text (script_content script.now)) }
     ensures good { OnOk result (HasGoodConfigs script.now.a script.now.b) }
     ensures fault { IfErr result (HasReportFault (script_content script.now)) }

@@ -1,7 +1,7 @@
 //! The meaning of a segment of a script's run.
 ghost use Rattle.std.specs.Prelude.{◌≡◌, ◌++◌, map, option_map, IfOk, IfErr, OnOk, string_bytes};
 ghost use Rattle.tcp_replay.specs.World.{HasGoodConfigs};
-ghost use Rattle.kit_script.specs.Script.{turn_content, script_content, HasLife};
+ghost use Rattle.kit_script.specs.Script.{turn_content, script_content, CanBegin};
 ghost use Rattle.kit_report.specs.Report.{world_after_turns};
 ghost use Rattle.kit_report.specs.Steps.{segment_text_of, segment_text_at, shown_segment};
 ghost use Rattle.kit_report.specs.Faults.{HasReportFault};
@@ -69,7 +69,7 @@ pub fn show_segment<A: Allocator + Copy>(
     side: Side,
     k: usize,
 ) -> Result<Option<String<A>>, ReportError>
-    requires { HasLife script.now }
+    requires { CanBegin script.now }
     ensures text { IfOk result (λ text. option_map string_bytes text ≡ shown_segment (script_content script.now) side k) }
     ensures good { OnOk result (HasGoodConfigs script.now.a script.now.b) }
     ensures fault { IfErr result (HasReportFault (script_content script.now)) }

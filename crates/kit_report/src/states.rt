@@ -10,8 +10,8 @@ use std::alloc::{AllocError, Allocator};
 use tcp_conn::Endpoint;
 use tcp_replay::{Side, World};
 
-/// The most runs of unmarked bytes that a send queue has: between at most sixteen marked ones, and around them.
-const MAX_UNMARKED_RUNS: u32 = 17;
+/// The most runs of unmarked bytes that a send queue has: between at most 4,096 marked ones, and around them.
+const MAX_UNMARKED_RUNS: u32 = 4_097;
 
 /// Appends a run, with a `+` before it unless it is the first.
 fn push_run<A: Allocator>(

@@ -1,7 +1,7 @@
 //! The states of both ends after each event of a script.
 ghost use Rattle.std.specs.Prelude.{◌≡◌, ◌++◌, map, IfOk, IfErr, OnOk, string_bytes};
 ghost use Rattle.tcp_replay.specs.World.{HasGoodConfigs};
-ghost use Rattle.kit_script.specs.Script.{turn_content, script_content, HasLife};
+ghost use Rattle.kit_script.specs.Script.{turn_content, script_content, CanBegin};
 ghost use Rattle.kit_report.specs.Report.{world_after_turns};
 ghost use Rattle.kit_report.specs.Steps.{state_lines, step_lines, steps_text};
 ghost use Rattle.kit_report.specs.Faults.{HasReportFault};
@@ -52,7 +52,7 @@ pub fn make_steps<A: Allocator + Copy>(
     alloc: A,
     script: &Script<A>,
 ) -> Result<String<A>, ReportError>
-    requires { HasLife script.now }
+    requires { CanBegin script.now }
     ensures text { IfOk result (λ text. string_bytes text ≡ steps_text (script_content script.now)) }
     ensures good { OnOk result (HasGoodConfigs script.now.a script.now.b) }
     ensures fault { IfErr result (HasReportFault (script_content script.now)) }

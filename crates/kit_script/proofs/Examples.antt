@@ -10,9 +10,10 @@ use Rattle.kit_text.specs.Lines.{numbered_from}
 use Rattle.tcp_halves.specs.Config.{default_limit}
 use Rattle.kit_script.specs.Settings.{default_a, default_b}
 use Rattle.kit_script.specs.Statements.{statement_of}
+use Rattle.tcp_reasm.specs.Reassembly.{default_runs}
 use Rattle.tcp_replay.specs.World.{max_life}
-use Rattle.kit_script.specs.Version2.{added_line_of}
-use Rattle.kit_script.specs.Script.{ScriptContent, once, default_script_2, script_of, script_from}
+use Rattle.kit_script.specs.Added.{added_line_of}
+use Rattle.kit_script.specs.Script.{ScriptContent, once, default_script_2, default_script_3, script_of, script_from}
 
 text : List ℕ
 text =
@@ -25,6 +26,8 @@ says = record {
   life = max_life;
   a = record default_a { isn = record { 0 = 7 } };
   b = default_b;
+  runs_a = default_runs;
+  runs_b = default_runs;
   events = once (Listen B) ∷ once (Connect A) ∷ once (Deliver A 0) ∷ once (Timer A Retransmit) ∷ once (Receive B 10) ∷ [];
 }
 
@@ -53,6 +56,8 @@ sets = record {
   life = max_life;
   a = record default_a { mss = 100; send_capacity = 7; window_shift = Some 14 };
   b = record default_b { isn = record { 0 = 0 }; mss = 200; recv_capacity = 9; sack = false };
+  runs_a = default_runs;
+  runs_b = default_runs;
   events = [];
 }
 
@@ -80,6 +85,8 @@ ends = record {
   life = max_life;
   a = first;
   b = record first { addr = record { 0 = 10 ∷ 0 ∷ 0 ∷ 2 ∷ [] }; port = 2; isn = record { 0 = 5000 } };
+  runs_a = default_runs;
+  runs_b = default_runs;
   events = [];
 }
 
@@ -119,3 +126,25 @@ version_later = 10 ∷ codes "tcpkit 2"
 refuses_version : script_of version_later ≡ Err 2
 unfolding version_later script_of script_from statement_of numbered_from
 refuses_version = refl
+
+-- version 3: the number of runs of each end, which version 2 doesn't have
+lines_of_runs : List ℕ
+lines_of_runs = codes "config A runs 1" ++ 10 ∷ codes "config B runs 4096" ++ 10 ∷ codes "config B limit 7"
+
+reads_runs : script_of (codes "tcpkit 3" ++ 10 ∷ lines_of_runs)
+    ≡ Ok (record default_script_3 { b = record default_script_3.b { limit = 7 }; runs_a = 1; runs_b = 4096 })
+unfolding lines_of_runs script_of script_from added_line_of statement_of numbered_from
+reads_runs = refl
+
+refuses_runs : script_of (codes "tcpkit 2" ++ 10 ∷ lines_of_runs) ≡ Err 2
+unfolding lines_of_runs script_of script_from added_line_of statement_of numbered_from
+refuses_runs = refl
+
+-- no number below 1 or above 4,096
+refuses_no_runs : script_of (codes "tcpkit 3" ++ 10 ∷ codes "config A runs 0") ≡ Err 2
+unfolding script_of script_from added_line_of statement_of numbered_from
+refuses_no_runs = refl
+
+refuses_more_runs : script_of (codes "tcpkit 3" ++ 10 ∷ codes "config A runs 4097") ≡ Err 2
+unfolding script_of script_from added_line_of statement_of numbered_from
+refuses_more_runs = refl

@@ -7,8 +7,8 @@ use Rattle.kit_text.specs.Lines.{ascii_lines}
 use Rattle.kit_script.specs.Settings.{with_setting}
 use Rattle.kit_script.specs.Statements.{StatementContent, setting, event, statement_of}
 use Rattle.kit_script.specs.Version1.{EventScript, default_event_script, event_script_with, event_script_with_line, event_script_from, event_script_of, event_script_of_lines}
-use Rattle.kit_script.specs.Version2.{LineContent, statement, version_1_line_of}
-use Rattle.kit_script.specs.Script.{TurnContent, ScriptContent, once, of_events, of_event_answer, with_line_content, default_script, script_from, script_of, script_of_lines, is_version_2, SaysVersion1}
+use Rattle.kit_script.specs.Added.{LineContent, statement, version_1_line_of}
+use Rattle.kit_script.specs.Script.{TurnContent, ScriptContent, once, of_events, of_event_answer, with_line_content, default_script, script_from, script_of, script_of_lines, is_version_2, is_version_3, SaysVersion1}
 
 -- events are counted and added in the same way
 map_once-append : (es : List EventContent) (e : EventContent) → map once es ++ once e ∷ [] ≡ map once (es ++ e ∷ [])
@@ -51,10 +51,12 @@ lines-alike s (line ∷ lines) =
     ap (λ m. option_map_or (λ s'. script_from s' lines) m (Err line.0)) (line-alike s (statement_of line.1))
     ∙ further-alike lines (λ s'. lines-alike s' lines) (event_script_with_line s line.1) line.0
 
-answer-alike : (answer : Result (List (ℕ × List ℕ)) ℕ) → script_of_lines false answer ≡ of_event_answer (event_script_of_lines answer)
+answer-alike : (answer : Result (List (ℕ × List ℕ)) ℕ) → script_of_lines false false answer ≡ of_event_answer (event_script_of_lines answer)
 answer-alike (Ok lines) = lines-alike default_event_script lines
 answer-alike (Err line) = refl
 
 pub says_version_1 : (text : List ℕ) → SaysVersion1 text
 unfolding script_of event_script_of
-says_version_1 text first = ap (λ second. script_of_lines second (ascii_lines text)) first ∙ answer-alike (ascii_lines text)
+says_version_1 text second third =
+    ap (λ b. script_of_lines b (is_version_3 text) (ascii_lines text)) second ∙ ap (λ b. script_of_lines false b (ascii_lines text)) third
+    ∙ answer-alike (ascii_lines text)

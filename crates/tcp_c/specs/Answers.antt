@@ -8,11 +8,18 @@ use Rattle.tcp_conn.specs.declared.outcome.Received.TheVariants.{Bytes, Nothing,
 use Rattle.tcp_conn.specs.declared.outcome.Arrival.{Arrival}
 use Rattle.tcp_conn.specs.declared.outcome.Arrival.TheVariants.{Malformed, NotMine, Dropped, Processed}
 use Rattle.tcp_conn.specs.Outcome.{call_error_number}
-use Rattle.tcp_conn.specs.State.{State}
 
 -- the call did its task
 abbrev pub done : ℕ
 done = 0
+
+-- the number of runs is above the greatest
+abbrev pub bad_runs : ℕ
+bad_runs = 28
+
+-- no timeout can be made from the rules
+abbrev pub bad_rules : ℕ
+bad_rules = 29
 
 -- the handle has no end
 abbrev pub no_end : ℕ
@@ -66,13 +73,21 @@ segment_not_mine = 56
 abbrev pub not_time_wait : ℕ
 not_time_wait = 57
 
+-- a timer has expired, and what is due then goes out first
+abbrev pub emit_first : ℕ
+emit_first = 58
+
+-- the segment is a reset that counts as lost
+abbrev pub withheld : ℕ
+withheld = 59
+
 -- the answer of a call: of the end in the handle, or that there is none
-abbrev pub answer_of : (State → ℕ) → Option State → ℕ
+abbrev pub answer_of : {S : Type 0} → (S → ℕ) → Option S → ℕ
 answer_of answer None = no_end
 answer_of answer (Some s) = answer s
 
 -- a number of the end in the handle; 0 where there is none
-abbrev pub number_written : (State → ℕ) → Option State → ℕ
+abbrev pub number_written : {S : Type 0} → (S → ℕ) → Option S → ℕ
 number_written number None = 0
 number_written number (Some s) = number s
 

@@ -1,8 +1,10 @@
 -- The Config of C for a new end (RFC 9293, 3.4.1 and 3.7.1; RFC 7323, 2.2; RFC 2018, 2).
-use Rattle.std.specs.Prelude.{ℕ, ◌+◌, not, ◌==◌, if◌then◌else◌, Some, None}
+use Rattle.std.specs.Prelude.{ℕ, ◌+◌, ◌*◌, ◌≤◌, ◌<◌, not, ◌==◌, if◌then◌else◌, Some, None}
 use Rattle.tcp_halves.specs.declared.config.Config.{Config}
+use Rattle.tcp_sendq.specs.SendQueue.{greatest_runs}
 use Rattle.region_heap.specs.Memory.{rounded}
 use Rattle.tcp_c.specs.declared.records.CConfig.{CConfig}
+use Rattle.tcp_c.specs.declared.runs.TheConstants.{RUNS}
 
 -- the Config of C's record
 abbrev pub config_of : CConfig → Config
@@ -18,6 +20,27 @@ config_of c = record {
   limit = c.limit;
 }
 
--- the bytes of a block that its end needs: the buffers, each in whole units, and the end itself
+-- the number of runs: 0 stands for the default
+abbrev pub runs_of : CConfig → ℕ
+runs_of c = if c.runs == 0 then RUNS else c.runs
+
+abbrev pub HasGoodRuns : CConfig → Type 0
+HasGoodRuns c = runs_of c ≤ greatest_runs
+
+abbrev pub HasBadRuns : CConfig → Type 0
+HasBadRuns c = greatest_runs < runs_of c
+
+-- the bytes of the table of the runs that the end keeps, and of that of the runs which the peer reported
+abbrev pub table_of : CConfig → ℕ
+table_of c = rounded (8 * runs_of c)
+
+-- the bytes of a block that an end of a size needs: the buffers and the two tables, each in whole units, and the end itself
+abbrev pub room_beside : CConfig → ℕ → ℕ
+room_beside c size = rounded c.send_capacity + rounded c.recv_capacity + 2 * table_of c + size
+
 abbrev pub room_of : CConfig → ℕ
-room_of c = rounded c.send_capacity + (rounded c.recv_capacity + 704)
+room_of c = room_beside c 416
+
+-- and with its timers
+abbrev pub connection_room_of : CConfig → ℕ
+connection_room_of c = room_beside c 720

@@ -1,6 +1,8 @@
 pub mod Answers
 pub mod Calls
 pub mod Configs
+pub mod Connections
+pub mod DrivenHeld
 pub mod Held
 pub mod Lent
 pub mod Pacing

@@ -7,6 +7,12 @@ use tcp_conn::{Arrival, CallError, Received};
 /// The call did its task.
 pub const DONE: u32 = 0;
 
+/// The number of runs is above [`MAX_RUNS`](tcp_sendq::MAX_RUNS).
+pub const BAD_RUNS: u32 = 28;
+
+/// No timeout can be made from the rules.
+pub const BAD_RULES: u32 = 29;
+
 /// The handle has no end.
 pub const NO_END: u32 = 31;
 
@@ -42,6 +48,12 @@ pub const SEGMENT_NOT_MINE: u32 = 56;
 
 /// The end isn't in TIME-WAIT, or has bytes unread.
 pub const NOT_TIME_WAIT: u32 = 57;
+
+/// A timer has expired, and what is due then goes out first.
+pub const EMIT_FIRST: u32 = 58;
+
+/// The segment is a reset that counts as lost (RFC 1337, 3).
+pub const WITHHELD: u32 = 59;
 
 /// The answer of a user call, without the value that it reports.
 pub(crate) fn call_number<T: Drop>(answer: Result<T, CallError>) -> u32

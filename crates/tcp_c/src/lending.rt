@@ -26,7 +26,7 @@ pub(crate) fn start_of(bytes: &[u8]) -> *const u8
 }
 
 /// No bytes.
-fn nothing_lent() -> CLent
+pub(crate) fn nothing_lent() -> CLent
     ensures first_length { result.first_length ≡ 0 }
     ensures second_length { result.second_length ≡ 0 }
     ensures first_null { IsNullIfEmpty result.first result.first_length }
@@ -60,7 +60,7 @@ fn told_of(lent: &Lent<'_>) -> CLent
 }
 
 /// What an end lends, and the answer.
-fn lent_of(end: &Endpoint<Region>) -> (u32, CLent)
+pub(crate) fn lent_of(end: &Endpoint<Region>) -> (u32, CLent)
     ensures answer { result.0 ≡ peek_number end.now }
     ensures lengths { result.1.first_length + result.1.second_length ≡ peek_length end.now }
     ensures first { 0 < peek_length end.now → 0 < result.1.first_length }

@@ -1,4 +1,5 @@
-//! One end of TCP for C, a static library: each exported function is a call of [`tcp_conn::Endpoint`] and nothing more.
+//! One end of TCP for C, a static library: each exported function is a call of [`tcp_conn::Endpoint`] and nothing more, or of
+//! [`tcp_end::End`], an end with its timers, where its name begins with `tcp_c_connection`.
 //!
 //! ```c
 //! typedef struct { uint64_t mark; void *at; } tcp_c_handle;
@@ -10,6 +11,7 @@
 //!     size_t send_capacity, recv_capacity;
 //!     uint64_t limit;
 //!     uint8_t window_shift, scales, sack;
+//!     uint16_t runs;
 //! } tcp_c_config;
 //! typedef struct {
 //!     uint32_t phase, ending;
@@ -74,6 +76,19 @@
 //!     size_t second_length;
 //! } tcp_c_parts_record;
 //!
+//! typedef struct { uint64_t mark; void *at; } tcp_c_connection;
+//! typedef struct {
+//!     uint64_t first, least, greatest, granularity, after_syn;
+//!     uint64_t time_wait, handshake, user, fin_wait_2;
+//!     uint32_t suspect_after;
+//! } tcp_c_connection_rules;
+//!
+//! typedef struct {
+//!     size_t length;
+//!     uint64_t position, count;
+//!     tcp_c_addr to;
+//! } tcp_c_connection_segment;
+//!
 //! typedef struct { void *at; size_t size; } tcp_c_block;
 //!
 //! uint32_t tcp_c_new(tcp_c_handle *handle, const tcp_c_config *config, tcp_c_block block);
@@ -115,6 +130,23 @@
 //! uint32_t tcp_c_time_wait_pending(const tcp_c_time_wait_record *time_wait, uint32_t *due);
 //! uint32_t tcp_c_time_wait_abort(tcp_c_time_wait_record *time_wait);
 //! uint32_t tcp_c_time_wait_status(const tcp_c_time_wait_record *time_wait, uint32_t *phase, uint32_t *ending);
+//!
+//! uint32_t tcp_c_connection_connect(tcp_c_connection *handle, tcp_c_block block, const tcp_c_config *config, const tcp_c_connection_rules *rules, const tcp_c_addr *addr, uint16_t port, uint64_t now);
+//! uint32_t tcp_c_connection_listen(tcp_c_connection *handle, tcp_c_block block, const tcp_c_config *config, const tcp_c_connection_rules *rules, uint64_t now);
+//! size_t tcp_c_connection_room(const tcp_c_config *config);
+//! uint32_t tcp_c_connection_free(tcp_c_connection *handle);
+//! uint32_t tcp_c_connection_poll_at(tcp_c_connection *handle, uint64_t *at);
+//! uint32_t tcp_c_connection_timeout(tcp_c_connection *handle, uint64_t now, uint32_t *timer);
+//! uint32_t tcp_c_connection_arrive(tcp_c_connection *handle, uint64_t now, const tcp_c_addr *src, const tcp_c_addr *dst, const uint8_t *bytes, size_t bytes_length, tcp_c_arrive_report *report);
+//! uint32_t tcp_c_connection_emit(tcp_c_connection *handle, uint64_t now, uint64_t window, uint8_t *out, size_t out_length, tcp_c_connection_segment *segment);
+//! uint32_t tcp_c_connection_send(tcp_c_connection *handle, uint64_t now, const uint8_t *text, size_t text_length, size_t *taken);
+//! uint32_t tcp_c_connection_receive(tcp_c_connection *handle, uint64_t now, uint8_t *out, size_t out_length, size_t *count);
+//! uint32_t tcp_c_connection_peek(tcp_c_connection *handle, tcp_c_lent_record *lent);
+//! uint32_t tcp_c_connection_consume(tcp_c_connection *handle, uint64_t now, size_t count, size_t *taken);
+//! uint32_t tcp_c_connection_acknowledge(tcp_c_connection *handle, uint64_t now);
+//! uint32_t tcp_c_connection_close(tcp_c_connection *handle, uint64_t now);
+//! uint32_t tcp_c_connection_abort(tcp_c_connection *handle, uint64_t now);
+//! uint32_t tcp_c_connection_status(tcp_c_connection *handle, tcp_c_status_record *status);
 //! ```
 //!
 //! Each returns a number of the table in `answers`, or that of a refusal: 1 to 6 for bytes that are no segment
@@ -144,6 +176,7 @@
 
 mod answers;
 mod c_time_wait;
+mod connection;
 mod emission;
 mod handle;
 mod held;
@@ -155,6 +188,7 @@ mod parts;
 mod records;
 mod reports;
 mod room;
+mod runs;
 mod segments;
 mod status;
 mod time_wait_calls;
@@ -164,10 +198,25 @@ mod user;
 mod vouched;
 
 pub use answers::{
-    DONE, END_OF_STREAM, IN_USE, LITTLE_ROOM, NO_END, NO_RULE, NO_TIME_WAIT, NO_TIMER,
-    NOT_TIME_WAIT, NOTHING_DUE, NOTHING_UNREAD, SEGMENT_DROPPED, SEGMENT_NOT_MINE,
+    BAD_RULES, BAD_RUNS, DONE, EMIT_FIRST, END_OF_STREAM, IN_USE, LITTLE_ROOM, NO_END, NO_RULE,
+    NO_TIME_WAIT, NO_TIMER, NOT_TIME_WAIT, NOTHING_DUE, NOTHING_UNREAD, SEGMENT_DROPPED,
+    SEGMENT_NOT_MINE, WITHHELD,
 };
 pub use c_time_wait::MARK_OF_TIME_WAIT;
+pub use connection::driven::Driven;
+pub use connection::driven_handle::{DrivenHandle, MARK_OF_CONNECTION};
+pub use connection::driven_held::DrivenHeld;
+pub use connection::making::{
+    tcp_c_connection_connect, tcp_c_connection_free, tcp_c_connection_listen, tcp_c_connection_room,
+};
+pub use connection::rules::NEVER;
+pub use connection::segments::{tcp_c_connection_arrive, tcp_c_connection_emit};
+pub use connection::timing::{tcp_c_connection_poll_at, tcp_c_connection_timeout};
+pub use connection::user::{
+    tcp_c_connection_abort, tcp_c_connection_acknowledge, tcp_c_connection_close,
+    tcp_c_connection_consume, tcp_c_connection_peek, tcp_c_connection_receive,
+    tcp_c_connection_send, tcp_c_connection_status,
+};
 pub use emission::{tcp_c_emit, tcp_c_emit_acknowledgement, tcp_c_emit_partial};
 pub use handle::{Handle, MARK_OF_LIVE};
 pub use held::Held;
@@ -176,10 +225,12 @@ pub use making::{tcp_c_free, tcp_c_new};
 pub use pacing::tcp_c_resend_first;
 pub use parts::{tcp_c_parts, tcp_c_sent};
 pub use records::{
-    CAddr, CArriveReport, CConfig, CLent, CParts, CStatus, CTimeWait, CTrain, CTransmit,
+    CAddr, CArriveReport, CConfig, CConnectionRules, CConnectionSegment, CLent, CParts, CStatus,
+    CTimeWait, CTrain, CTransmit,
 };
 pub use reports::{tcp_c_arrive_with_report, tcp_c_next, tcp_c_transmit};
 pub use room::tcp_c_room;
+pub use runs::RUNS;
 pub use segments::{tcp_c_arrive, tcp_c_arrive_with_at_once, tcp_c_stray_reset};
 pub use status::{tcp_c_peer, tcp_c_pending, tcp_c_status};
 pub use time_wait_calls::{

@@ -2,6 +2,7 @@
 ghost use Rattle.std.specs.Prelude.{◌≡◌};
 ghost use Rattle.std_alloc.specs.Box.Ownership.{box_owns};
 
+use crate::connection::driven::Driven;
 use region_heap::{Region, Still};
 use std::alloc::Allocator;
 use std::marker::Model;
@@ -37,6 +38,16 @@ impl<T: Drop, A: Allocator> Loose<T, A> {
 impl Loose<Endpoint<Region>, Region> {
     /// The pointer with the allocator that needs no memory, and the region beside it.
     pub(crate) fn settled(self, still: Still) -> (Loose<Endpoint<Region>, Still>, Region)
+        ensures { result.0.value ≡ self.value }
+    {
+        let Loose { at, alloc } = self;
+        (Loose { at, alloc: still }, alloc)
+    }
+}
+
+impl Loose<Driven, Region> {
+    /// The same of an end with its timers.
+    pub(crate) fn settled(self, still: Still) -> (Loose<Driven, Still>, Region)
         ensures { result.0.value ≡ self.value }
     {
         let Loose { at, alloc } = self;

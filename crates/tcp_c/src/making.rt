@@ -1,20 +1,23 @@
 //! Makes and frees an end.
-ghost use Rattle.std.specs.Prelude.{◌≡◌, ◌≢◌, ◌↔◌, ◌⊎◌, IsSome, IsNone, Some, None, Ok, Err, IfOk};
-ghost use Rattle.tcp_conn.specs.NewEnd.{new_end};
+ghost use Rattle.std.specs.Prelude.{◌≡◌, ◌≢◌, ◌↔◌, ◌⊎◌, ◌≤◌, ◌<◌, IsSome, IsNone, Some, None, Ok, Err, IfOk};
+ghost use Rattle.tcp_conn.specs.NewEnd.{end_with_runs};
+ghost use Rattle.tcp_sendq.specs.SendQueue.{greatest_runs};
 ghost use Rattle.tcp_halves.specs.Config.{config_error_number, HasBadCapacity, HasBadMss, HasBadShift, HasBadLimit, IsGoodConfig};
-ghost use Rattle.tcp_c.specs.Answers.{done, in_use, answer_of};
-ghost use Rattle.tcp_c.specs.Configs.{config_of};
+ghost use Rattle.tcp_c.specs.Answers.{done, bad_runs, in_use, answer_of};
+ghost use Rattle.tcp_c.specs.Configs.{config_of, runs_of, HasBadRuns, HasGoodRuns};
 
-use crate::answers::{DONE, IN_USE, NO_END};
+use crate::answers::{BAD_RUNS, DONE, IN_USE, NO_END};
 use crate::handle::Handle;
 use crate::loose::Loose;
 use crate::records::CConfig;
+use crate::runs::{RUN_SIZE, are_too_many, runs_of};
 use region_heap::{Block, Region, Still};
 use tcp_conn::{Config, ConfigError, Endpoint};
+use tcp_sendq::MAX_RUNS;
 use tcp_wire::{Addr, Seq};
 
 /// The Config of C's record.
-fn config_of(config: &CConfig) -> Config
+pub(crate) fn config_of(config: &CConfig) -> Config
     ensures { result ≡ config_of config.now }
 {
     Config {
@@ -42,9 +45,15 @@ fn settled(end: Box<Endpoint<Region>, Region>) -> Box<Endpoint<Region>, Still>
     end.into_box()
 }
 
-/// A new end in a box, all of it in this block: the buffers, and after them the end.
-fn boxed_end(block: Block, config: Config) -> Result<Box<Endpoint<Region>, Still>, ConfigError>
-    ensures new { IfOk result (λ end. end.value ≡ new_end config) }
+/// A new end whose buffers, and after them the two tables of runs, lie in the front of this block; and the rest of the block.
+pub(crate) fn end_in(
+    block: Block,
+    config: Config,
+    runs: usize,
+) -> Result<(Endpoint<Region>, Block), ConfigError>
+    requires least { 1 ≤ runs }
+    requires most { runs ≤ greatest_runs }
+    ensures new { IfOk result (λ made. made.0 ≡ end_with_runs config runs) }
     ensures bad_capacity { (result ≡ Err ConfigError.BadCapacity) ↔ HasBadCapacity config }
     ensures bad_mss { (result ≡ Err ConfigError.BadMss) ↔ HasBadMss config }
     ensures bad_shift { (result ≡ Err ConfigError.BadShift) ↔ HasBadShift config }
@@ -53,8 +62,38 @@ fn boxed_end(block: Block, config: Config) -> Result<Box<Endpoint<Region>, Still
 {
     let (send, rest) = block.split(config.send_capacity);
     let (recv, rest) = rest.split(config.recv_capacity);
-    let end = match Endpoint::new_of(Region::new(send), Region::new(recv), config) {
-        Ok(end) => end,
+    let (marks, rest) = rest.split(runs * RUN_SIZE);
+    let (held, rest) = rest.split(runs * RUN_SIZE);
+    match Endpoint::with_runs_of(
+        Region::new(send),
+        Region::new(recv),
+        Region::new(marks),
+        Region::new(held),
+        config,
+        runs,
+    ) {
+        Ok(end) => Ok((end, rest)),
+        Err(error) => Err(error),
+    }
+}
+
+/// A new end in a box behind its buffers and tables, all of it in this block.
+fn boxed_end(
+    block: Block,
+    config: Config,
+    runs: usize,
+) -> Result<Box<Endpoint<Region>, Still>, ConfigError>
+    requires least { 1 ≤ runs }
+    requires most { runs ≤ greatest_runs }
+    ensures new { IfOk result (λ end. end.value ≡ end_with_runs config runs) }
+    ensures bad_capacity { (result ≡ Err ConfigError.BadCapacity) ↔ HasBadCapacity config }
+    ensures bad_mss { (result ≡ Err ConfigError.BadMss) ↔ HasBadMss config }
+    ensures bad_shift { (result ≡ Err ConfigError.BadShift) ↔ HasBadShift config }
+    ensures bad_limit { (result ≡ Err ConfigError.BadLimit) ↔ HasBadLimit config }
+    ensures good { (result ≡ Err ConfigError.NoMemory) → IsGoodConfig config }
+{
+    let (end, rest) = match end_in(block, config, runs) {
+        Ok(made) => made,
         Err(error) => return Err(error),
     };
     match Box::new(Region::new(rest), end) {
@@ -64,7 +103,7 @@ fn boxed_end(block: Block, config: Config) -> Result<Box<Endpoint<Region>, Still
 }
 
 /// Makes an end, CLOSED and empty, where the handle has none (RFC 9293, 3.3.2); all of it lies in the block. 32 where
-/// the handle has one, else 21, 23, 24 or 25 for a fault of the config, and 22 where the block is too small. The block
+/// the handle has one, else 21, 23, 24, 25 or 28 for a fault of the config, and 22 where the block is too small. The block
 /// is the caller's again at any answer but 0, and after [`tcp_c_free`].
 #[unsafe(no_mangle)]
 pub extern "C" fn tcp_c_new(handle: &mut Handle, config: &CConfig, block: Block) -> u32
@@ -73,20 +112,31 @@ pub extern "C" fn tcp_c_new(handle: &mut Handle, config: &CConfig, block: Block)
     ensures bad_mss { (result ≡ config_error_number ConfigError.BadMss) ↔ (IsNone handle.old.held.end × HasBadMss (config_of config.now)) }
     ensures bad_shift { (result ≡ config_error_number ConfigError.BadShift) ↔ (IsNone handle.old.held.end × HasBadShift (config_of config.now)) }
     ensures bad_limit { (result ≡ config_error_number ConfigError.BadLimit) ↔ (IsNone handle.old.held.end × HasBadLimit (config_of config.now)) }
-    ensures good { (IsNone handle.old.held.end × IsGoodConfig (config_of config.now)) ↔ ((result ≡ done) ⊎ (result ≡ config_error_number ConfigError.NoMemory)) }
-    ensures made { result ≡ done → handle.new.held.end ≡ Some (new_end (config_of config.now)) }
+    ensures bad_runs { (result ≡ bad_runs) ↔ (IsNone handle.old.held.end × IsGoodConfig (config_of config.now) × HasBadRuns config.now) }
+    ensures good { (IsNone handle.old.held.end × IsGoodConfig (config_of config.now) × HasGoodRuns config.now) ↔ ((result ≡ done) ⊎ (result ≡ config_error_number ConfigError.NoMemory)) }
+    ensures made { result ≡ done → handle.new.held.end ≡ Some (end_with_runs (config_of config.now) (runs_of config.now)) }
     ensures kept { result ≢ done → handle.new.held.end ≡ handle.old.held.end }
 {
     if let Some(held) = handle.take() {
         handle.put(held);
         return IN_USE;
     }
-    match boxed_end(block, config_of(config)) {
+    // Too many runs are a fault behind those of the Config, which are looked for with as many as there may be.
+    let too_many = are_too_many(config);
+    match boxed_end(block, config_of(config), runs_of(config).min(MAX_RUNS)) {
         Ok(end) => {
+            if too_many {
+                return BAD_RUNS;
+            }
             handle.put(end);
             DONE
         }
-        Err(error) => u32::from(error.number()),
+        Err(error) => {
+            if too_many && matches!(error, ConfigError::NoMemory) {
+                return BAD_RUNS;
+            }
+            u32::from(error.number())
+        }
     }
 }
 

@@ -1,7 +1,7 @@
 //! A segment in parts: its header is written, and its text is lent where it lies in the queue.
 ghost use Rattle.std.specs.Prelude.{◌≡◌, ◌≤◌, ◌+◌, length, take, drop, unwrap_or, option_map};
 ghost use Rattle.tcp_conn.specs.Emission.{after_emission, destination};
-ghost use Rattle.tcp_conn.specs.declared.emit.parts.TheConstants.{HEADER_ROOM};
+ghost use Rattle.tcp_conn.specs.declared.emit.write.TheConstants.{HEADER_ROOM};
 ghost use Rattle.tcp_c.specs.Answers.{done, answer_of, number_written};
 ghost use Rattle.tcp_c.specs.Lent.{IsNullIfEmpty, address_of, due_bytes, first_due, parts_length, parts_number};
 ghost use Rattle.tcp_c.specs.Segments.{nowhere, written_destination};

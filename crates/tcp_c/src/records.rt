@@ -37,6 +37,11 @@ pub struct CConfig {
     pub scales: u8,
     /// Whether this end permits selective acknowledgement (RFC 2018, 2): 0 is no, anything else yes.
     pub sack: u8,
+    /// The most runs of bytes that are kept out of order (RFC 9293, 3.10.7.4), and the most runs of the peer's blocks that are remembered
+    /// (RFC 2018, 5), from 1 to TCPCORE_MAX_RUNS; 0 is TCPCORE_RUNS. What would be one run more is dropped, and has to be sent again. A
+    /// path that reorders makes about one for each five segments that it carries in the time of its jitter. Each takes 16 bytes of the
+    /// block.
+    pub runs: u16,
 }
 
 /// What is reported of an end (RFC 9293, 3.10.6).
@@ -216,4 +221,47 @@ pub struct CParts {
     pub second: *const u8,
     /// The length of the second part in bytes.
     pub second_length: usize,
+}
+
+/// The rules of a connection: how the retransmission timeout is made (RFC 6298, 2 and 5), and how long the end waits (RFC 9293,
+/// 3.8.3). Times are microseconds.
+#[repr(C)]
+#[derive(Clone, Copy)]
+pub struct CConnectionRules {
+    /// The timeout before any round trip was measured: 1 s (RFC 6298, 2.1).
+    pub first: u64,
+    /// No timeout is below it: 1 s (RFC 6298, 2.4). Above 0, and at most `greatest`.
+    pub least: u64,
+    /// None is above it: 60 s or more (RFC 6298, 2.5), and at most 2^40.
+    pub greatest: u64,
+    /// G, the granularity of the clock (RFC 6298, 2); at most 2^40.
+    pub granularity: u64,
+    /// The timeout with which data begin where the SYN was sent again and `first` is less: 3 s (RFC 6298, 5.7).
+    pub after_syn: u64,
+    /// How long TIME-WAIT is: two maximum segment lifetimes, 4 minutes (RFC 9293, 3.4.2).
+    pub time_wait: u64,
+    /// How long a SYN may be without an answer, 3 minutes or more (RFC 9293, 3.8.3); TCPCORE_NEVER is forever.
+    pub handshake: u64,
+    /// The user timeout: how long all else may be, 100 s or more (RFC 9293, 3.8.3); TCPCORE_NEVER is forever.
+    pub user: u64,
+    /// How long FIN-WAIT-2 may last without anything of the peer's, while all that came is read; TCPCORE_NEVER is forever, as the
+    /// standard has it.
+    pub fin_wait_2: u64,
+    /// After so many timeouts in a row the path is suspect, and before them no end is given up: 3 or more (RFC 9293, 3.8.3).
+    pub suspect_after: u32,
+}
+
+/// A segment that a connection wrote.
+#[repr(C)]
+#[derive(Clone, Copy)]
+pub struct CConnectionSegment {
+    /// Its length in bytes, with its header.
+    pub length: usize,
+    /// Where it begins, as a position of this end's direction: a SYN at 0, byte i at 1 + i, the FIN after the last byte, an
+    /// acknowledgement at SND.NXT; 0 of a reset.
+    pub position: u64,
+    /// How many numbers it takes: one for each byte of text, one for a SYN, one for a FIN (RFC 9293, 3.4).
+    pub count: u64,
+    /// The address that it goes to.
+    pub to: CAddr,
 }

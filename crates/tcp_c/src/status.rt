@@ -56,7 +56,7 @@ fn agreed(end: &Endpoint<Region>) -> Negotiated
 }
 
 /// No status: all zero.
-fn no_status() -> CStatus
+pub(crate) fn no_status() -> CStatus
     ensures { result ≡ no_status }
 {
     CStatus {
@@ -84,7 +84,7 @@ fn no_status() -> CStatus
 }
 
 /// What is reported of this end.
-fn status_of(end: &Endpoint<Region>) -> CStatus
+pub(crate) fn status_of(end: &Endpoint<Region>) -> CStatus
     ensures { result ≡ status_of (Some end.now) }
 {
     let agreed = agreed(end);

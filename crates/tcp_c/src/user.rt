@@ -69,7 +69,7 @@ pub extern "C" fn tcp_c_send(handle: &mut Handle, text: &[u8], taken: &mut usize
 }
 
 /// How many bytes `receive` delivered.
-fn received_count(answer: &Result<Received, CallError>) -> usize
+pub(crate) fn received_count(answer: &Result<Received, CallError>) -> usize
     ensures { result ≡ received_count answer.now }
 {
     match answer {

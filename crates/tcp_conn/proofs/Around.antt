@@ -1,5 +1,5 @@
 -- A segment that is written around its text, by this end or for a device.
-use Rattle.std.proofs.Common.{◌≡◌, ℕ, ◌+◌, ◌-◌, ◌++◌, ◌≤◌, List, length, map, take, drop, sym, ◌∙◌, ap, arith}
+use Rattle.std.proofs.Common.{◌≡◌, ℕ, ◌+◌, ◌-◌, ◌++◌, ◌≤◌, List, length, map, drop, sym, ◌∙◌, ap, arith}
 use borrow.Rule.Slice.PartMut.{put_mid}
 use Rattle.tcp_wire.specs.declared.header.Header.{Header}
 use Rattle.tcp_wire.specs.declared.option.TcpOption.{TcpOption}

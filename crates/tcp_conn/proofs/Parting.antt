@@ -7,12 +7,12 @@ use Rattle.tcp_wire.specs.declared.option.TcpOption.{TcpOption}
 use Rattle.tcp_wire.specs.Checksum.{AreBytes}
 use Rattle.tcp_wire.specs.Options.{OptionContent}
 use Rattle.tcp_wire.specs.View.{option_content, content_of, text_offset}
-use Rattle.tcp_wire.specs.Wire.{Content, IsValid, max_text_len, wire_length, encoded_bytes}
+use Rattle.tcp_wire.specs.Wire.{Content, IsValid, wire_length, encoded_bytes}
 use Rattle.tcp_wire.proofs.Lemmas.{length_encoded}
 use Rattle.tcp_halves.specs.declared.link.WaitingReset.{WaitingReset}
 use Rattle.tcp_conn.specs.declared.emit.due.Due.{Due}
 use Rattle.tcp_conn.specs.declared.emit.due.Due.TheVariants.{Reset, Syn, Text, Acknowledgement}
-use Rattle.tcp_conn.specs.declared.emit.parts.TheConstants.{HEADER_ROOM}
+use Rattle.tcp_conn.specs.declared.emit.write.TheConstants.{HEADER_ROOM}
 use Rattle.tcp_halves.specs.Config.{max_mss}
 use Rattle.tcp_conn.specs.State.{State}
 use Rattle.tcp_conn.specs.Endpoint.{FitsFields}

@@ -15,7 +15,7 @@ use Rattle.tcp_conn.specs.declared.emit.due.Due.{Due}
 use Rattle.tcp_conn.specs.declared.emit.due.Due.TheVariants.{Reset, Syn, Text, Acknowledgement}
 use Rattle.tcp_halves.specs.Sent as half
 use Rattle.tcp_halves.specs.declared.link.WaitingReset.{WaitingReset}
-use Rattle.tcp_conn.specs.declared.emit.parts.TheConstants.{HEADER_ROOM}
+use Rattle.tcp_conn.specs.declared.emit.write.TheConstants.{HEADER_ROOM}
 use Rattle.tcp_conn.specs.declared.emit.transmit.TheConstants.{EMIT_ROOM}
 use Rattle.tcp_halves.specs.Config.{max_mss, max_shift}
 use Rattle.tcp_conn.specs.State.{State, Sending, place_of}

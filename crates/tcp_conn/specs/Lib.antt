@@ -18,6 +18,7 @@ pub mod Forms
 pub mod Writing
 pub mod Emission
 pub mod Transmission
+pub mod Within
 pub mod Partial
 pub mod Train
 pub mod Status

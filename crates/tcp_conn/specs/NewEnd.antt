@@ -1,5 +1,5 @@
 -- A new end (RFC 9293, 3.3.2).
-use Rattle.std.specs.Prelude.{◌≡◌, ◌↔◌, false, Result, Err, IfOk, OnOk}
+use Rattle.std.specs.Prelude.{ℕ, ◌≡◌, ◌↔◌, false, Result, Err, IfOk, OnOk}
 use Rattle.tcp_halves.specs.declared.config.Config.{Config}
 use Rattle.tcp_halves.specs.declared.config.ConfigError.{ConfigError}
 use Rattle.tcp_halves.specs.declared.config.ConfigError.TheVariants as faults
@@ -10,26 +10,30 @@ use Rattle.tcp_conn.specs.declared.phase.Phase.TheVariants.{Closed}
 use Rattle.tcp_halves.specs.Link.{new_link}
 use Rattle.tcp_conn.specs.Pending.{nothing_pending, no_peer}
 use Rattle.tcp_conn.specs.State.{IsWithin, State}
-use Rattle.tcp_halves.specs.Sender.{new_sending}
-use Rattle.tcp_halves.specs.Receiver.{new_receiving}
+use Rattle.tcp_halves.specs.Sender.{sending_with_runs}
+use Rattle.tcp_halves.specs.Receiver.{receiving_with_runs}
+use Rattle.tcp_reasm.specs.Reassembly.{default_runs}
 
--- CLOSED, empty, nothing pending
-abbrev pub new_end : Config → State
-new_end c = record {
+-- CLOSED, empty, nothing pending; at most this many runs are kept out of order, and as many of the peer's are remembered
+abbrev pub end_with_runs : Config → ℕ → State
+end_with_runs c runs = record {
   config = c;
   phase = phases.Closed;
   ending = NotEnded;
   closing = false;
   peer = no_peer;
   link = new_link;
-  sending = new_sending c.send_capacity;
-  receiving = new_receiving c.recv_capacity;
+  sending = sending_with_runs c.send_capacity runs;
+  receiving = receiving_with_runs c.recv_capacity runs;
   pending = nothing_pending;
 }
 
+abbrev pub new_end : Config → State
+new_end c = end_with_runs c default_runs
+
 -- MAKING AN END answers a new end, the first fault of the Config, or, for a good Config alone, that there is no memory
-pub record MakesEnd (c : Config) (result : Result State ConfigError) : Type 0 where
-  pub new : IfOk result (λ e. e ≡ new_end c)
+pub record MakesEndOf (c : Config) (runs : ℕ) (result : Result State ConfigError) : Type 0 where
+  pub new : IfOk result (λ e. e ≡ end_with_runs c runs)
   pub bad_capacity : (result ≡ Err faults.BadCapacity) ↔ HasBadCapacity c
   pub bad_mss : (result ≡ Err faults.BadMss) ↔ HasBadMss c
   pub bad_shift : (result ≡ Err faults.BadShift) ↔ HasBadShift c
@@ -37,3 +41,6 @@ pub record MakesEnd (c : Config) (result : Result State ConfigError) : Type 0 wh
   pub good : (result ≡ Err faults.NoMemory) → IsGoodConfig c
   pub made : OnOk result (IsConfig c)
   pub within : IfOk result IsWithin
+
+abbrev pub MakesEnd : Config → Result State ConfigError → Type 0
+MakesEnd c result = MakesEndOf c default_runs result

@@ -6,7 +6,7 @@ use Rattle.tcp_conn.specs.declared.emit.due.Due.{Due}
 use Rattle.tcp_conn.specs.declared.emit.due.Due.TheVariants.{Reset}
 use Rattle.tcp_halves.specs.declared.link.WaitingReset.{WaitingReset}
 use Rattle.tcp_halves.specs.declared.link.Peer.{Peer}
-use Rattle.tcp_conn.specs.declared.emit.parts.TheConstants.{HEADER_ROOM}
+use Rattle.tcp_conn.specs.declared.emit.write.TheConstants.{HEADER_ROOM}
 use Rattle.tcp_conn.specs.declared.emit.write.Sum.{Sum}
 use Rattle.tcp_conn.specs.declared.emit.write.Sum.TheVariants.{Whole, Partial}
 use Rattle.tcp_conn.specs.State.{State}

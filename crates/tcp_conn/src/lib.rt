@@ -7,8 +7,9 @@
 //! - `take` is `arrive` with a report, [`Taken`]: the rule that applied ([`Judgement`]), what was acknowledged, what it
 //!   brought. `transmit` is `emit` with one, [`Transmit`]: the kind of the segment, where it begins, and the length of
 //!   its text.
-//! - For senders that pace what they send again: `emit_acknowledgement` writes an acknowledgement without data, and
-//!   `resend_first` sends the first segment in flight again in place of all of them.
+//! - For congestion control: `transmit_within` emits what may go out within a window from SND.UNA,
+//!   `emit_acknowledgement` an acknowledgement without data, and `resend_first` sends the first segment in flight again
+//!   in place of all of them.
 //! - Fewer copies and sums: `peek` lends what is unread ([`Lent`]) and `consume` removes it. `parts` lends the text of
 //!   the segment that is due ([`Parts`]) and `sent` reports its emission. `arrive_vouched` takes what a device has
 //!   checked, and `emit_partial` leaves the checksum to it. `emit_train` writes many segments as one ([`Train`]), for a
@@ -45,9 +46,10 @@ mod windows;
 pub use arrive::brought::Brought;
 pub use arrive::judgement::Judgement;
 pub use arrive::report::Taken;
-pub use emit::parts::{HEADER_ROOM, Parts};
+pub use emit::parts::Parts;
 pub use emit::train::{TRAIN_ROOM, Train};
 pub use emit::transmit::{EMIT_ROOM, Kind, Transmit};
+pub use emit::write::HEADER_ROOM;
 pub use endpoint::Endpoint;
 pub use lending::Lent;
 pub use outcome::{Arrival, CallError, Received};

@@ -4,7 +4,8 @@ ghost use Rattle.tcp_conn.specs.Stray.{stray_reset, with_front};
 
 use crate::arrive::effect::reset_of_stray;
 use crate::emit::segment::reset_from;
-use tcp_wire::{Addr, RawSegment, write_around};
+use crate::emit::write::write_bare;
+use tcp_wire::{Addr, RawSegment};
 
 /// The length of a reset in bytes.
 pub const RESET_LEN: usize = 20;
@@ -26,5 +27,5 @@ pub fn stray_reset(src: Addr, dst: Addr, bytes: &[u8], out: &mut [u8]) -> Option
         return None;
     }
     let answer = reset_from(segment.header.dst_port, reset_of_stray(src, &segment));
-    Some(write_around(&answer, &[], 0, 0, dst, src, out))
+    Some(write_bare(&answer, dst, src, out))
 }

@@ -1,4 +1,4 @@
--- A timeout comes in time: the retransmission timer keeps its deadline while it goes on.
+-- A timeout comes in time: the retransmission timer keeps its deadline while it goes on and isn't started anew.
 use Rattle.std.proofs.Common.{◌≡◌, ℕ, ◌+◌, ◌<◌, ◌≤◌, Bool, true, false, List, [], ◌∷◌, Option, Some, None, arith, refl, sym, ◌∙◌, subst}
 use Rattle.std.specs.Prelude.{◌||◌, ◌&&◌, not, ◌==◌, nat_le, if◌then◌else◌, IfSome, is_some}
 use Rattle.std.proofs.lemmas.Bool.Decides.{Decides-eqb, nat_tests}
@@ -7,14 +7,14 @@ use Rattle.tcp_driver.specs.declared.machine.Timer.{Timer}
 use Rattle.tcp_driver.specs.declared.machine.Timer.TheVariants.{Retransmit, Reorder, TimeWait, User}
 use Rattle.tcp_driver.specs.Machine.{Machine}
 use Rattle.tcp_driver.specs.Deadlines.{earlier, kept, no_later}
-use Rattle.tcp_driver.specs.Times.{Times, after_expiry, after_segment, expiring, expiry, opens, taken, user_deadline}
-use Rattle.tcp_driver.specs.Driver.{Driving, after_taken, after_time_by, at, core_after, following, is_withheld, sent_of}
-use Rattle.tcp_driver.specs.Calls.{Call, Arrives, Emits, Expires, Uses, SetsUserTimeout, after_call, after_calls, AllBy, AllEarly, AllGoOn, AllPunctual, GoesOn, IsEarly, IsPunctual, TimeoutComesInTime, ends_waiting, time_of}
+use Rattle.tcp_driver.specs.Times.{Times, after_expiry, after_segment, expiring, expiry, opens, restarts, taken, user_deadline}
+use Rattle.tcp_driver.specs.Driver.{Driving, IsTimely, after_taken, after_time_by, at, core_after, following, is_withheld, sent_of}
+use Rattle.tcp_driver.specs.Calls.{Call, Arrives, Emits, Expires, Uses, SetsUserTimeout, after_call, after_calls, AllBy, AllEarly, AllGoOn, AllPunctual, ComesInTime, GoesOn, IsEarly, IsPunctual, NoneRestarts, ends_waiting, is_restart, restarts_with, time_of}
 
 -- GOING ON: a deadline, and SND.UNA as the driver has it
-record Goes {S : Type 0} (m : Machine S) (d : Driving S) (time : ℕ) : Type 0 where
-  deadline : d.times.deadlines.retransmit ≡ Some time
-  una : d.times.una ≡ m.una d.core
+pub record Goes {S : Type 0} (m : Machine S) (d : Driving S) (time : ℕ) : Type 0 where
+  pub deadline : d.times.deadlines.retransmit ≡ Some time
+  pub una : d.times.una ≡ m.una d.core
 
 -- what runs on and isn't set anew stays
 stays : (runs same : Bool) (before : Option ℕ) (new time : ℕ) → runs ≡ true → same ≡ true → before ≡ Some time → kept runs same before new ≡ Some time
@@ -31,10 +31,16 @@ following-goes m core t now una time dead is wanted same = record {
   una = refl;
 }
 
+-- as long as no shut window opens, and it isn't started anew
+unopened : (opening : Bool) (before : Option ℕ) → opening ≡ false → (if opening then None else before) ≡ before
+unopened true before e = absurd (cc)
+unopened false before e = refl
+
 -- an arrival measures, an emission is timed, and another timer's expiry starts others anew: none moves this deadline
-segment-keeps : (sent : Option Sent) (t : Times) (now : ℕ) → ((after_segment sent t now).deadlines.retransmit ≡ t.deadlines.retransmit) × ((after_segment sent t now).una ≡ t.una)
-segment-keeps None t now = (refl, refl)
-segment-keeps (Some sent) t now = (refl, refl)
+segment-keeps : (sent : Option Sent) (t : Times) (now : ℕ) → restarts_with sent t ≡ false
+    → ((after_segment sent t now).deadlines.retransmit ≡ t.deadlines.retransmit) × ((after_segment sent t now).una ≡ t.una)
+segment-keeps None t now same = (refl, refl)
+segment-keeps (Some sent) t now same = (unopened (restarts t sent) t.deadlines.retransmit same, refl)
 
 expiry-keeps : (timer : Timer) (t : Times) → ends_waiting (Some timer) ≡ false
     → ((after_expiry t timer).deadlines.retransmit ≡ t.deadlines.retransmit) × ((after_expiry t timer).una ≡ t.una)
@@ -42,11 +48,6 @@ expiry-keeps Retransmit t other = absurd (cc)
 expiry-keeps Reorder t other = (refl, refl)
 expiry-keeps TimeWait t other = (refl, refl)
 expiry-keeps User t other = absurd (cc)
-
--- as long as no shut window opens
-unopened : (opening : Bool) (before : Option ℕ) → opening ≡ false → (if opening then None else before) ≡ before
-unopened true before e = absurd (cc)
-unopened false before e = refl
 
 arrive-goes : {S : Type 0} (m : Machine S) (d : Driving S) (now time : ℕ) (src dst bytes : List ℕ) (b : Bool) → Goes m d time
     → (not b && opens d.times.shut (m.report d.core src dst bytes).window) ≡ false → (m.wants (if b then d else after_taken m d now src dst bytes).core).retransmit ≡ true
@@ -65,15 +66,16 @@ expire-goes m d now time (Some timer) other h wanted same =
     let e = expiry-keeps timer d.times other in
     following-goes m (m.expired d.core timer) (after_expiry d.times timer) now (m.una d.core) time (e.0 ∙ h.deadline) (e.1 ∙ h.una) wanted same
 
-next-goes : {S : Type 0} (m : Machine S) (d : Driving S) (time : ℕ) (call : Call S) → Goes m d time → GoesOn m d call → Goes m (after_call m d call) time
-next-goes m d time (Arrives now src dst bytes) h g = arrive-goes m d (at d now) time src dst bytes (d.times.bursting || is_withheld m d.core bytes) h g.opens g.wanted g.una
-next-goes m d time (Emits now window) h g =
-    let e = segment-keeps (sent_of m d.core window) d.times (at d now) in
+pub next_goes : {S : Type 0} (m : Machine S) (d : Driving S) (time : ℕ) (call : Call S) → Goes m d time → GoesOn m d call → is_restart m d call ≡ false
+    → Goes m (after_call m d call) time
+next_goes m d time (Arrives now src dst bytes) h g other = arrive-goes m d (at d now) time src dst bytes (d.times.bursting || is_withheld m d.core bytes) h g.opens g.wanted g.una
+next_goes m d time (Emits now window) h g other =
+    let e = segment-keeps (sent_of m d.core window) d.times (at d now) other in
     following-goes m (core_after m d.core window) (after_segment (sent_of m d.core window) d.times (at d now)) (at d now) (m.una d.core) time
     (e.0 ∙ h.deadline) (e.1 ∙ h.una) g.wanted g.una
-next-goes m d time (Expires now) h g = expire-goes m d (at d now) time (expiry d.times (at d now)) g.waits h g.wanted g.una
-next-goes m d time (Uses now does) h g = following-goes m (does d.core) d.times (at d now) (m.una d.core) time h.deadline h.una g.wanted g.una
-next-goes m d time (SetsUserTimeout limit) h g = record { deadline = h.deadline; una = h.una }
+next_goes m d time (Expires now) h g other = expire-goes m d (at d now) time (expiry d.times (at d now)) g.waits h g.wanted g.una
+next_goes m d time (Uses now does) h g other = following-goes m (does d.core) d.times (at d now) (m.una d.core) time h.deadline h.una g.wanted g.una
+next_goes m d time (SetsUserTimeout limit) h g other = record { deadline = h.deadline; una = h.una }
 
 -- at or after its deadline it expires, or the user timeout does, unless a burst is on
 expires : (user retransmit : Bool) (rest : Option Timer) → retransmit ≡ true → ends_waiting (if user then Some User else (if retransmit then Some Retransmit else rest)) ≡ true
@@ -103,12 +105,12 @@ early-by m d now time true e h waits quiet =
     absurd (cc (expired-now, is-waiting))
 early-by m d now time false e h waits quiet = grind (arith, nat_tests, e)
 
-call-early : {S : Type 0} (m : Machine S) (d : Driving S) (time : ℕ) (call : Call S) → Goes m d time → GoesOn m d call → IsEarly time d call
-call-early m d time (Arrives now src dst bytes) h g = tt
-call-early m d time (Emits now window) h g = tt
-call-early m d time (Expires now) h g = early-by m d (at d now) time (nat_le time (at d now)) refl h g.waits
-call-early m d time (Uses now does) h g = tt
-call-early m d time (SetsUserTimeout limit) h g = tt
+pub call_early : {S : Type 0} (m : Machine S) (d : Driving S) (time : ℕ) (call : Call S) → Goes m d time → GoesOn m d call → IsEarly time d call
+call_early m d time (Arrives now src dst bytes) h g = tt
+call_early m d time (Emits now window) h g = tt
+call_early m d time (Expires now) h g = early-by m d (at d now) time (nat_le time (at d now)) refl h g.waits
+call_early m d time (Uses now does) h g = tt
+call_early m d time (SetsUserTimeout limit) h g = tt
 
 -- the first deadline of all is no later
 soon-by : (user retransmit rest : Option ℕ) (time late at-call : ℕ) → retransmit ≡ Some time → IfSome (earlier user (earlier retransmit rest)) (λ first. at-call ≤ first + late)
@@ -119,40 +121,47 @@ soon-by None (Some t) (Some r) time late at-call e p = let same : t ≡ time = c
 soon-by (Some u) (Some t) None time late at-call e p = let same : t ≡ time = cc in omega (arith, p, same)
 soon-by (Some u) (Some t) (Some r) time late at-call e p = let same : t ≡ time = cc in omega (arith, p, same)
 
-call-by : {S : Type 0} (m : Machine S) (d : Driving S) (time late : ℕ) (call : Call S) → Goes m d time → IsPunctual late d call → time_of d call ≤ time + late
-call-by m d time late call h punctual =
+pub call_by : {S : Type 0} (m : Machine S) (d : Driving S) (time late : ℕ) (call : Call S) → Goes m d time → IsPunctual late d call → time_of d call ≤ time + late
+call_by m d time late call h punctual =
     soon-by (user_deadline d.times) d.times.deadlines.retransmit (earlier d.times.deadlines.reorder d.times.deadlines.time_wait) time late (time_of d call) h.deadline punctual
 
-goes : {S : Type 0} (m : Machine S) (d : Driving S) (time : ℕ) (calls : List (Call S)) → Goes m d time → AllGoOn m d calls → Goes m (after_calls m d calls) time
-goes m d time [] h all = h
-goes m d time (call ∷ earlier) h all = next-goes m (after_calls m d earlier) time call (goes m d time earlier h (all.1)) (all.0)
+goes : {S : Type 0} (m : Machine S) (d : Driving S) (time : ℕ) (calls : List (Call S)) → Goes m d time → AllGoOn m d calls → NoneRestarts m d calls
+    → Goes m (after_calls m d calls) time
+goes m d time [] h all none = h
+goes m d time (call ∷ earlier) h all none =
+    next_goes m (after_calls m d earlier) time call (goes m d time earlier h (all.1) (none.1)) (all.0) (none.0)
 
-all-early : {S : Type 0} (m : Machine S) (d : Driving S) (time : ℕ) (calls : List (Call S)) → Goes m d time → AllGoOn m d calls → AllEarly m time d calls
-all-early m d time [] h all = tt
-all-early m d time (call ∷ earlier) h all =
-    (call-early m (after_calls m d earlier) time call (goes m d time earlier h (all.1)) (all.0), all-early m d time earlier h (all.1))
+all-early : {S : Type 0} (m : Machine S) (d : Driving S) (time : ℕ) (calls : List (Call S)) → Goes m d time → AllGoOn m d calls → NoneRestarts m d calls
+    → AllEarly m time d calls
+all-early m d time [] h all none = tt
+all-early m d time (call ∷ earlier) h all none =
+    (call_early m (after_calls m d earlier) time call (goes m d time earlier h (all.1) (none.1)) (all.0), all-early m d time earlier h (all.1) (none.1))
 
-all-by : {S : Type 0} (m : Machine S) (d : Driving S) (time late : ℕ) (calls : List (Call S)) → Goes m d time → AllGoOn m d calls → AllPunctual m late d calls
-    → AllBy m (time + late) d calls
-all-by m d time late [] h all punctual = tt
-all-by m d time late (call ∷ earlier) h all punctual =
-    (call-by m (after_calls m d earlier) time late call (goes m d time earlier h (all.1)) (punctual.0), all-by m d time late earlier h (all.1) (punctual.1))
+all-by : {S : Type 0} (m : Machine S) (d : Driving S) (time late : ℕ) (calls : List (Call S)) → Goes m d time → AllGoOn m d calls → NoneRestarts m d calls
+    → AllPunctual m late d calls → AllBy m (time + late) d calls
+all-by m d time late [] h all none punctual = tt
+all-by m d time late (call ∷ earlier) h all none punctual =
+    (call_by m (after_calls m d earlier) time late call (goes m d time earlier h (all.1) (none.1)) (punctual.0), all-by m d time late earlier h (all.1) (none.1) (punctual.1))
 
 -- there is a deadline
 there-is : (o : Option ℕ) → is_some o ≡ true → (time : ℕ) × (o ≡ Some time)
 there-is None e = absurd (cc)
 there-is (Some time) e = (time, refl)
 
-pub in_time_lem : {S : Type 0} (m : Machine S) → TimeoutComesInTime m
-in_time_lem m late d calls timely wanted all =
+pub begins : {S : Type 0} (m : Machine S) (d : Driving S) → IsTimely m d → (m.wants d.core).retransmit ≡ true
+    → (time : ℕ) × (Goes m d time × (time ≤ d.times.clock + d.times.estimate.rules.greatest))
+begins m d timely wanted =
     let t : (time : ℕ) × (d.times.deadlines.retransmit ≡ Some time) = there-is d.times.deadlines.retransmit (timely.retransmit ∙ wanted) in
     let P : Option ℕ → Type 0 = λ o. IfSome o (λ time. time ≤ d.times.clock + d.times.estimate.rules.greatest) in
-    let h : Goes m d (t.0) = record { deadline = t.1; una = timely.una } in
-    record {
-      time = t.0;
-      was = t.1;
-      soon = subst P (t.1) timely.soon.retransmit;
-      is = (goes m d (t.0) calls h all).deadline;
-      early = all-early m d (t.0) calls h all;
-      punctual = all-by m d (t.0) late calls h all;
-    }
+    (t.0, (record { deadline = t.1; una = timely.una }, subst P (t.1) timely.soon.retransmit))
+
+pub in_time : {S : Type 0} (m : Machine S) (late : ℕ) (d : Driving S) (calls : List (Call S)) (time : ℕ) → Goes m d time
+    → time ≤ d.times.clock + d.times.estimate.rules.greatest → AllGoOn m d calls → NoneRestarts m d calls → ComesInTime m late d calls
+in_time m late d calls time h soon all none = record {
+  time = time;
+  was = h.deadline;
+  soon = soon;
+  is = (goes m d time calls h all none).deadline;
+  early = all-early m d time calls h all none;
+  punctual = all-by m d time late calls h all none;
+}

@@ -1,2 +1,3 @@
 mod Bursts
 mod InTime
+mod InTwo

@@ -1,9 +1,10 @@
 -- Many calls of a driver, one after another.
-use Rattle.std.specs.Prelude.{◌≡◌, ℕ, ◌+◌, ◌<◌, ◌≤◌, Bool, true, false, not, ◌&&◌, ◌||◌, List, [], ◌∷◌, Option, Some, IfSome}
+use Rattle.std.specs.Prelude.{◌≡◌, ℕ, ◌+◌, ◌*◌, ◌<◌, ◌≤◌, Bool, true, false, not, ◌&&◌, ◌||◌, List, [], ◌∷◌, Option, Some, None, IfSome}
+use Rattle.tcp_driver.specs.declared.machine.Sent.{Sent}
 use Rattle.tcp_driver.specs.declared.machine.Timer.{Timer}
 use Rattle.tcp_driver.specs.declared.machine.Timer.TheVariants.{Retransmit, User}
-use Rattle.tcp_driver.specs.Times.{expiry, next_expiry, opens}
-use Rattle.tcp_driver.specs.Driver.{Driving, IsTimely, after_arrival, after_emission, after_time, after_user, after_user_timeout, at, core_after, expired, is_withheld}
+use Rattle.tcp_driver.specs.Times.{Times, expiry, next_expiry, opens, restarts}
+use Rattle.tcp_driver.specs.Driver.{Driving, IsTimely, after_arrival, after_emission, after_time, after_user, after_user_timeout, at, core_after, expired, is_withheld, sent_of}
 use Rattle.tcp_driver.specs.Machine.{Machine}
 
 -- each at a time, but the last; an arrival with its source and destination; a user's call with what the end is after it
@@ -98,6 +99,19 @@ abbrev pub AllBy : {S : Type 0} → Machine S → ℕ → Driving S → List (Ca
 AllBy m limit d [] = Unit {0}
 AllBy m limit d (call ∷ earlier) = (time_of (after_calls m d earlier) call ≤ limit) × AllBy m limit d earlier
 
+-- WHAT BEGINS AT SND.UNA GOES OUT AGAIN with this call, so that the timer starts anew
+abbrev pub restarts_with : Option Sent → Times → Bool
+restarts_with None t = false
+restarts_with (Some sent) t = restarts t sent
+
+abbrev pub is_restart : {S : Type 0} → Machine S → Driving S → Call S → Bool
+is_restart m d (Emits now window) = restarts_with (sent_of m d.core window) d.times
+is_restart m d other = false
+
+abbrev pub NoneRestarts : {S : Type 0} → Machine S → Driving S → List (Call S) → Type 0
+NoneRestarts m d [] = Unit {0}
+NoneRestarts m d (call ∷ earlier) = (is_restart m (after_calls m d earlier) call ≡ false) × NoneRestarts m d earlier
+
 -- `timeout` was called before a time, unless a burst was on
 abbrev pub IsEarly : {S : Type 0} → ℕ → Driving S → Call S → Type 0
 IsEarly time d (Expires now) = d.times.bursting ≡ false → at d now < time
@@ -107,9 +121,9 @@ abbrev pub AllEarly : {S : Type 0} → Machine S → ℕ → Driving S → List 
 AllEarly m time d [] = Unit {0}
 AllEarly m time d (call ∷ earlier) = IsEarly time (after_calls m d earlier) call × AllEarly m time d earlier
 
--- while the timer goes on its deadline stays what it was, at most the greatest timeout after the call that set it or any before. Each
--- `timeout` outside a burst came before it, so that the first that doesn't is the expiry; and a punctual caller has made all of its
--- calls by then, so that who goes on calling has it expire
+-- while the timer goes on, and isn't started anew, its deadline stays what it was, at most the greatest timeout after the call that set
+-- it or any before. Each `timeout` outside a burst came before it, so that the first that doesn't is the expiry; and a punctual caller
+-- has made all of its calls by then, so that who goes on calling has it expire
 pub record ComesInTime {S : Type 0} (m : Machine S) (late : ℕ) (d : Driving S) (calls : List (Call S)) : Type 0 where
   pub time : ℕ
   pub was : d.times.deadlines.retransmit ≡ Some time
@@ -118,7 +132,24 @@ pub record ComesInTime {S : Type 0} (m : Machine S) (late : ℕ) (d : Driving S)
   pub early : AllEarly m time d calls
   pub punctual : AllPunctual m late d calls → AllBy m (time + late) d calls
 
+-- `timeout` was called before the deadline that the timer had then, unless a burst was on
+abbrev pub IsInTime : {S : Type 0} → Driving S → Call S → Type 0
+IsInTime d (Expires now) = d.times.bursting ≡ false → IfSome d.times.deadlines.retransmit (λ time. at d now < time)
+IsInTime d other = Unit {0}
+
+abbrev pub AllInTime : {S : Type 0} → Machine S → Driving S → List (Call S) → Type 0
+AllInTime m d [] = Unit {0}
+AllInTime m d (call ∷ earlier) = IsInTime (after_calls m d earlier) call × AllInTime m d earlier
+
+-- and it is started anew at most once, so that a punctual caller has made all of its calls by twice the greatest timeout, and so late
+pub record ComesInTwo {S : Type 0} (m : Machine S) (late : ℕ) (d : Driving S) (calls : List (Call S)) : Type 0 where
+  pub time : ℕ
+  pub is : (after_calls m d calls).times.deadlines.retransmit ≡ Some time
+  pub early : AllInTime m d calls
+  pub soon : AllPunctual m late d calls → time ≤ d.times.clock + 2 * d.times.estimate.rules.greatest + late
+  pub punctual : AllPunctual m late d calls → AllBy m (d.times.clock + 2 * (d.times.estimate.rules.greatest + late)) d calls
+
 abbrev pub TimeoutComesInTime : {S : Type 0} → Machine S → Type 0
 TimeoutComesInTime {S = S} m =
     (late : ℕ) (d : Driving S) (calls : List (Call S)) → IsTimely m d → (m.wants d.core).retransmit ≡ true → AllGoOn m d calls
-    → ComesInTime m late d calls
+    → (NoneRestarts m d calls → ComesInTime m late d calls) × ComesInTwo m late d calls

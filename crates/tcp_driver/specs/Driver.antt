@@ -84,8 +84,11 @@ goes_back None una flight = false
 goes_back (Some sent) una flight = nat_lt (sent.start - una) flight
 
 -- then a pending acknowledgement goes alone
+abbrev pub holds_by : Option Sent → ℕ → ℕ → Bool → ℕ → Bool
+holds_by due una flight answers window = waits due una window || (answers && goes_back due una flight)
+
 abbrev pub holds : {S : Type 0} → Machine S → S → ℕ → Bool
-holds m s window = waits (m.due s) (m.una s) window || (is_some (m.alone s) && goes_back (m.due s) (m.una s) (m.flight s))
+holds m s window = holds_by (m.due s) (m.una s) (m.flight s) (is_some (m.alone s)) window
 
 abbrev pub sent_of : {S : Type 0} → Machine S → S → ℕ → Option Sent
 sent_of m s window = if holds m s window then m.alone s else m.due s

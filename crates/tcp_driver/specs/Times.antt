@@ -26,11 +26,13 @@ pub record Times : Type 0 where
   pub since : Option ℕ
   -- how often that timer has expired since then
   pub resent : ℕ
+  -- whether it was started anew since then, because what begins at SND.UNA went out again
+  pub restarted : Bool
   -- how long the gaps that the peer reported may take to be filled
   pub span : ℕ
   -- whether the peer's window was shut when it was last taken
   pub shut : Bool
-  -- in FIN-WAIT-2: since when nothing of the peer's stream has come
+  -- in FIN-WAIT-2, while the user has read all: since when nothing of the peer's has come
   pub left : Option ℕ
   -- a timer has expired, and not all that is due then has gone out
   pub bursting : Bool
@@ -71,12 +73,17 @@ deadlines_after t w same span now = record {
   time_wait = kept w.time_wait true t.deadlines.time_wait (now + min last t.limits.time_wait);
 }
 
+-- what was done since the timer began to wait, as long as it waits on
+abbrev pub still : Bool → Bool → Bool → Bool
+still runs same before = if runs && same then before else false
+
 abbrev pub followed : Times → Wants → ℕ → ℕ → Times
 followed t w una now = record t {
   deadlines = deadlines_after t w (una == t.una) (span_after (una == t.una) t.span t.estimate) now;
   una = una;
   since = kept w.retransmit (una == t.una) t.since now;
   resent = if w.retransmit && una == t.una then t.resent else 0;
+  restarted = still w.retransmit (una == t.una) t.restarted;
   left = kept w.fin_wait_2 true t.left now;
   span = span_after (una == t.una) t.span t.estimate;
   clock = now;
@@ -91,6 +98,7 @@ first_times rules limits una now = record {
   una = una;
   since = None;
   resent = 0;
+  restarted = false;
   span = (new_estimate rules).rto;
   shut = false;
   left = None;
@@ -147,26 +155,33 @@ after_window t una window = record t {
 abbrev pub after_fin : Bool → Times → Times
 after_fin repeats_fin t = record t { deadlines = record t.deadlines { time_wait = if repeats_fin then None else t.deadlines.time_wait } }
 
--- THE PEER IS THERE in FIN-WAIT-2 where something of its stream comes
-abbrev pub after_advance : Bool → Times → Times
-after_advance advances t = record t { left = if advances then None else t.left }
+-- THE PEER IS THERE in FIN-WAIT-2 where something of its own comes
+abbrev pub after_peer : Bool → Times → Times
+after_peer from_peer t = record t { left = if from_peer then None else t.left }
 
 abbrev pub taken : Times → ℕ → Report → ℕ → Times
 taken t una report now =
-    after_advance report.advances (after_fin report.repeats_fin (after_window (measured t una now) una report.window))
+    after_peer report.from_peer (after_fin report.repeats_fin (after_window (measured t una now) una report.window))
 
 -- ---- AN EMISSION. What goes out again is given as long as ever to be reported
 abbrev pub goes_again : Watch → Sent → Bool
 goes_again w sent = nat_lt 0 sent.count && nat_lt sent.start w.highest
 
-abbrev pub deadlines_sent : Bool → Deadlines → Deadlines
-deadlines_sent again d = record d { reorder = if again then None else d.reorder }
+-- WHAT BEGINS AT SND.UNA GOES OUT AGAIN before its timeout, as the reordering timer or fast retransmit has it: the retransmission timer
+-- starts anew, so that the segment isn't sent a third time within a timeout of the second (RFC 6298, 5). Once until something is
+-- acknowledged, so that it expires in the end
+abbrev pub restarts : Times → Sent → Bool
+restarts t sent = goes_again t.watch sent && (sent.start == t.una && not t.restarted)
+
+abbrev pub deadlines_sent : Bool → Bool → Deadlines → Deadlines
+deadlines_sent anew again d = record d { retransmit = if anew then None else d.retransmit; reorder = if again then None else d.reorder }
 
 abbrev pub after_segment : Option Sent → Times → ℕ → Times
 after_segment None t now = record t { bursting = false }
 after_segment (Some sent) t now = record t {
   watch = after_sent t.watch sent.start sent.count now;
-  deadlines = deadlines_sent (goes_again t.watch sent) t.deadlines;
+  deadlines = deadlines_sent (restarts t sent) (goes_again t.watch sent) t.deadlines;
+  restarted = if restarts t sent then true else t.restarted;
 }
 
 -- ---- TIME PASSES. The path is suspect once the retransmission timer has expired so often without an answer

@@ -1,5 +1,5 @@
 ghost use Rattle.std.specs.Prelude.{◌≡◌, ◌≤◌, ◌+◌, IfSome, length};
-ghost use Rattle.tcp_driver.specs.Driver.{goes_back, is_reset, waits};
+ghost use Rattle.tcp_driver.specs.Driver.{is_reset};
 
 use crate::limits::Limits;
 use crate::machine::{Core, Report, Sent, Timer};
@@ -104,14 +104,7 @@ impl<C: Core + Drop> Driver<C> {
         ensures state { self.new ≡ after_emission C.machine self.old (at self.old now) window }
     {
         let now = self.timers.time_at(now);
-        let next = self.core.next();
-        let una = self.core.una();
-        let again = goes_back(next, una, self.core.flight());
-        let sent = if waits(next, una, window) || (self.core.answers() && again) {
-            self.core.emit_acknowledgement(out)
-        } else {
-            self.core.transmit(out)
-        };
+        let sent = self.core.transmit_within(window, out);
         self.timers.emitted(sent, now);
         self.timers.follow(self.core.wants(), self.core.una(), now);
         sent
@@ -210,6 +203,17 @@ impl<C: Core + Drop> Driver<C> {
         answer
     }
 
+    /// The user has read the first bytes where they lie, at most so many: they are gone, as after `receive` (RFC 9293, 3.10.3).
+    pub fn consume(&mut self, now: u64, count: usize) -> C::Consuming
+        ensures answer { result ≡ C.consume_answer self.old.core count }
+        ensures state { self.new ≡ after_user C.machine self.old (at self.old now) (C.machine.received self.old.core count) }
+    {
+        let now = self.timers.time_at(now);
+        let answer = self.core.consume(count);
+        self.timers.follow(self.core.wants(), self.core.una(), now);
+        answer
+    }
+
     /// The user has read, and wants the window that is open now to be advertised (RFC 9293, 3.8.6.2.2): an acknowledgement
     /// is due, where the peer may still send.
     pub fn acknowledge(&mut self, now: u64)
@@ -252,28 +256,6 @@ fn is_reset(bytes: &[u8]) -> bool
 {
     match bytes.get(13) {
         Some(flags) => *flags & RST != 0,
-        None => false,
-    }
-}
-
-/// Whether what is due was sent before.
-fn goes_back(due: Option<Sent>, una: u64, flight: u64) -> bool
-    ensures { result ≡ goes_back due una flight }
-{
-    match due {
-        Some(sent) => sent.start.saturating_sub(una) < flight,
-        None => false,
-    }
-}
-
-/// Whether what is due ends past a window, where anything before it is in flight.
-fn waits(due: Option<Sent>, una: u64, window: u64) -> bool
-    ensures { result ≡ waits due una window }
-{
-    match due {
-        Some(sent) => {
-            una < sent.start && window.saturating_sub(sent.start.saturating_sub(una)) < sent.count
-        }
         None => false,
     }
 }

@@ -11,9 +11,10 @@ pub fn burst_is_whole<C: Core>()
 {}
 
 /// While something waits for an acknowledgement, nothing new is acknowledged and no shut window opens, the retransmission
-/// timer keeps its deadline, whatever else is called, and the first `timeout` outside a burst that isn't before it is its expiry, or the
-/// user timeout's. So who makes no call later than `late` after the time that `poll_at` gave, and goes on calling
-/// `timeout`, has it expire at most the greatest timeout and `late` after it was started.
+/// timer has a deadline, which one call may move at most, the emission with which what begins at SND.UNA goes out again. The
+/// first `timeout` outside a burst that isn't before it is its expiry, or the user timeout's. So who makes no call later than
+/// `late` after the time that `poll_at` gave, and goes on calling `timeout`, has it expire at most the greatest timeout and
+/// `late` after it was started, or twice both where it was started anew.
 pub fn timeout_comes_in_time<C: Core>()
     ensures { TimeoutComesInTime C.machine }
 {}

@@ -1,7 +1,7 @@
 //! One end with its times: bytes and times go in, segments and the time of the next call come out. It has no clock: a time
 //! is a count of microseconds, which the caller passes, and which never goes back.
 //!
-//! - [`Core`]: what an end is to it: an end without a clock.
+//! - [`Core`]: what an end is to it: an end without a clock; [`holds`] says what it holds back.
 //! - [`Driver`]: that end with its timers (RFC 6298, 5; RFC 9293, 3.8.3 and 3.10.8).
 //! - [`Limits`]: how long an end waits before it is given up, and how long TIME-WAIT is.
 //! - [`laws`]: what follows, whatever the end is and whatever is called.
@@ -21,8 +21,10 @@ pub mod laws;
 mod limits;
 mod machine;
 mod timers;
+mod window;
 
 pub use deadlines::LAST;
 pub use driver::{Driver, Taken};
 pub use limits::Limits;
 pub use machine::{Core, Report, Sent, Timer, Wants};
+pub use window::holds;

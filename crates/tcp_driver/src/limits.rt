@@ -13,8 +13,9 @@ pub struct Limits {
     pub handshake: Option<u64>,
     /// The user timeout: how long all else may be, 100 s or more (RFC 9293, 3.8.3). `None` is forever.
     pub user: Option<u64>,
-    /// How long FIN-WAIT-2 may last without anything of the peer's stream. `None` is forever, as the standard has it; a
-    /// program whose user reads no more may take a minute, as Linux does.
+    /// How long FIN-WAIT-2 may last without anything of the peer's: text or a FIN, again or not, or a window. It doesn't count
+    /// while something that came is unread. `None` is forever, as the standard has it; a program whose user has nothing more
+    /// to wait for may take a minute, as Linux does.
     pub fin_wait_2: Option<u64>,
 }
 

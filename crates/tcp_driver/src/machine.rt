@@ -1,4 +1,4 @@
-ghost use Rattle.std.specs.Prelude.{◌≡◌, ◌+◌, ◌<◌, ◌≤◌, ◌^◌, IfSome, is_some, length, ℕ, List};
+ghost use Rattle.std.specs.Prelude.{◌≡◌, ◌+◌, ◌<◌, ◌≤◌, ◌^◌, IfSome, length, ℕ, List};
 
 /// A segment: the address that it goes to, its length in bytes, the position where it begins, and how many numbers it takes
 /// (RFC 9293, 3.4). A position counts from the SYN, which is at 0.
@@ -37,7 +37,8 @@ pub struct Wants {
     pub reorder: bool,
     /// Whether the end is in TIME-WAIT.
     pub time_wait: bool,
-    /// Whether the end is in FIN-WAIT-2, where a peer that is gone is missed by nobody.
+    /// Whether the end is in FIN-WAIT-2 and the user has read all that came: there a peer that is gone is missed by nobody. As
+    /// long as something is unread it is the user who keeps the peer waiting.
     pub fin_wait_2: bool,
 }
 
@@ -54,8 +55,9 @@ pub struct Report {
     pub window: Option<u64>,
     /// Whether it is the peer's FIN again, in TIME-WAIT, which starts that anew (RFC 9293, 3.10.7.4, eighth).
     pub repeats_fin: bool,
-    /// Whether it brought something of the peer's stream in order.
-    pub advances: bool,
+    /// Whether it is the peer's: a segment of the connection that brought text or a FIN, again or not, or a window that was
+    /// taken.
+    pub from_peer: bool,
 }
 
 /// An end without a clock (RFC 9293, 3.10): which timers have to run, and what each event leads to.
@@ -64,6 +66,8 @@ pub trait Core {
     type Sending;
     /// What `receive` answers.
     type Receiving;
+    /// What `consume` answers.
+    type Consuming;
     /// What `close` answers.
     type Closing;
     /// What `abort` answers.
@@ -71,6 +75,7 @@ pub trait Core {
     /// What an arrival answers, beside what the driver is told of it.
     type Arriving;
 
+    ghost use Rattle.tcp_driver.specs.Driver.{core_after, sent_of, written_of};
     ghost use Rattle.tcp_driver.specs.Machine.{Machine};
 
     /// What it does, as functions of its state.
@@ -79,6 +84,8 @@ pub trait Core {
     ghost send_answer: { Self → List ℕ → Self.Sending };
 
     ghost receive_answer: { Self → ℕ → Self.Receiving };
+
+    ghost consume_answer: { Self → ℕ → Self.Consuming };
 
     ghost close_answer: { Self → Self.Closing };
 
@@ -113,31 +120,15 @@ pub trait Core {
         ensures answer { result.1 ≡ arrival_answer self.old src dst bytes.now }
         ensures state { self.new ≡ machine.arrived self.old src dst bytes.now };
 
-    /// What is due; nothing changes.
-    fn next(&self) -> Option<Sent>
-        ensures { result ≡ machine.due self.now };
-
-    /// Writes the segment that is due, if one is.
-    fn transmit(&mut self, out: &mut [u8]) -> Option<Sent>
+    /// Writes the segment that may go out within a window, in numbers from SND.UNA, if one may: the one that is due, or where
+    /// that waits the acknowledgement alone, if one is pending. [`holds`](crate::holds) says which.
+    fn transmit_within(&mut self, window: u64, out: &mut [u8]) -> Option<Sent>
         requires room { machine.room ≤ length out.old }
-        ensures due { result ≡ machine.due self.old }
-        ensures written { out.new ≡ machine.written self.old out.old }
-        ensures state { self.new ≡ machine.emitted self.old }
+        ensures sent { result ≡ sent_of machine self.old window }
+        ensures written { out.new ≡ written_of machine self.old window out.old }
+        ensures state { self.new ≡ core_after machine self.old window }
         ensures most { IfSome result (λ sent. sent.len ≤ machine.room) }
         ensures fits { IfSome result (λ sent. sent.start + sent.count < 2 ^ 64) };
-
-    /// Writes the acknowledgement alone, where one is pending.
-    fn emit_acknowledgement(&mut self, out: &mut [u8]) -> Option<Sent>
-        requires room { machine.room ≤ length out.old }
-        ensures due { result ≡ machine.alone self.old }
-        ensures written { out.new ≡ machine.written_alone self.old out.old }
-        ensures state { self.new ≡ machine.emitted_alone self.old }
-        ensures most { IfSome result (λ sent. sent.len ≤ machine.room) }
-        ensures fits { IfSome result (λ sent. sent.start + sent.count < 2 ^ 64) };
-
-    /// Whether an acknowledgement is pending that may go alone.
-    fn answers(&self) -> bool
-        ensures { result ≡ is_some (machine.alone self.now) };
 
     /// Of what is in flight the first segment goes out again (RFC 5681, 3.2): whether anything is in flight.
     fn resend_first(&mut self) -> bool
@@ -154,6 +145,11 @@ pub trait Core {
         ensures answer { result ≡ receive_answer self.old (length out.old) }
         ensures read { out.new ≡ machine.read self.old out.old }
         ensures state { self.new ≡ machine.received self.old (length out.old) };
+
+    /// The user has read the first bytes where they lie, at most so many: they are gone, as after `receive` (RFC 9293, 3.10.3).
+    fn consume(&mut self, count: usize) -> Self::Consuming
+        ensures answer { result ≡ consume_answer self.old count }
+        ensures state { self.new ≡ machine.received self.old count };
 
     /// The user has read, and wants the window that is open now to be advertised (RFC 9293, 3.8.6.2.2).
     fn acknowledge(&mut self)

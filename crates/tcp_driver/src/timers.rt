@@ -1,7 +1,7 @@
 ghost use Rattle.std.specs.Prelude.{IfSome, is_some, max, min, ◌≡◌, ◌≤◌, ◌+◌, ◌<◌, ◌*◌, ◌^◌};
 ghost use Rattle.tcp_driver.specs.Deadlines.{last};
 ghost use Rattle.tcp_driver.specs.Limits.{limit_of};
-ghost use Rattle.tcp_driver.specs.Times.{goes_again, is_shut, later_by, opens, round_trip, shut_after};
+ghost use Rattle.tcp_driver.specs.Times.{goes_again, is_shut, later_by, opens, restarts, round_trip, shut_after, still};
 
 use crate::deadlines::{Deadlines, LAST, earlier, kept, no_later};
 use crate::limits::Limits;
@@ -22,11 +22,13 @@ pub struct Timers {
     since: Option<u64>,
     /// How often that timer has expired since then.
     resent: u32,
+    /// Whether it was started anew since then, because what begins at SND.UNA went out again.
+    restarted: bool,
     /// How long the gaps that the peer reported may take to be filled.
     span: u64,
     /// Whether the peer's window was shut when it was last taken.
     shut: bool,
-    /// In FIN-WAIT-2: since when nothing of the peer's stream has come.
+    /// In FIN-WAIT-2, while the user has read all: since when nothing of the peer's has come.
     left: Option<u64>,
     /// A timer has expired, and not all that is due then has gone out.
     bursting: bool,
@@ -39,9 +41,9 @@ impl Model for Timers {
 
     ghost Value = { Times };
 
-    ghost view = { λ t. record { limits = t.limits; estimate = t.estimator; watch = t.watch; deadlines = t.deadlines; una = t.una; since = t.since; resent = t.resent; span = t.span; shut = t.shut; left = t.left; bursting = t.bursting; clock = t.clock } };
+    ghost view = { λ t. record { limits = t.limits; estimate = t.estimator; watch = t.watch; deadlines = t.deadlines; una = t.una; since = t.since; resent = t.resent; restarted = t.restarted; span = t.span; shut = t.shut; left = t.left; bursting = t.bursting; clock = t.clock } };
 
-    ghost invariant = { λ t. IsSoon (record { limits = t.limits; estimate = t.estimator; watch = t.watch; deadlines = t.deadlines; una = t.una; since = t.since; resent = t.resent; span = t.span; shut = t.shut; left = t.left; bursting = t.bursting; clock = t.clock }) };
+    ghost invariant = { λ t. IsSoon (record { limits = t.limits; estimate = t.estimator; watch = t.watch; deadlines = t.deadlines; una = t.una; since = t.since; resent = t.resent; restarted = t.restarted; span = t.span; shut = t.shut; left = t.left; bursting = t.bursting; clock = t.clock }) };
 }
 
 impl Timers {
@@ -64,6 +66,7 @@ impl Timers {
             una,
             since: None,
             resent: 0,
+            restarted: false,
             span,
             shut: false,
             left: None,
@@ -144,6 +147,7 @@ impl Timers {
         } else {
             0
         };
+        self.restarted = still(wants.retransmit, same, self.restarted);
         self.span = span;
         self.left = kept(wants.fin_wait_2, true, self.left, now);
         self.clock = now;
@@ -185,9 +189,17 @@ impl Timers {
         if report.repeats_fin {
             self.deadlines.time_wait = None;
         }
-        if report.advances {
+        if report.from_peer {
             self.left = None;
         }
+    }
+
+    /// Whether a segment that goes out starts the retransmission timer anew: it begins at SND.UNA, goes out again, and none
+    /// has since something was acknowledged.
+    fn restarts(&self, sent: Sent) -> bool
+        ensures { result ≡ restarts self.now sent }
+    {
+        goes_again(&self.watch, sent) && (sent.start == self.una && !self.restarted)
     }
 
     /// A segment has gone out, or none was due.
@@ -199,6 +211,10 @@ impl Timers {
             self.bursting = false;
             return;
         };
+        if self.restarts(sent) {
+            self.deadlines.retransmit = None;
+            self.restarted = true;
+        }
         if goes_again(&self.watch, sent) {
             self.deadlines.reorder = None;
         }
@@ -301,6 +317,13 @@ fn limit_of(limits: &Limits, una: u64) -> Option<u64>
     } else {
         limits.user
     }
+}
+
+/// Whether something was done since the timer began to wait, and it waits on.
+fn still(runs: bool, same: bool, before: bool) -> bool
+    ensures { result ≡ still runs same before }
+{
+    runs && same && before
 }
 
 /// Whether a window was taken that is shut.

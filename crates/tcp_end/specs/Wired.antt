@@ -11,7 +11,7 @@ use Rattle.tcp_driver.specs.Driver.{Driving, new_driving}
 use Rattle.tcp_driver.specs.Machine.{Machine}
 use Rattle.tcp_halves.specs.declared.link.Peer.{Peer}
 use Rattle.tcp_conn.specs.declared.arrive.brought.Brought.{Brought}
-use Rattle.tcp_conn.specs.declared.arrive.brought.Brought.TheVariants.{InOrder}
+use Rattle.tcp_conn.specs.declared.arrive.brought.Brought.TheVariants.{Nothing}
 use Rattle.tcp_conn.specs.declared.arrive.judgement.Judgement.{Judgement}
 use Rattle.tcp_conn.specs.declared.arrive.judgement.Judgement.TheVariants.{TakenShut, Unacceptable}
 use Rattle.tcp_conn.specs.declared.arrive.judgement.Judgement.TheVariants as rules
@@ -38,8 +38,12 @@ abbrev pub is_fin_wait_2 : Phase → Bool
 is_fin_wait_2 FinWait2 = true
 is_fin_wait_2 other = false
 
-abbrev pub wants_by : Timers → Phase → Wants
-wants_by t phase = record { retransmit = t.retransmit; reorder = t.reorder; time_wait = t.time_wait; fin_wait_2 = is_fin_wait_2 phase }
+-- FIN-WAIT-2 counts while the user has read all that came
+abbrev pub waits_for_peer : State → Bool
+waits_for_peer s = is_fin_wait_2 s.phase && length s.receiving.inbox.unread == 0
+
+abbrev pub wants_by : Timers → Bool → Wants
+wants_by t waits = record { retransmit = t.retransmit; reorder = t.reorder; time_wait = t.time_wait; fin_wait_2 = waits }
 
 -- A TIMER HAS EXPIRED: an end has no user timeout, and the connection is aborted after it (RFC 9293, 3.8.3)
 abbrev pub expired : State → Timer → State
@@ -80,10 +84,14 @@ is_of_connection other = false
 abbrev pub repeats_fin : State → List ℕ → List ℕ → List ℕ → Bool
 repeats_fin s src dst bytes = is_time_wait s.phase && (is_of_connection (rule_of s src dst bytes) && has_fin_bit (slice_get bytes 13))
 
--- SOMETHING OF THE PEER'S STREAM came in order
-abbrev pub is_in_order : Brought → Bool
-is_in_order InOrder = true
-is_in_order other = false
+-- THE PEER IS THERE: a segment of the connection brought text or a FIN, again or not, or its window was taken
+abbrev pub brings_nothing : Brought → Bool
+brings_nothing Nothing = true
+brings_nothing other = false
+
+abbrev pub is_from_peer : State → List ℕ → List ℕ → List ℕ → Bool
+is_from_peer s src dst bytes =
+    is_of_connection (rule_of s src dst bytes) && (not (brings_nothing (brought s src dst bytes)) || is_window_taken s src dst bytes)
 
 -- WHAT THE DRIVER IS TOLD of an arrival
 abbrev pub report : State → List ℕ → List ℕ → List ℕ → Report
@@ -93,7 +101,7 @@ report s src dst bytes = record {
   at_once = answers_at_once s src dst bytes;
   window = window_after s src dst bytes;
   repeats_fin = repeats_fin s src dst bytes;
-  advances = is_in_order (brought s src dst bytes);
+  from_peer = is_from_peer s src dst bytes;
 }
 
 -- THE END'S OWN ANSWER: all that `take` reports
@@ -116,7 +124,7 @@ read_into s out = let bytes = received_bytes s (length out) in bytes ++ drop (le
 abbrev pub machine : {A : Type 0} → Machine (Wired A)
 machine = record {
   room = 1520;
-  wants = λ w. wants_by (timers_wanted w.end) w.end.phase;
+  wants = λ w. wants_by (timers_wanted w.end) (waits_for_peer w.end);
   una = λ w. w.end.sending.snd_una;
   flight = λ w. w.end.sending.snd_nxt - w.end.sending.snd_una;
   ignores_resets = λ w. ignores_resets w.end;

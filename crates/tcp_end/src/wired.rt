@@ -57,11 +57,14 @@ pub fn listen<A: Allocator>(
 
 impl<A: Allocator> Core for Wired<A> {
     ghost use Rattle.tcp_conn.specs.Calls.{abort_answer, close_answer, receive_answer, send_answer};
+    ghost use Rattle.tcp_conn.specs.Lending.{consume_answer};
     ghost use Rattle.tcp_end.specs.Wired.{machine, taken_of};
 
     type Sending = Result<usize, CallError>;
 
     type Receiving = Result<Received, CallError>;
+
+    type Consuming = Result<usize, CallError>;
 
     type Closing = Result<(), CallError>;
 
@@ -75,6 +78,8 @@ impl<A: Allocator> Core for Wired<A> {
 
     ghost receive_answer = { λ w room. receive_answer w.end room };
 
+    ghost consume_answer = { λ w count. consume_answer w.end count };
+
     ghost close_answer = { λ w. close_answer w.end };
 
     ghost abort_answer = { λ w. abort_answer w.end };
@@ -87,7 +92,7 @@ impl<A: Allocator> Core for Wired<A> {
             retransmit: wanted.retransmit,
             reorder: wanted.reorder,
             time_wait: wanted.time_wait,
-            fin_wait_2: matches!(self.end.phase(), Phase::FinWait2),
+            fin_wait_2: matches!(self.end.phase(), Phase::FinWait2) && self.end.unread() == 0,
         }
     }
 
@@ -135,29 +140,15 @@ impl<A: Allocator> Core for Wired<A> {
                 None
             },
             repeats_fin: rests && is_of_connection(taken.rule) && is_fin(bytes),
-            advances: matches!(taken.brought, Brought::InOrder),
+            from_peer: is_of_connection(taken.rule)
+                && (!matches!(taken.brought, Brought::Nothing) || taken.window_taken),
         };
         (report, taken)
     }
 
-    fn next(&self) -> Option<Sent> {
-        let next = self.end.next_transmit()?;
-        Some(sent_by(next))
-    }
-
-    fn transmit(&mut self, out: &mut [u8]) -> Option<Sent> {
-        let sent = self.end.transmit(out)?;
+    fn transmit_within(&mut self, window: u64, out: &mut [u8]) -> Option<Sent> {
+        let sent = self.end.transmit_within(window, out)?;
         Some(sent_by(sent))
-    }
-
-    fn emit_acknowledgement(&mut self, out: &mut [u8]) -> Option<Sent> {
-        let sent = self.end.emit_acknowledgement(out)?;
-        Some(sent_by(sent))
-    }
-
-    #[tactic(auto, using(crate::proofs::Pendings::pending_alone))]
-    fn answers(&self) -> bool {
-        self.end.pending_acknowledgement().is_some()
     }
 
     fn resend_first(&mut self) -> bool {
@@ -170,6 +161,10 @@ impl<A: Allocator> Core for Wired<A> {
 
     fn receive(&mut self, out: &mut [u8]) -> Result<Received, CallError> {
         self.end.receive(out)
+    }
+
+    fn consume(&mut self, count: usize) -> Result<usize, CallError> {
+        self.end.consume(count)
     }
 
     fn acknowledge(&mut self) {

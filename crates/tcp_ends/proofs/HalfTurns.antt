@@ -13,22 +13,24 @@ use Rattle.tcp_conn.specs.Timers.{after_timer}
 use Rattle.tcp_conn.specs.Transmission.{transmit_ack_alone, transmit_due, transmit_of}
 use Rattle.tcp_end.specs.Wired as wired
 use Rattle.tcp_end.specs.Wired.{machine}
+use Rattle.tcp_reasm.specs.Reassembly.{default_runs}
 use Rattle.tcp_replay.specs.declared.event.Side.{Side}
 use Rattle.tcp_replay.specs.declared.event.Side.TheVariants.{A, B}
 use Rattle.tcp_replay.specs.Among.{Happening, Happens, Injection, IsBlind, after_happening, after_happenings}
 use Rattle.tcp_replay.specs.Events.{Damage, Deliver, Emit, EventContent, HasBytes, Timer}
-use Rattle.tcp_replay.specs.World.{WorldState, bytes_with_damage, new_world_with, other, world_after_all}
+use Rattle.tcp_replay.specs.World.{WorldState, bytes_with_damage, other, world_after_all, world_with_runs}
 use Rattle.tcp_progress.specs.Fair.{GotThrough, IsCalm, NoneDiscarded}
 use Rattle.tcp_progress.specs.Half.{AnswerArrives, AreCalm, Arrives, GetsThroughByHalves, HasBothHalves, HasHalfTurn, HasHalves, HasReadAll, IsCalmNow, SegmentIsAnswered, SendsAt, count_sent, endpoint_at, timeout}
 use Rattle.tcp_progress.specs.Measure.{left_in}
 use Rattle.tcp_ends.specs.Pair as pairs
-use Rattle.tcp_ends.specs.Pair.{CallHasBytes, Opening, Pair, PairCall, end_of, member_of, new_member, opened, pair_after_all, pair_of, party_in, peer_at, segment_in, world_in}
+use Rattle.tcp_ends.specs.Pair.{Pair, end_of, member_of, new_member, pair_of, party_in, segment_in, world_in}
 use Rattle.tcp_ends.specs.Events.{emission_event, event_of, expiry_event, is_lost, unless_lost}
 use Rattle.tcp_ends.specs.Among.{Calls, Incident, Injects, happening_of, happenings_of, happens, injected_unless, pair_after_incident, pair_after_incidents}
 use Rattle.tcp_ends.specs.Among.{Rests, rests_unless}
 use Rattle.tcp_conn.specs.Timers.{timer_answer}
-use Rattle.tcp_ends.specs.Halves.{AnswerIsBrought, AreCalmIncidents, Comes, IsAnswered, IsBrought, IsCalmExpiry, IsCalmIncident, MakeBothHalves, MakeHalves, MakesHalfTurn, TwoEndsGetThroughByHalves, expiry_at}
-use Rattle.tcp_progress.proofs.turn.BothHalves.{halved_lem}
+use Rattle.tcp_ends.specs.Halves.{AnswerIsBrought, AreCalmIncidents, Comes, IsAnswered, IsBrought, IsCalmExpiry, IsCalmIncident, MakeBothHalves, MakeHalves, MakesHalfTurn, TwoEndsGetThroughByHalves, TwoEndsGetThroughByHalvesWithRuns, expiry_at}
+use Rattle.tcp_progress.proofs.steady.AlwaysSteady.{in-every-world-with-runs}
+use Rattle.tcp_progress.proofs.turn.BothHalves.{halved-kept}
 use Rattle.tcp_ends.proofs.Projections.{calls-bytes}
 use Rattle.tcp_ends.proofs.Safety.{all_events, opening-bytes, world-is}
 use Rattle.tcp_ends.proofs.Strangers.{happened, incident-is, incidents-are, parties}
@@ -64,7 +66,7 @@ world-at p before incident h e =
     ∙ after-one (world_in q) h ∙ ap (λ o. happened (world_in q) o) (sym e) ∙ sym (incident-is q incident)
 
 -- an end and the count of its segments
-end-in : {H : Type 0} (p : Pair H) (side : Side) → endpoint_at (world_in p) side ≡ end_of (member_of p side)
+pub end-in : {H : Type 0} (p : Pair H) (side : Side) → endpoint_at (world_in p) side ≡ end_of (member_of p side)
 end-in p A = refl
 end-in p B = refl
 
@@ -182,7 +184,7 @@ segment-answered side k p list r =
     }
 
 -- A HALF TURN
-if-some : {P Q : Type 0} (o : Option Due) → (P → Q) → IfSome o (λ _. P) → IfSome o (λ _. Q)
+pub if-some : {P Q : Type 0} (o : Option Due) → (P → Q) → IfSome o (λ _. P) → IfSome o (λ _. Q)
 if-some None f h = tt
 if-some (Some due) f h = f h
 
@@ -290,7 +292,7 @@ calm-more : (w : WorldState) (o : Option Happening) (list : List Happening) → 
 calm-more w None list h rest = rest
 calm-more w (Some x) list h rest = (h, rest)
 
-calm : {H : Type 0} (p : Pair H) (list : List Incident) → AreCalmIncidents p list → AreCalm (world_in p) (happenings_of p list)
+pub calm : {H : Type 0} (p : Pair H) (list : List Incident) → AreCalmIncidents p list → AreCalm (world_in p) (happenings_of p list)
 unfolding AreCalmIncidents happenings_of
 calm p [] h = tt
 calm p (incident ∷ list) h =
@@ -326,15 +328,18 @@ halves (suc n) p list h =
     )
 
 -- THE LAW
-pub by_halves_lem : (H : Type 0) → TwoEndsGetThroughByHalves H
-by_halves_lem H life a b opening_a opening_b x y calls p list least most one two e f bytes is live_a live_b room makes stays =
+pub halves_with_runs_lem : (H : Type 0) → TwoEndsGetThroughByHalvesWithRuns H
+halves_with_runs_lem H life a b runs_a runs_b opening_a opening_b x y calls p list least most one two e f bytes is live_a live_b room makes stays =
     let start = pair_of life (new_member x) (new_member y) in
     let events = all_events life opening_a opening_b x y calls in
     let fits : AllByRecursion HasBytes events = (opening-bytes A opening_a, (opening-bytes B opening_b, calls-bytes start calls bytes)) in
-    let law = halved_lem life a b events least most one two fits in
-    let world : world_after_all (new_world_with life a b) events ≡ world_in p =
-    world-is life a b opening_a opening_b x y calls e f ∙ ap (λ q. world_in q) (sym is) in
+    let law = in-every-world-with-runs GetsThroughByHalves halved-kept life a b runs_a runs_b events least most one two fits in
+    let world : world_after_all (world_with_runs life a b runs_a runs_b) events ≡ world_in p =
+    world-is life a b runs_a runs_b opening_a opening_b x y calls e f ∙ ap (λ q. world_in q) (sym is) in
     let here : GetsThroughByHalves (world_in p) = subst (λ w. GetsThroughByHalves w) world law.1 in
     let end = incidents-are p list in
     subst (λ w. GotThrough (world_in p) w) (sym end)
     (here live_a live_b room (happenings_of p list) (halves (suc (suc (left_in (world_in p)))) p list makes) (subst (λ w. NoneDiscarded w) end stays))
+
+pub by_halves_lem : (H : Type 0) → TwoEndsGetThroughByHalves H
+by_halves_lem H life a b opening_a opening_b x y calls p list = halves_with_runs_lem H life a b default_runs default_runs opening_a opening_b x y calls p list

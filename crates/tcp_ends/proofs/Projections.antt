@@ -16,7 +16,7 @@ use Rattle.tcp_replay.specs.World.{WorldState, bytes_with_damage, effect_of, oth
 use Rattle.tcp_replay.specs.World.{party_after_acknowledge, party_after_resend_first, party_after_send, party_after_timer, party_out, world_after, world_after_all}
 use Rattle.tcp_ends.specs.Pair as pairs
 use Rattle.tcp_ends.specs.Pair.{CallHasBytes, Member, Pair, PairCall, damage_refusal_in, end_of, member_after_abort, member_after_acknowledge, member_after_close, member_after_emission, member_after_receive, member_after_resend_first, member_after_send}
-use Rattle.tcp_ends.specs.Pair.{member_after_time, member_of, pair_after, pair_after_all, party_in, refusal_in, segment_in, with_member, world_in}
+use Rattle.tcp_ends.specs.Pair.{member_of, pair_after, pair_after_all, party_in, refusal_in, segment_in, with_member, world_in}
 use Rattle.tcp_ends.specs.Events.{emission_event, event_of, events_of, expiry_event, is_lost, unless_lost, with_event}
 use Rattle.tcp_ends.specs.Laws.{CallsAreEvents}
 use Rattle.tcp_ends.proofs.Members.{member-out, member-received}

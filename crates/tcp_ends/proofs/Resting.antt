@@ -4,6 +4,7 @@ use Rattle.std.specs.Option.{option_or}
 use Rattle.tcp_driver.specs.Driver.{goes_back, waits}
 use Rattle.tcp_driver.specs.declared.machine.Sent.{Sent}
 use Rattle.tcp_halves.specs.declared.link.WaitingReset.{WaitingReset}
+use Rattle.tcp_reasm.specs.Reassembly.{default_runs}
 use Rattle.tcp_conn.specs.declared.emit.due.Due.{Due}
 use Rattle.tcp_conn.specs.declared.emit.due.Due.TheVariants as dues
 use Rattle.tcp_conn.specs.Due.{ack_alone, due_of, reset_due, text_due}
@@ -14,9 +15,8 @@ use Rattle.tcp_conn.specs.declared.emit.transmit.Transmit.{Transmit}
 use Rattle.std.proofs.lemmas.Bool.{and_parts, cond_both}
 use Rattle.tcp_conn.specs.Transmission.{transmit_ack_alone, transmit_due, transmit_of}
 use Rattle.tcp_end.specs.Wired as wired
-use Rattle.tcp_end.specs.Wired.{driven, machine}
 use Rattle.tcp_halves.specs.Sender.{with_all_resent}
-use Rattle.tcp_ends.specs.Rests.{EachOpens, NothingFoundIsQuiet, RestsUnmoved}
+use Rattle.tcp_ends.specs.Rests.{EachOpens, EachOpensWithRuns, NothingFoundIsQuiet, RestsUnmoved}
 use Rattle.tcp_ends.specs.Pair.{Connects, Listens}
 
 or-none : (b : Bool) → (b || false) ≡ b
@@ -39,9 +39,12 @@ pub rests_lem : RestsUnmoved
 unfolding after_retransmit
 rests_lem s e = unmoved s (is_handshake s.phase) (sends_again s) (needs_probe s) e
 
+pub opens_with_runs_lem : (H : Type 0) → EachOpensWithRuns H
+opens_with_runs_lem H c runs peer (Connects rules limits now) = (_, refl)
+opens_with_runs_lem H c runs peer (Listens rules limits now) = (_, refl)
+
 pub opens_lem : (H : Type 0) → EachOpens H
-opens_lem H c peer (Connects rules limits now) = (_, refl)
-opens_lem H c peer (Listens rules limits now) = (_, refl)
+opens_lem H c peer opening = opens_with_runs_lem H c default_runs peer opening
 
 -- what goes out of what is due and of the acknowledgement alone
 abbrev picked : ℕ → ℕ → ℕ → Option Sent → Option Sent → Option Sent

@@ -13,7 +13,8 @@ use Rattle.tcp_conn.specs.declared.outcome.CallError.{CallError}
 use Rattle.tcp_conn.specs.declared.outcome.Received.{Received}
 use Rattle.tcp_conn.specs.declared.outcome.Received.TheVariants.{Bytes}
 use Rattle.tcp_conn.specs.Calls.{close_answer, receive_answer, send_answer}
-use Rattle.tcp_conn.specs.NewEnd.{new_end}
+use Rattle.tcp_reasm.specs.Reassembly.{default_runs}
+use Rattle.tcp_conn.specs.NewEnd.{end_with_runs}
 use Rattle.tcp_conn.specs.State.{State}
 use Rattle.tcp_end.specs.declared.wired.Wired.{Wired}
 use Rattle.tcp_end.specs.Wired.{connected, listening, machine}
@@ -187,6 +188,10 @@ pub data Opening : Type 0 where
   Connects : Rules → Limits → ℕ → Opening
   Listens : Rules → Limits → ℕ → Opening
 
+-- an end that keeps at most this many runs out of order, and remembers as many of its peer's
+abbrev pub opened_with_runs : {H : Type 0} → Config → ℕ → Peer → Opening → Result (Driving (Wired H)) CallError
+opened_with_runs c runs peer (Connects rules limits now) = connected (end_with_runs c runs) peer rules limits now
+opened_with_runs c runs peer (Listens rules limits now) = listening (end_with_runs c runs) rules limits now
+
 abbrev pub opened : {H : Type 0} → Config → Peer → Opening → Result (Driving (Wired H)) CallError
-opened c peer (Connects rules limits now) = connected (new_end c) peer rules limits now
-opened c peer (Listens rules limits now) = listening (new_end c) rules limits now
+opened c peer opening = opened_with_runs c default_runs peer opening

@@ -1,8 +1,11 @@
 //! The calls of an end, each with what it makes of a member of a pair: so the definitions of the laws are what the calls do.
 ghost use Rattle.std.specs.Prelude.{◌≡◌, ◌≤◌, length};
 ghost use Rattle.tcp_driver.specs.Calls.{Arrives, after_call};
-ghost use Rattle.tcp_conn.specs.Calls.{close_answer, receive_answer, send_answer};
-ghost use Rattle.tcp_end.specs.Wired.{machine};
+ghost use Rattle.tcp_driver.specs.Driver.{arrival_answer, at, sent_of, written_of};
+ghost use Rattle.tcp_driver.specs.Times.{expiry};
+ghost use Rattle.tcp_conn.specs.Calls.{abort_answer, close_answer, receive_answer, send_answer};
+ghost use Rattle.tcp_conn.specs.Timers.{sends_again};
+ghost use Rattle.tcp_end.specs.Wired.{machine, read_into, taken_of};
 ghost use Rattle.tcp_ends.specs.Calls.{cut_out, sent_after};
 ghost use Rattle.tcp_ends.specs.Pair.{member_after_abort, member_after_acknowledge, member_after_close, member_after_emission, member_after_receive, member_after_resend_first, member_after_send, member_after_time, member_after_user_timeout, new_member};
 
@@ -19,7 +22,8 @@ pub fn arrive<A: Allocator>(
     dst: [u8; 4],
     bytes: &[u8],
 ) -> Taken<tcp_conn::Taken>
-    ensures { end.new ≡ after_call machine end.old (Arrives now src dst bytes.now) }
+    ensures answer { result ≡ arrival_answer machine (λ w src dst bytes. taken_of w.end src dst bytes) end.old src dst bytes.now }
+    ensures state { end.new ≡ after_call machine end.old (Arrives now src dst bytes.now) }
 {
     end.arrive(now, src, dst, bytes)
 }
@@ -29,6 +33,8 @@ pub fn arrive<A: Allocator>(
 #[tactic(auto, unfolding(crate::specs::Pair::member_after_emission))]
 pub fn emit<A: Allocator>(end: &mut End<A>, now: u64, window: u64, out: &mut [u8]) -> Option<Sent>
     requires { 1520 ≤ length out.old }
+    ensures answer { result ≡ sent_of machine end.old.core window }
+    ensures written { out.new ≡ written_of machine end.old.core window out.old }
     ensures state { end.new ≡ (member_after_emission (new_member end.old) now window out.old).driving }
     ensures sent { sent_after end.old result out.new ≡ (member_after_emission (new_member end.old) now window out.old).sent }
 {
@@ -37,7 +43,8 @@ pub fn emit<A: Allocator>(end: &mut End<A>, now: u64, window: u64, out: &mut [u8
 
 /// It is `now` ([`End::timeout`](tcp_driver::Driver::timeout)).
 pub fn timeout<A: Allocator>(end: &mut End<A>, now: u64) -> Option<Timer>
-    ensures { end.new ≡ (member_after_time (new_member end.old) now).driving }
+    ensures expired { result ≡ expiry end.old.times (at end.old now) }
+    ensures state { end.new ≡ (member_after_time (new_member end.old) now).driving }
 {
     end.timeout(now)
 }
@@ -57,6 +64,7 @@ pub fn receive<A: Allocator>(
     out: &mut [u8],
 ) -> Result<Received, CallError>
     ensures answer { result ≡ receive_answer end.old.core.end (length out.old) }
+    ensures written { out.new ≡ read_into end.old.core.end out.old }
     ensures state { end.new ≡ (member_after_receive (new_member end.old) now out.old).driving }
     ensures read { cut_out result out.new ≡ (member_after_receive (new_member end.old) now out.old).delivered }
 {
@@ -80,14 +88,16 @@ pub fn close<A: Allocator>(end: &mut End<A>, now: u64) -> Result<(), CallError>
 
 /// The user gives the connection up (RFC 9293, 3.10.5).
 pub fn abort<A: Allocator>(end: &mut End<A>, now: u64) -> Result<(), CallError>
-    ensures { end.new ≡ (member_after_abort (new_member end.old) now).driving }
+    ensures answer { result ≡ abort_answer end.old.core.end }
+    ensures state { end.new ≡ (member_after_abort (new_member end.old) now).driving }
 {
     end.abort(now)
 }
 
 /// Of what is in flight the first segment goes out again (RFC 5681, 3.2): whether anything is in flight.
 pub fn resend_first<A: Allocator>(end: &mut End<A>, now: u64) -> bool
-    ensures { end.new ≡ (member_after_resend_first (new_member end.old) now).driving }
+    ensures answer { result ≡ sends_again end.old.core.end }
+    ensures state { end.new ≡ (member_after_resend_first (new_member end.old) now).driving }
 {
     end.resend_first(now)
 }

@@ -5,17 +5,22 @@
 //!   inside; what a driver withholds, or refuses while a burst is on, counts as lost.
 //! - [`two_ends_are_safe`]: so each user receives a prefix of what the other one sent, and
 //!   [`two_ends_among_strangers_are_safe`].
-//! - [`two_ends_get_through_by_halves`]: and two hosts that call in time get through, with [`rests_unmoved`] and
-//!   [`nothing_found_is_quiet`] for who wants to know that their calls make half turns.
+//! - [`two_ends_get_through_by_halves`]: and two hosts that call in time get through. Where both emit until nothing is
+//!   left, [`two_ends_get_through_by_quiet_halves`] asks less of them. That their calls make half turns they know by
+//!   [`rests_unmoved`], [`nothing_found_is_quiet`], [`what_expired_goes_out`], [`what_is_pending_goes_at_next`] and
+//!   [`emitting_all_emits_what_is_pending`]; and that a half can begin by [`a_half_can_begin`].
+//!
+//! Each holds of ends with the default number of runs, and with any other number for each of the two.
 //!
 //! These functions do nothing when they run: each carries the law that it ensures. The calls ([`arrive`], [`emit`] and so
 //! on) are an end's own: each has in its contract that a member of a pair is after it what the definitions of the laws say.
 #![tactic(auto)]
 
-ghost use Rattle.tcp_ends.specs.Among.{TwoEndsAmongStrangersAreSafe};
-ghost use Rattle.tcp_ends.specs.Halves.{TwoEndsGetThroughByHalves};
-ghost use Rattle.tcp_ends.specs.Laws.{CallsAreEvents, TwoEndsAreSafe};
-ghost use Rattle.tcp_ends.specs.Rests.{EachOpens, NothingFoundIsQuiet, RestsUnmoved};
+ghost use Rattle.tcp_ends.specs.Among.{TwoEndsAmongStrangersAreSafe, TwoEndsAmongStrangersAreSafeWithRuns};
+ghost use Rattle.tcp_ends.specs.Halves.{TwoEndsGetThroughByHalves, TwoEndsGetThroughByHalvesWithRuns};
+ghost use Rattle.tcp_ends.specs.Laws.{CallsAreEvents, TwoEndsAreSafe, TwoEndsAreSafeWithRuns};
+ghost use Rattle.tcp_ends.specs.Quiet.{EachHalfCanBegin, EmittingAllEmitsPending, ExpiredGoesOut, PendingGoesAtNext, TwoEndsGetThroughByQuietHalves, TwoEndsGetThroughByQuietHalvesWithRuns};
+ghost use Rattle.tcp_ends.specs.Rests.{EachOpens, EachOpensWithRuns, NothingFoundIsQuiet, RestsUnmoved};
 
 mod calls;
 
@@ -33,19 +38,54 @@ pub fn calls_are_events<A: Allocator>()
 /// `connect` or `listen` opened, at any times, over a network that loses, repeats, reorders and damages one byte of a
 /// segment. The blocks that they report are true, too, and damage is found.
 pub fn two_ends_are_safe<A: Allocator>()
-    ensures { TwoEndsAreSafe A }
+    ensures usual { TwoEndsAreSafe A }
+    ensures with_runs { TwoEndsAreSafeWithRuns A }
 {}
 
 /// The same among strangers (RFC 5961, 1): any bytes arrive at either end, from and to any addresses, at any time, that
 /// aren't let in where they come, unless the driver refuses or withholds them.
 pub fn two_ends_among_strangers_are_safe<A: Allocator>()
-    ensures { TwoEndsAmongStrangersAreSafe A }
+    ensures usual { TwoEndsAmongStrangersAreSafe A }
+    ensures with_runs { TwoEndsAmongStrangersAreSafeWithRuns A }
 {}
 
 /// Calls that make as many pairs of half turns as something is left, and two, deliver all and have it acknowledged, unless
 /// an end is reset: from wherever any calls brought two ends that were opened (RFC 9293, 3.8).
 pub fn two_ends_get_through_by_halves<A: Allocator>()
-    ensures { TwoEndsGetThroughByHalves A }
+    ensures usual { TwoEndsGetThroughByHalves A }
+    ensures with_runs { TwoEndsGetThroughByHalvesWithRuns A }
+{}
+
+/// The same of callers that emit until nothing is left before each `timeout`, and again where an acknowledgement is
+/// pending and no SYN. Nothing is asked of their windows, nor of where an answer begins: the driver's rules give both.
+pub fn two_ends_get_through_by_quiet_halves<A: Allocator>()
+    ensures usual { TwoEndsGetThroughByQuietHalves A }
+    ensures with_runs { TwoEndsGetThroughByQuietHalvesWithRuns A }
+{}
+
+/// Behind an expiry of the retransmission timer the window holds nothing back, where no reset waits and no
+/// acknowledgement is pending: what goes out first begins at SND.UNA at most (RFC 9293, 3.8.1).
+pub fn what_expired_goes_out<A: Allocator>()
+    ensures { ExpiredGoesOut A }
+{}
+
+/// A pending acknowledgement goes out at SND.NXT, alone or with what is new, whatever the window, where neither a reset
+/// nor a SYN goes first (RFC 9293, 3.8.6.3).
+pub fn what_is_pending_goes_at_next<A: Allocator>()
+    ensures { PendingGoesAtNext A }
+{}
+
+/// Whoever emits until nothing is left, while an acknowledgement is pending and no SYN, emits once while it still is
+/// and neither a reset nor a SYN goes first.
+pub fn emitting_all_emits_what_is_pending<A: Allocator>()
+    ensures { EmittingAllEmitsPending A }
+{}
+
+/// A half turn can begin at each end whose timers run as it wants them (`IsTimely`, which every driver keeps), outside a
+/// burst and while no user timeout runs: the retransmission timer needn't run, or a call of `timeout` at its deadline
+/// has it expire. The deadline lies before the last time, 2^62 microseconds.
+pub fn a_half_can_begin<A: Allocator>()
+    ensures { EachHalfCanBegin A }
 {}
 
 /// An expiry of a retransmission timer that doesn't run would change nothing: so a side at rest has its half turn by an
@@ -56,7 +96,8 @@ pub fn rests_unmoved()
 
 /// Each opening of a new end opens it, so that what the laws ask of a beginning can always be had.
 pub fn each_opens<A: Allocator>()
-    ensures { EachOpens A }
+    ensures usual { EachOpens A }
+    ensures with_runs { EachOpensWithRuns A }
 {}
 
 /// After an emission that finds nothing to send neither a reset waits, nor a SYN, nor an acknowledgement, whatever the

@@ -2,7 +2,7 @@
 use Rattle.std.specs.Prelude.{ℕ, ◌-◌, Bool, false, ◌==◌, true, ◌&&◌, if◌then◌else◌, List, length, ◌≡◌, min, nat_lt, ◌^◌, ◌+◌, ◌%◌}
 use Rattle.tcp_wire.specs.Position.{number, offset}
 use Rattle.tcp_reasm.specs.Agreement.{advance_of}
-use Rattle.tcp_reasm.specs.Reassembly.{Inbox, window, after_read, empty_inbox, after_place, place_answer, without_held}
+use Rattle.tcp_reasm.specs.Reassembly.{Inbox, window, after_read, default_runs, empty_with_runs, after_place, place_answer, without_held}
 
 -- the half that receives
 pub record Receiving : Type 0 where
@@ -21,8 +21,11 @@ abbrev pub max_ordered : ℕ
 max_ordered = 2 ^ 64 - 1
 
 -- no SYN of the peer was taken yet
+abbrev pub receiving_with_runs : ℕ → ℕ → Receiving
+receiving_with_runs capacity most = record { opened = false; rcv_nxt = 0; ordered = 0; finished = false; inbox = empty_with_runs capacity most }
+
 abbrev pub new_receiving : ℕ → Receiving
-new_receiving capacity = record { opened = false; rcv_nxt = 0; ordered = 0; finished = false; inbox = empty_inbox capacity }
+new_receiving capacity = receiving_with_runs capacity default_runs
 
 -- the next position of the peer's direction that is expected: after what came in order, and after the peer's FIN once that
 -- was taken. It stays at its maximum once it has reached it
@@ -60,7 +63,7 @@ after_delivering r n = record r { inbox = after_read r.inbox n }
 
 -- what is unread or kept out of order is discarded
 abbrev pub without_bytes : Receiving → Receiving
-without_bytes r = record r { inbox = empty_inbox r.inbox.capacity }
+without_bytes r = record r { inbox = empty_with_runs r.inbox.capacity r.inbox.most_runs }
 
 -- unread bytes and window together make the capacity: the window has one offset for each byte that is kept out of order or
 -- may come

@@ -42,17 +42,20 @@ abbrev pub end_of_text : Sending → ℕ
 end_of_text s = 1 + accepted_count s
 
 -- the half that sends before any call
-abbrev pub new_sending : ℕ → Sending
-new_sending capacity = record {
+abbrev pub sending_with_runs : ℕ → ℕ → Sending
+sending_with_runs capacity most = record {
   snd_una = 0;
   snd_nxt = 0;
   released = 0;
-  queue = queues.empty_queue capacity;
+  queue = queues.empty_with_runs capacity most;
   resend = None;
   snd_wnd = 0;
   snd_wl1 = 0;
   snd_wl2 = 0;
 }
+
+abbrev pub new_sending : ℕ → Sending
+new_sending capacity = sending_with_runs capacity queues.default_runs
 
 -- the SYN is sent: SND.UNA = ISS, SND.NXT = ISS + 1 (RFC 9293, 3.10.1)
 abbrev pub with_syn_sent : Sending → Sending

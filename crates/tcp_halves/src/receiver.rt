@@ -1,9 +1,9 @@
 ghost use Rattle.std.specs.Prelude.{◌≡◌, ◌↔◌, ◌⊎◌, ◌+◌, ◌^◌, ◌<◌, ◌≤◌, ◌≤ℤ◌, ◌<ℤ◌, pos, negsuc, length, take, drop, min, ◌++◌, IfOk};
-ghost use Rattle.tcp_reasm.specs.Reassembly.{max_capacity, place_answer, window};
+ghost use Rattle.tcp_reasm.specs.Reassembly.{greatest_runs, max_capacity, place_answer, window};
 ghost use Rattle.tcp_halves.specs.Receiver.{Receiving};
 ghost use Rattle.tcp_wire.specs.Position.{offset};
 ghost use Rattle.tcp_wire.specs.Wire.{max_text_len};
-ghost use Rattle.tcp_halves.specs.Receiver.{new_receiving, with_syn, after_text, is_fin_due, with_fin, after_delivering, without_bytes};
+ghost use Rattle.tcp_halves.specs.Receiver.{receiving_with_runs, with_syn, after_text, is_fin_due, with_fin, after_delivering, without_bytes};
 
 use crate::config::Config;
 use arrayvec::ArrayVec;
@@ -39,14 +39,21 @@ impl<A: Allocator> Model for Receiver<A> {
 }
 
 impl<A: Allocator> Receiver<A> {
-    /// A receiver before the peer's SYN; its buffer has memory of `alloc`. An error where the capacity is out of range,
-    /// or there is no memory.
-    pub fn new_in(alloc: A, config: &Config) -> Result<Self, ReasmError>
-        ensures ok { IfOk result (λ r. r ≡ new_receiving config.now.recv_capacity) }
+    /// A receiver before the peer's SYN that keeps at most `runs` runs out of order; its buffer has memory of `bytes`, its
+    /// table of runs of `table`. An error where the capacity is out of range, or there is no memory.
+    pub fn with_runs_of(
+        bytes: A,
+        table: A,
+        config: &Config,
+        runs: usize,
+    ) -> Result<Self, ReasmError>
+        requires least { 1 ≤ runs }
+        requires most { runs ≤ greatest_runs }
+        ensures ok { IfOk result (λ r. r ≡ receiving_with_runs config.now.recv_capacity runs) }
         ensures bad_capacity { (result ≡ Err ReasmError.BadCapacity) ↔ ((config.now.recv_capacity < 1) ⊎ (max_capacity < config.now.recv_capacity)) }
         ensures whole { IfOk result (λ r. length r.inbox.unread + length r.inbox.held ≡ r.inbox.capacity) }
     {
-        let inbox = Reassembly::new_in(alloc, config.recv_capacity)?;
+        let inbox = Reassembly::with_runs_of(bytes, table, config.recv_capacity, runs)?;
         Ok(Receiver {
             opened: false,
             rcv_nxt: Seq(0),

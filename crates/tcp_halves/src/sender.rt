@@ -1,8 +1,8 @@
 ghost use Rattle.std.specs.Prelude.{◌≡◌, ◌<◌, ◌≤◌, ◌+◌, ◌-◌, ◌==◌, ◌↔◌, ◌⊎◌, min, length, IfOk};
-ghost use Rattle.tcp_sendq.specs.SendQueue.{max_capacity, room};
+ghost use Rattle.tcp_sendq.specs.SendQueue.{greatest_runs, max_capacity, room};
 ghost use Rattle.tcp_halves.specs.Sender.{Sending, accepted_count, place_of, end_of_text};
 ghost use Rattle.tcp_halves.specs.Config.{stream_limit};
-ghost use Rattle.tcp_halves.specs.Sender.{new_sending, with_syn_sent, with_syn_counted, with_syn_acked, count_below, after_ack, with_window, is_newer, after_window_update, with_all_resent, with_first_resent, with_gaps_resent, count_sendable, with_text, count_unsent, is_probe_needed, is_fin_acked, without_text, IsSender};
+ghost use Rattle.tcp_halves.specs.Sender.{sending_with_runs, with_syn_sent, with_syn_counted, with_syn_acked, count_below, after_ack, with_window, is_newer, after_window_update, with_all_resent, with_first_resent, with_gaps_resent, count_sendable, with_text, count_unsent, is_probe_needed, is_fin_acked, without_text, IsSender};
 
 use crate::config::Config;
 use std::alloc::{Allocator, Global};
@@ -45,13 +45,20 @@ impl<A: Allocator> Model for Sender<A> {
 }
 
 impl<A: Allocator> Sender<A> {
-    /// A sender before any call; its queue has memory of `alloc`. An error where the capacity is out of range, or there
-    /// is no memory.
-    pub fn new_in(alloc: A, config: &Config) -> Result<Self, QueueError>
-        ensures ok { IfOk result (λ s. s ≡ new_sending config.now.send_capacity) }
+    /// A sender before any call, whose queue can have at most `runs` runs of marked bytes; the queue has memory of `bytes`,
+    /// its table of marks of `table`. An error where the capacity is out of range, or there is no memory.
+    pub fn with_runs_of(
+        bytes: A,
+        table: A,
+        config: &Config,
+        runs: usize,
+    ) -> Result<Self, QueueError>
+        requires least { 1 ≤ runs }
+        requires most { runs ≤ greatest_runs }
+        ensures ok { IfOk result (λ s. s ≡ sending_with_runs config.now.send_capacity runs) }
         ensures bad_capacity { (result ≡ Err QueueError.BadCapacity) ↔ ((config.now.send_capacity < 1) ⊎ (max_capacity < config.now.send_capacity)) }
     {
-        let queue = SendQueue::new_in(alloc, config.send_capacity)?;
+        let queue = SendQueue::with_runs_of(bytes, table, config.send_capacity, runs)?;
         Ok(Sender {
             snd_una: 0,
             snd_nxt: 0,

@@ -8,12 +8,12 @@ use Rattle.tcp_wire.specs.Wire.{Content}
 use Rattle.tcp_wire.specs.declared.fault.DecodeError.{DecodeError}
 use Rattle.tcp_halves.specs.declared.config.Config.{Config}
 use Rattle.tcp_halves.specs.Config.{IsConfig}
-use Rattle.tcp_replay.specs.Solo.{SoloState, solo_start, solo_run, run_alone, after_solo, segment_alone, segment_due}
+use Rattle.tcp_replay.specs.Solo.{SoloState, solo_with_runs, solo_run, alone_with_runs, after_solo, segment_alone, segment_due}
 use Rattle.tcp_replay.specs.SoloEvents.{SoloContent, HasRanges, Emit, EmitAcknowledgement, Arrive}
 use Rattle.tcp_replay.specs.Truthful.{IsOfUser}
 use Rattle.tcp_replay.proofs.one_end.SoloRuns.{one_end_is_true_lem, content-is}
 use Rattle.tcp_judge.specs.Known.{Known, nothing_known}
-use Rattle.tcp_judge.specs.Log.{PassageContent, Came, Went, went_from, log_of, log_alone}
+use Rattle.tcp_judge.specs.Log.{PassageContent, Came, Went, went_from, log_of, log_with_runs}
 use Rattle.tcp_judge.specs.Judgement.{finding_read, known_read, known_came, first_finding, placed_or, IsClean}
 use Rattle.tcp_judge.specs.Rules.{form_finding, heard_finding, finding_of}
 use Rattle.tcp_judge.specs.Taken.{taken_of}
@@ -141,18 +141,18 @@ went-same P P' (Came a b bytes ∷ log) h all = went-same P P' log h all
 went-same P P' (Went a b bytes ∷ log) h all = (h a b bytes all.0, went-same P P' log h all.1)
 
 -- THE LAW
-pub clean : (c : Config) (list : List SoloContent) → IsConfig c → AllByRecursion HasRanges list → 2 + length (run_alone c list).accepted < 2 ^ 31
-    → IsClean (log_alone c list)
-clean c list is fits short =
-    let x = run_alone c list in
-    let log = log_alone c list in
+pub clean : (c : Config) (runs : ℕ) (list : List SoloContent) → IsConfig c → AllByRecursion HasRanges list
+    → 2 + length (alone_with_runs c runs list).accepted < 2 ^ 31 → IsClean (log_with_runs c runs list)
+clean c runs list is fits short =
+    let x = alone_with_runs c runs list in
+    let log = log_with_runs c runs list in
     let src = c.addr.0 in
     let P : List ℕ → List ℕ → Type 0 = λ to bytes. IsUsers c.isn.0 x.accepted x.closed src to bytes in
-    let all : x.emitted ≡ segments_of log = emitted-log src (solo_start c) list in
-    let members = went-all P src log (from-log src (solo_start c) list)
-    (λ k to bytes at. (one_end_is_true_lem c list is fits).sends k to bytes (ap (λ (sent : List (List ℕ × List ℕ)). slice_get sent k) all ∙ at)) in
+    let all : x.emitted ≡ segments_of log = emitted-log src (solo_with_runs c runs) list in
+    let members = went-all P src log (from-log src (solo_with_runs c runs) list)
+    (λ k to bytes at. (one_end_is_true_lem c runs list is fits).sends k to bytes (ap (λ (sent : List (List ℕ × List ℕ)). slice_get sent k) all ∙ at)) in
     let users : AllWent (IsUsers c.isn.0 x.accepted x.closed) log =
     went-same (λ from to bytes. (from ≡ src) × P to bytes) (IsUsers c.isn.0 x.accepted x.closed) log
     (λ a b bytes h. subst (λ (from : List ℕ). IsUsers c.isn.0 x.accepted x.closed from b bytes) (sym h.0) h.1) members in
     clean-log c.isn.0 x.accepted x.closed is.isn short log nothing_known 0
-    (record { initial = tt; stream = record { inside = omega arith; part = refl }; fin = tt }) (said-right c list is fits) users
+    (record { initial = tt; stream = record { inside = omega arith; part = refl }; fin = tt }) (said-right c runs list is fits) users

@@ -13,7 +13,7 @@ use Rattle.tcp_halves.proofs.Placing.{whole_empty}
 use Rattle.tcp_conn.specs.Phase.{discards}
 use Rattle.tcp_conn.specs.State.{State, Receiving}
 use Rattle.tcp_replay.specs.Alone.{IsAlone}
-use Rattle.tcp_replay.specs.Solo.{SoloState, solo_start, end_after, bytes_put_out}
+use Rattle.tcp_replay.specs.Solo.{SoloState, solo_with_runs, end_after, bytes_put_out}
 use Rattle.tcp_replay.specs.SoloEvents.{SoloContent, HasRanges, Arrive}
 use Rattle.tcp_replay.proofs.Lists.{by_test, one_if}
 use Rattle.tcp_replay.proofs.one_end.AloneCalls.{IsAloneIn}
@@ -86,13 +86,13 @@ pub record Hears (h : Heard) (x : SoloState) (irs k : ℕ) : Type 0 where
   pub room : HasRoom capacity x.endpoint.receiving
   pub offered : Offered h.scaling h.sack x.endpoint.link
 
-pub hears-new : (c : Config) → IsConfig c → Hears nothing_heard (solo_start c) 0 0
-hears-new c is =
-    let came = fed-new (λ n byte. has_come [] n ≡ true) c.recv_capacity 0 in
+pub hears-new : (c : Config) (runs : ℕ) → IsConfig c → Hears nothing_heard (solo_with_runs c runs) 0 0
+hears-new c runs is =
+    let came = fed-new (λ n byte. has_come [] n ≡ true) c.recv_capacity runs 0 in
     record {
       since = 1;
       acked_number = refl;
-      fed = fed-new Anything c.recv_capacity 0;
+      fed = fed-new Anything c.recv_capacity runs 0;
       comes = λ _. record { text = λ p from below. absurd (omega arith); held = came.held };
       syn = λ _ never. absurd (cc);
       fin = λ never. absurd (cc);

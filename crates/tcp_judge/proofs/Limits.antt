@@ -7,7 +7,7 @@ use Rattle.tcp_halves.specs.declared.config.Config.{Config}
 use Rattle.tcp_halves.specs.declared.link.Peer.{Peer}
 use Rattle.tcp_halves.specs.Config.{IsConfig, default_limit}
 use Rattle.tcp_halves.specs.Sender.{count_sendable}
-use Rattle.tcp_replay.specs.Solo.{SoloState, solo_start, solo_run, run_alone, after_solo, end_after}
+use Rattle.tcp_replay.specs.Solo.{SoloState, solo_with_runs, solo_run, alone_with_runs, after_solo, end_after}
 use Rattle.tcp_replay.specs.SoloEvents.{SoloContent, HasRanges}
 use Rattle.tcp_replay.specs.World.{PartyState}
 use Rattle.tcp_replay.proofs.one_end.Alone.{alone-new}
@@ -49,8 +49,8 @@ limit-run x (e ∷ list) h irs k fits a hears inside =
     (limit-run (after_solo x e) list (heard_past h e) _ _ fits.1 (alone-step x e fits.0 a) (hears-step x e h irs k fits.0 a hears) next)
 
 -- with a limit of at most the default each position lies below 2^31
-pub positions-short : (c : Config) (list : List SoloContent) → IsConfig c → AllByRecursion HasRanges list → c.limit ≤ default_limit
-    → 2 + length (run_alone c list).accepted < 2 ^ 31
-positions-short c list is fits short =
-    let inside = limit-run (solo_start c) list nothing_heard 0 0 fits (alone-new c is) (hears-new c is) (omega arith) in
+pub positions-short : (c : Config) (runs : ℕ) (list : List SoloContent) → IsConfig c → AllByRecursion HasRanges list → c.limit ≤ default_limit
+    → 2 + length (alone_with_runs c runs list).accepted < 2 ^ 31
+positions-short c runs list is fits short =
+    let inside = limit-run (solo_with_runs c runs) list nothing_heard 0 0 fits (alone-new c runs is) (hears-new c runs is) (omega arith) in
     omega (arith, inside, short)

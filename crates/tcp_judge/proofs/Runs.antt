@@ -22,7 +22,7 @@ use Rattle.tcp_conn.specs.Due.{ack_alone, due_of}
 use Rattle.tcp_conn.specs.Forms.{segment_of, shift_offered, is_sack_offered, scale_options, permission_options, syn_segment, plain_segment, waiting_segment}
 use Rattle.tcp_conn.specs.Writing.{bytes_of, destination_of}
 use Rattle.tcp_replay.specs.Alone.{IsAlone}
-use Rattle.tcp_replay.specs.Solo.{SoloState, solo_start, end_after, segment_alone, segment_due, after_solo}
+use Rattle.tcp_replay.specs.Solo.{SoloState, solo_with_runs, end_after, segment_alone, segment_due, after_solo}
 use Rattle.tcp_replay.specs.SoloEvents.{SoloContent, HasRanges, Emit, EmitAcknowledgement}
 use Rattle.tcp_replay.proofs.Lists.{by_test, one_if}
 use Rattle.tcp_replay.proofs.one_end.Alone.{alone-new}
@@ -36,7 +36,7 @@ use Rattle.tcp_replay.proofs.one_end.Phases.{handshake-knows}
 use Rattle.tcp_judge.specs.Heard.{Heard, nothing_heard, has_come, goes_on, begins, is_of_came, is_further, carries_ack, acks_beyond, goes_further, without_passed}
 use Rattle.tcp_judge.specs.Heard.{after_acknowledging, after_went}
 use Rattle.tcp_judge.specs.Heard.{any_scale, answers_more, oversteps}
-use Rattle.tcp_judge.specs.Log.{PassageContent, went_from, log_of, log_alone}
+use Rattle.tcp_judge.specs.Log.{PassageContent, went_from, log_of, log_with_runs}
 use Rattle.tcp_judge.specs.Rules.{ack_finding}
 use Rattle.tcp_judge.specs.Law.{heard_went, AllSaidRight}
 use Rattle.tcp_judge.proofs.Numbers.{HasSyn, begins-at, positions-came, still-come}
@@ -233,5 +233,6 @@ runs src x (e ∷ list) h irs k at fits a hears =
     runs src (after_solo x e) list (heard_past h e) _ _ (ap (λ (c : Config). c.addr.0) (address-step x e h irs k fits.0 a hears) ∙ at) fits.1
     (alone-step x e fits.0 a) (hears-step x e h irs k fits.0 a hears)
 
-pub said-right : (c : Config) (list : List SoloContent) → IsConfig c → AllByRecursion HasRanges list → AllSaidRight nothing_heard (log_alone c list)
-said-right c list is fits = runs c.addr.0 (solo_start c) list nothing_heard 0 0 refl fits (alone-new c is) (hears-new c is)
+pub said-right : (c : Config) (most : ℕ) (list : List SoloContent) → IsConfig c → AllByRecursion HasRanges list
+    → AllSaidRight nothing_heard (log_with_runs c most list)
+said-right c most list is fits = runs c.addr.0 (solo_with_runs c most) list nothing_heard 0 0 refl fits (alone-new c most is) (hears-new c most is)

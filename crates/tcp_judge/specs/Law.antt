@@ -6,9 +6,9 @@ use Rattle.tcp_wire.specs.Decoded.{decode_answer}
 use Rattle.tcp_wire.specs.declared.fault.DecodeError.{DecodeError}
 use Rattle.tcp_halves.specs.declared.config.Config.{Config}
 use Rattle.tcp_halves.specs.Config.{IsConfig, default_limit}
-use Rattle.tcp_replay.specs.Solo.{run_alone}
+use Rattle.tcp_replay.specs.Solo.{alone_with_runs, run_alone}
 use Rattle.tcp_replay.specs.SoloEvents.{SoloContent, HasRanges}
-use Rattle.tcp_judge.specs.Log.{PassageContent, Came, Went, log_alone}
+use Rattle.tcp_judge.specs.Log.{PassageContent, Came, Went, log_alone, log_with_runs}
 use Rattle.tcp_judge.specs.Heard.{Heard, nothing_heard, after_went, after_came}
 use Rattle.tcp_judge.specs.Rules.{form_finding, heard_finding}
 use Rattle.tcp_judge.specs.Judgement.{IsClean}
@@ -47,3 +47,19 @@ NoShortStreamIsAccused =
 abbrev pub NoCorrectEndIsAccused : Type 0
 NoCorrectEndIsAccused =
     (c : Config) (list : List SoloContent) → IsConfig c → c.limit ≤ default_limit → AllByRecursion HasRanges list → IsClean (log_alone c list)
+
+-- ---- SO IT IS of an end that keeps any number of runs out of order
+abbrev pub NoFormOrAcknowledgementIsAccusedWithRuns : Type 0
+NoFormOrAcknowledgementIsAccusedWithRuns =
+    (c : Config) (runs : ℕ) (list : List SoloContent) → IsConfig c → AllByRecursion HasRanges list
+    → AllSaidRight nothing_heard (log_with_runs c runs list)
+
+abbrev pub NoShortStreamIsAccusedWithRuns : Type 0
+NoShortStreamIsAccusedWithRuns =
+    (c : Config) (runs : ℕ) (list : List SoloContent) → IsConfig c → AllByRecursion HasRanges list
+    → 2 + length (alone_with_runs c runs list).accepted < 2 ^ 31 → IsClean (log_with_runs c runs list)
+
+abbrev pub NoCorrectEndIsAccusedWithRuns : Type 0
+NoCorrectEndIsAccusedWithRuns =
+    (c : Config) (runs : ℕ) (list : List SoloContent) → IsConfig c → c.limit ≤ default_limit → AllByRecursion HasRanges list
+    → IsClean (log_with_runs c runs list)

@@ -2,7 +2,8 @@
 use Rattle.std.specs.Prelude.{ℕ, List, [], ◌∷◌, ◌++◌, Option, Some, None}
 use Rattle.tcp_halves.specs.declared.config.Config.{Config}
 use Rattle.tcp_conn.specs.State.{State}
-use Rattle.tcp_conn.specs.NewEnd.{new_end}
+use Rattle.tcp_conn.specs.NewEnd.{end_with_runs}
+use Rattle.tcp_reasm.specs.Reassembly.{default_runs}
 use Rattle.tcp_replay.specs.Solo.{end_after, segment_alone, segment_due}
 use Rattle.tcp_replay.specs.SoloEvents.{SoloContent, Emit, EmitAcknowledgement, Arrive}
 use Rattle.tcp_judge.specs.declared.passage.Passage.{Passage}
@@ -32,6 +33,9 @@ unfoldable pub log_of : List ℕ → State → List SoloContent → List Passage
 log_of src s [] = []
 log_of src s (event ∷ events) = passages_of src s event ++ log_of src (end_after s event) events
 
--- THE LOG of one end from its Config on
+-- THE LOG of one end from its Config on, and the number of runs that it keeps
+abbrev pub log_with_runs : Config → ℕ → List SoloContent → List PassageContent
+log_with_runs c runs list = log_of c.addr.0 (end_with_runs c runs) list
+
 abbrev pub log_alone : Config → List SoloContent → List PassageContent
-log_alone c list = log_of c.addr.0 (new_end c) list
+log_alone c list = log_with_runs c default_runs list

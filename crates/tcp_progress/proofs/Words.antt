@@ -18,8 +18,9 @@ pub use Rattle.tcp_progress.specs.Progress.{AckedIsReleased, AcksNew, begins_at,
 pub use Rattle.tcp_progress.specs.Progress.{PendingIsSent, TakesWhatIsNext}
 pub use Rattle.tcp_progress.specs.Resent.{CoversNext, FlightGoesOutAgain, GoesOut, IsInFlight, IsUnsent, KeepsFlight, MaySend, MovesOn, UnsentGoesOut}
 pub use Rattle.tcp_progress.specs.Resent.{after_emissions}
-pub use Rattle.tcp_progress.specs.Sent.{NothingIsTakenBeforeItIsSent, TakeOnlySent, TakesOnlySent}
+pub use Rattle.tcp_progress.specs.Sent.{TakeOnlySent, TakesOnlySent}
 pub use Rattle.tcp_progress.specs.Settled.{AreOpening, CanReach, CanSettle, HasEndedInOrder, HasStreamsOf, IsLive, IsNotStuck, IsQuiet, IsSettled, IsThrough}
 pub use Rattle.tcp_progress.specs.Settled.{NoWorldIsStuck, least_life}
 pub use Rattle.tcp_progress.specs.Stage.{KnowsPort, ReleasesAll, Says, SaysByPhase}
 pub use Rattle.tcp_progress.specs.Steady.{EveryWorldIsSteady, IsSteady, IsSteadyEnd, IsSteadyPair}
+pub use Rattle.tcp_progress.specs.WithRuns.{InEveryWorldWithRuns, NothingIsTakenBeforeItIsSentWithRuns}

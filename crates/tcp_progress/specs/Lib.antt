@@ -12,3 +12,4 @@ pub mod Measure
 pub mod Fair
 pub mod Half
 pub mod Among
+pub mod WithRuns

@@ -1,6 +1,7 @@
 //! Who is served often enough gets through (RFC 9293, 3.8), whatever the network does meanwhile.
 ghost use Rattle.tcp_progress.specs.Half.{HalfTurnsGetThrough, HalvesCanBeHad};
 ghost use Rattle.tcp_progress.specs.Fair.{EachBurstEnds, TurnsCanBeHad, WhatIsLeftNeverGrows, WhoIsServedGetsThrough};
+ghost use Rattle.tcp_progress.specs.WithRuns.{EachBurstEndsWithRuns, HalfTurnsGetThroughWithRuns, HalvesCanBeHadWithRuns, TurnsCanBeHadWithRuns, WhatIsLeftNeverGrowsWithRuns, WhoIsServedGetsThroughWithRuns};
 
 /// Who is served gets through, from any world that two ends can come to, while both are live. Take calm events that
 /// contain as many turns of a caller's loop as what is left, and one more. After them all that was accepted is
@@ -12,27 +13,31 @@ ghost use Rattle.tcp_progress.specs.Fair.{EachBurstEnds, TurnsCanBeHad, WhatIsLe
 /// and then the other's. All that both sent arrives, while no timer expires, and both answer until nothing is due; and
 /// what they answered arrives.
 pub fn who_is_served_gets_through()
-    ensures { WhoIsServedGetsThrough }
+    ensures usual { WhoIsServedGetsThrough }
+    ensures with_runs { WhoIsServedGetsThroughWithRuns }
 {}
 
 /// There are turns, any number of them, from any world that two ends can come to in which no end was reset or aborted.
 /// Some list of calm events contains that many turns, and no end is reset or aborted in it. So the claim that who is
 /// served gets through isn't empty.
 pub fn turns_can_be_had()
-    ensures { TurnsCanBeHad }
+    ensures usual { TurnsCanBeHad }
+    ensures with_runs { TurnsCanBeHadWithRuns }
 {}
 
 /// Each burst ends: from any world that two ends can come to, a side that emits again and again, with no arrival
 /// between, has nothing due after some number of emissions.
 pub fn each_burst_ends()
-    ensures { EachBurstEnds }
+    ensures usual { EachBurstEnds }
+    ensures with_runs { EachBurstEndsWithRuns }
 {}
 
 /// What is left never grows: from any world that two ends can come to, over calm events, what was accepted and isn't
 /// taken yet, and what isn't acknowledged yet, decreases or stays the same. Nothing more is accepted, and no user
 /// closes. A FIN counts as one byte.
 pub fn what_is_left_never_grows()
-    ensures { WhatIsLeftNeverGrows }
+    ensures usual { WhatIsLeftNeverGrows }
+    ensures with_runs { WhatIsLeftNeverGrowsWithRuns }
 {}
 
 /// Half turns get through, from any world that two ends can come to, while both are live, and one user didn't close or
@@ -47,11 +52,13 @@ pub fn what_is_left_never_grows()
 /// 5681, 3.1). Where both have room for one byte, both may have sent a byte and a FIN beyond the other's window, and a
 /// first segment never is the FIN: then they need not get through. What is left, as at `who_is_served_gets_through`.
 pub fn half_turns_get_through()
-    ensures { HalfTurnsGetThrough }
+    ensures usual { HalfTurnsGetThrough }
+    ensures with_runs { HalfTurnsGetThroughWithRuns }
 {}
 
 /// There are half turns, any number of pairs of them, from any world in which both are live, and no end is reset or
 /// aborted in them. So the claim that they get through isn't empty.
 pub fn halves_can_be_had()
-    ensures { HalvesCanBeHad }
+    ensures usual { HalvesCanBeHad }
+    ensures with_runs { HalvesCanBeHadWithRuns }
 {}

@@ -14,7 +14,8 @@
 //! Below them are laws of one end: what a segment brings (`what_is_next_is_taken`, `what_is_acknowledged_is_released`),
 //! and what is sent whatever came before it (`what_is_pending_is_sent`, `what_is_in_flight_goes_out_again`,
 //! `what_is_unsent_goes_out`, `who_is_spoken_to_answers`; RFC 9293, 3.8.1, 3.8.6.1 and 3.10.7.4). These functions do
-//! nothing when they run: each carries the law that it ensures.
+//! nothing when they run: each carries the law that it ensures. A law of two ends has a clause `usual`, of ends with the
+//! default number of runs, and a clause `with_runs`, of ends with any number.
 #![tactic(auto)]
 
 ghost use Rattle.tcp_progress.specs.Progress.{AckedIsReleased, PendingIsSent, TakesWhatIsNext};

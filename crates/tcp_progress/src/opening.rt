@@ -1,5 +1,6 @@
 //! A connection can be opened once one end has sent its SYN and the other listens (RFC 9293, 3.5).
 ghost use Rattle.tcp_progress.specs.Handshake.{HandshakesCanBeFinished, WhoIsServedOpens};
+ghost use Rattle.tcp_progress.specs.WithRuns.{HandshakesCanBeFinishedWithRuns, WhoIsServedOpensWithRuns};
 
 /// A handshake can be finished, however segments were lost, delayed, repeated, reordered or damaged, and whatever the
 /// users called (RFC 9293, 3.5). One end is in SYN-SENT and the other in LISTEN or SYN-RECEIVED. Then there is a list
@@ -8,7 +9,8 @@ ghost use Rattle.tcp_progress.specs.Handshake.{HandshakesCanBeFinished, WhoIsSer
 /// longer. Left out are two ends that are both in SYN-SENT, where a SYN without ACK is dropped, or both in LISTEN. So
 /// is an end that was never opened, or has ended.
 pub fn a_handshake_can_be_finished()
-    ensures { HandshakesCanBeFinished }
+    ensures usual { HandshakesCanBeFinished }
+    ensures with_runs { HandshakesCanBeFinishedWithRuns }
 {}
 
 /// Who is served while the connection is opened gets through, too (RFC 9293, 3.5 and 3.8). One end is in SYN-SENT and
@@ -18,5 +20,6 @@ pub fn a_handshake_can_be_finished()
 /// order where both users closed. At most two of the turns open the connection. Calm events and turns are described at
 /// `who_is_served_gets_through`. Segments live for 2^21 positions or longer.
 pub fn who_is_served_opens()
-    ensures { WhoIsServedOpens }
+    ensures usual { WhoIsServedOpens }
+    ensures with_runs { WhoIsServedOpensWithRuns }
 {}

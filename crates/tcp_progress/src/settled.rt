@@ -1,6 +1,7 @@
 //! Two ends can always progress (RFC 9293, 3.8), and the invariants of the two.
 ghost use Rattle.tcp_progress.specs.Settled.{NoWorldIsStuck};
 ghost use Rattle.tcp_progress.specs.Steady.{EveryWorldIsSteady};
+ghost use Rattle.tcp_progress.specs.WithRuns.{EveryWorldIsSteadyWithRuns, NoWorldIsStuckWithRuns};
 
 /// Every world is steady, after every list of events, from any two Configs, where segments live for 2^21 positions or
 /// longer:
@@ -11,7 +12,8 @@ ghost use Rattle.tcp_progress.specs.Steady.{EveryWorldIsSteady};
 /// - each state says what it should of this end's FIN and the peer's (RFC 9293, 3.3.2), and the peer's port is known;
 /// - once the peer has the FIN of an end in LAST-ACK, all that the peer sent is acknowledged to it.
 pub fn every_world_is_steady()
-    ensures { EveryWorldIsSteady }
+    ensures usual { EveryWorldIsSteady }
+    ensures with_runs { EveryWorldIsSteadyWithRuns }
 {}
 
 /// No world is stuck, however segments were lost, delayed, repeated, reordered or damaged, and whatever the users
@@ -22,5 +24,6 @@ pub fn every_world_is_steady()
 /// the other in LISTEN or SYN-RECEIVED; and once an end has ended in order, where the FIN of the other, which was
 /// neither reset nor aborted, is acknowledged to it. Segments live for 2^21 positions or longer.
 pub fn no_world_is_stuck()
-    ensures { NoWorldIsStuck }
+    ensures usual { NoWorldIsStuck }
+    ensures with_runs { NoWorldIsStuckWithRuns }
 {}

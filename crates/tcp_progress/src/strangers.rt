@@ -2,6 +2,7 @@
 ghost use Rattle.tcp_progress.specs.Among.{BlindIsCalm, BurstsEndAmongStrangers, HalvesAmongStrangers, HalvesCanBeHadAmongStrangers, NeverGrowsAmongStrangers};
 ghost use Rattle.tcp_progress.specs.Among.{NotStuckAmongStrangers, NothingIsTakenBeforeItIsSentAmongStrangers, OpensAmongStrangers, ServedAmongStrangers};
 ghost use Rattle.tcp_progress.specs.Among.{ServedOpensAmongStrangers, SteadyAmongStrangers, TurnsCanBeHadAmongStrangers};
+ghost use Rattle.tcp_progress.specs.WithRuns.{GoesOnAmongStrangersWithRuns, SteadyAmongStrangersWithRuns};
 
 /// Every world is steady among strangers, too, and nothing is taken before it is sent: as `every_world_is_steady` and
 /// `nothing_is_taken_before_it_is_sent` say, though who isn't on the path between the two ends has sent bytes to either,
@@ -10,6 +11,7 @@ ghost use Rattle.tcp_progress.specs.Among.{ServedOpensAmongStrangers, SteadyAmon
 pub fn steady_among_strangers()
     ensures steady { SteadyAmongStrangers }
     ensures taken { NothingIsTakenBeforeItIsSentAmongStrangers }
+    ensures with_runs { SteadyAmongStrangersWithRuns }
 {}
 
 /// In each of these worlds the two ends go on as in any other: no world is stuck, a handshake can be finished, who is
@@ -25,6 +27,7 @@ pub fn goes_on_among_strangers()
     ensures halves { HalvesCanBeHadAmongStrangers }
     ensures bursts { BurstsEndAmongStrangers }
     ensures left { NeverGrowsAmongStrangers }
+    ensures with_runs { GoesOnAmongStrangersWithRuns }
 {}
 
 /// What a stranger sends to an end in ESTABLISHED, FIN-WAIT-1 or FIN-WAIT-2 and isn't let in leads to the same world as a

@@ -13,6 +13,8 @@ pub record Cell : Type 0 where
 
 pub record Inbox : Type 0 where
   pub capacity : ℕ
+  -- the greatest number of runs that are kept out of order
+  pub most_runs : ℕ
   pub unread : List ℕ
   -- one place for each byte of the window
   pub held : List (Option Cell)
@@ -25,8 +27,18 @@ max_capacity = 1048576
 abbrev pub window : Inbox → ℕ
 window q = q.capacity - length q.unread
 
+-- how many runs are kept where no number is given, and the greatest number
+abbrev pub default_runs : ℕ
+default_runs = 16
+
+abbrev pub greatest_runs : ℕ
+greatest_runs = 4096
+
+abbrev pub empty_with_runs : ℕ → ℕ → Inbox
+empty_with_runs capacity most = record { capacity = capacity; most_runs = most; unread = []; held = replicate capacity None }
+
 abbrev pub empty_inbox : ℕ → Inbox
-empty_inbox capacity = record { capacity = capacity; unread = []; held = replicate capacity None }
+empty_inbox capacity = empty_with_runs capacity default_runs
 
 -- THE PIECE: what is left of a text at an offset when the bytes before place 0 are cut off. The window's end cuts by itself,
 -- since there is no place beyond it.
@@ -86,10 +98,6 @@ runs_from place (Some cell ∷ places) = with_place place cell.stamp (runs_from 
 abbrev pub runs : List (Option Cell) → List Run
 runs held = runs_from 0 held
 
--- the greatest number of runs that are kept apart
-abbrev pub max_runs : ℕ
-max_runs = 16
-
 -- the bytes at the front, up to the first place that is missing
 abbrev pub bytes_in_order : List (Option Cell) → List ℕ
 bytes_in_order [] = []
@@ -130,7 +138,7 @@ overlay_of q p = overlay p.start p.text (suc (greatest_stamp q.held)) q.held
 
 -- no byte is inside the window, or a piece that isn't in order would make too many runs
 abbrev pub is_refused : Inbox → Piece → Bool
-is_refused q p = is_empty p q.held || (nat_lt 0 p.start && nat_lt max_runs (length (runs (overlay_of q p))))
+is_refused q p = is_empty p q.held || (nat_lt 0 p.start && nat_lt q.most_runs (length (runs (overlay_of q p))))
 
 abbrev pub answer_for : ℕ → Placed
 answer_for zero = Held
@@ -174,11 +182,13 @@ max_blocks = 4
 unfoldable pub blocks : Inbox → List (ℕ × ℕ)
 blocks q = map (λ (run : Run). (run.from, run.to)) (take max_blocks (runs_newest_first (runs q.held)))
 
--- THE INVARIANT: what is unread and the window make up the capacity, at most sixteen runs are kept, and the byte at place 0
--- is missing
+-- THE INVARIANT: what is unread and the window make up the capacity, no more runs are kept than its number, which is from 1
+-- to 4,096, and the byte at place 0 is missing
 pub record IsInbox (q : Inbox) : Type 0 where
   pub least : 1 ≤ q.capacity
   pub most : q.capacity ≤ max_capacity
   pub whole : length q.unread + length q.held ≡ q.capacity
-  pub few : length (runs q.held) ≤ max_runs
+  pub least_runs : 1 ≤ q.most_runs
+  pub most_of_runs : q.most_runs ≤ greatest_runs
+  pub few : length (runs q.held) ≤ q.most_runs
   pub missing : bytes_in_order q.held ≡ []

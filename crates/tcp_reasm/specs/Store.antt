@@ -2,7 +2,7 @@
 use Rattle.std.specs.Prelude.{ℕ, zero, suc, min, max, ◌-◌, ◌<◌, ◌≤◌, ◌⊎◌, Bool, List, [], ◌∷◌, ◌++◌, length, map, take, drop, replicate, Option, Some, None, nat_lt, nat_le, ◌&&◌, if◌then◌else◌}
 use Rattle.std.specs.List.{AllByRecursion}
 use Rattle.tcp_reasm.specs.declared.table.Run.{Run as Entry}
-use Rattle.tcp_reasm.specs.Reassembly.{Cell, Inbox, Run, is_within, stamp_of_run, overlay, greatest_stamp, runs, max_runs, max_capacity}
+use Rattle.tcp_reasm.specs.Reassembly.{Cell, Inbox, Run, is_within, stamp_of_run, overlay, greatest_stamp, runs, greatest_runs, max_capacity}
 
 -- ---- the view
 
@@ -44,12 +44,17 @@ abbrev pub cells : (ℕ → ℕ) → ℕ → List ℕ → List (Option Cell)
 cells stamps place [] = []
 cells stamps place (byte ∷ bytes) = cell_of (stamps place) byte ∷ cells stamps (suc place) bytes
 
+-- the places of the window, which lie after the unread bytes in the ring
+abbrev pub held_of : List ℕ → ℕ → List Entry → List (Option Cell)
+held_of ring unread table = cells (stamp_of_run (ranked (runs_in table))) 0 (drop unread ring)
+
 -- the unread bytes are first in the ring, and the window's places after them
-abbrev pub inbox_of : List ℕ → ℕ → List Entry → Inbox
-inbox_of ring unread table = record {
+abbrev pub inbox_of : ℕ → List ℕ → ℕ → List Entry → Inbox
+inbox_of most ring unread table = record {
   capacity = length ring;
+  most_runs = most;
   unread = take unread ring;
-  held = cells (stamp_of_run (ranked (runs_in table))) 0 (drop unread ring);
+  held = held_of ring unread table;
 }
 
 -- ---- the invariant
@@ -73,13 +78,15 @@ pub record IsRing (room capacity start : ℕ) (written : List ℕ) : Type 0 wher
   pub most : capacity ≤ max_capacity
   pub starts : start ≤ capacity
 
-pub record IsKept (ring : List ℕ) (unread : ℕ) (table : List Run) : Type 0 where
+pub record IsKept (most_runs : ℕ) (ring : List ℕ) (unread : ℕ) (table : List Run) : Type 0 where
   pub some : 0 < length ring
   pub most : length ring ≤ max_capacity
   pub fits : unread ≤ length ring
   pub inside : AllByRecursion (IsInside (length ring - unread)) table
   pub away : AreAway table
-  pub few : length table ≤ max_runs
+  pub least_runs : 1 ≤ most_runs
+  pub most_of_runs : most_runs ≤ greatest_runs
+  pub few : length table ≤ most_runs
 
 -- ---- steps
 
@@ -142,5 +149,5 @@ abbrev pub overlay_at : Inbox → ℕ → List ℕ → List (Option Cell)
 overlay_at q start text = overlay start text (suc (greatest_stamp q.held)) q.held
 
 -- whether a text that isn't in order makes too many runs
-abbrev pub has_too_many : ℕ → List (Option Cell) → Bool
-has_too_many start over = nat_lt 0 start && nat_lt max_runs (length (runs over))
+abbrev pub has_too_many : ℕ → ℕ → List (Option Cell) → Bool
+has_too_many most start over = nat_lt 0 start && nat_lt most (length (runs over))

@@ -5,6 +5,7 @@ pub enum Placed {
     Advanced(usize),
     /// The piece came out of order, and is kept until the bytes before it come.
     Held,
-    /// Nothing changed: no byte of it is inside the window, or it would have made a seventeenth run out of order.
+    /// Nothing changed: no byte of it is inside the window, or it would have made a run more out of order than
+    /// are kept.
     NotKept,
 }

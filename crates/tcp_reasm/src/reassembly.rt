@@ -1,12 +1,12 @@
-ghost use Rattle.std.specs.Prelude.{◌≡◌, ◌≢◌, ◌↔◌, ◌⊎◌, ◌<◌, ◌≤◌, ◌+◌, ◌++◌, ◌≤ℤ◌, ◌<ℤ◌, ℕ, ℤ, pos, negsuc, min, length, take, drop, OnErr, IfOk, None, if◌then◌else◌, nat_le, []};
-ghost use Rattle.tcp_reasm.specs.Reassembly.{max_capacity, IsInbox, Inbox, empty_inbox, window, piece, after_place, place_answer, after_read, without_held, blocks, runs, max_blocks, max_runs, max_text_len, with_overlay, bytes_in_order, answer_for};
+ghost use Rattle.std.specs.Prelude.{vec_capacity, ◌≡◌, ◌≢◌, ◌↔◌, ◌⊎◌, ◌<◌, ◌≤◌, ◌+◌, ◌++◌, ◌≤ℤ◌, ◌<ℤ◌, ℕ, ℤ, pos, negsuc, min, length, take, drop, OnErr, IfOk, None, if◌then◌else◌, nat_le, []};
+ghost use Rattle.tcp_reasm.specs.Reassembly.{max_capacity, IsInbox, Inbox, empty_inbox, empty_with_runs, greatest_runs, window, piece, after_place, place_answer, after_read, without_held, blocks, runs, max_blocks, max_text_len, with_overlay, bytes_in_order, answer_for};
 ghost use Rattle.tcp_reasm.specs.Laws.{cell_at, KeepsBytes, TakesPiece, LeavesOthers, EndsAtMissing};
 ghost use Rattle.tcp_reasm.specs.Store.{inbox_of, runs_in, IsKept, overlay_at, has_too_many};
 
 use crate::lay::lay;
 use crate::piece::piece_of;
 use crate::ring::Ring;
-use crate::table::{MAX_RUNS, Run, edges_of, leave_rest, rest_of, union_of};
+use crate::table::{Run, count_rest, edges_of, leave_rest, union_of};
 use crate::{Placed, ReasmError};
 use arrayvec::ArrayVec;
 use std::alloc::{Allocator, Global};
@@ -15,13 +15,19 @@ use std::marker::Model;
 /// The greatest capacity, in bytes.
 pub const MAX_CAPACITY: usize = 1_048_576;
 
+/// How many runs are kept out of order where no number is given.
+pub const DEFAULT_RUNS: usize = 16;
+
+/// The greatest number of runs that can be kept out of order.
+pub const MAX_RUNS: usize = 4_096;
+
 /// The greatest number of blocks that are reported at once (RFC 2018, 3).
 const MAX_BLOCKS: usize = 4;
 
 /// A peer's text: the bytes that came in order and wait for the user, and those that came out of order and are kept
-/// until the bytes before them come (RFC 9293, 3.10.7.4). Only `new` allocates: one block of the capacity, which isn't
-/// touched before bytes come. It is a ring, in which a byte is written once, at its offset, and isn't moved when it
-/// comes in order.
+/// until the bytes before them come (RFC 9293, 3.10.7.4). Only making it allocates: one block of the capacity, which isn't
+/// touched before bytes come, and one for the table of the runs that are kept out of order, 8 bytes each. The first is a
+/// ring, in which a byte is written once, at its offset, and isn't moved when it comes in order.
 #[derive(Debug, Drop)]
 pub struct Reassembly<A: Allocator = Global> {
     /// As many bytes as are unread or inside the window, from 1 to [`MAX_CAPACITY`]: the unread bytes are first, and
@@ -29,21 +35,23 @@ pub struct Reassembly<A: Allocator = Global> {
     ring: Ring<A>,
     /// How many bytes came in order and aren't read yet.
     unread: usize,
-    /// The runs that are kept out of order, the newest first. No two of them touch.
-    table: ArrayVec<Run, 16>,
+    /// The greatest number of runs that are kept out of order, from 1 to [`MAX_RUNS`].
+    most_runs: usize,
+    /// The runs that are kept out of order, the newest first. No two of them touch. It has room for all.
+    table: Vec<Run, A>,
 }
 
 impl<A: Allocator> Model for Reassembly<A> {
     ghost Value = { Inbox };
 
-    ghost view = { λ r. inbox_of r.ring.bytes r.unread r.table.items };
+    ghost view = { λ r. inbox_of r.most_runs r.ring.bytes r.unread r.table.items };
 
-    ghost invariant = { λ r. IsKept r.ring.bytes r.unread (runs_in r.table.items) × (r.unread ≤ r.ring.ready) };
+    ghost invariant = { λ r. IsKept r.most_runs r.ring.bytes r.unread (runs_in r.table.items) × (r.unread ≤ r.ring.ready) × (r.most_runs ≤ vec_capacity r.table) };
 }
 
 impl Reassembly {
-    /// An empty reassembly of `capacity` bytes, on the global allocator. An error where the capacity is out of range,
-    /// or there is no memory.
+    /// An empty reassembly of `capacity` bytes, on the global allocator, that keeps at most [`DEFAULT_RUNS`] runs out of
+    /// order. An error where the capacity is out of range, or there is no memory.
     pub fn new(alloc: Global, capacity: usize) -> Result<Self, ReasmError>
         ensures ok { IfOk result (λ q. q ≡ empty_inbox capacity) }
         ensures sound { IfOk result IsInbox }
@@ -51,9 +59,20 @@ impl Reassembly {
     {
         Self::new_in(alloc, capacity)
     }
+
+    /// One as of [`new`](Reassembly::new) that keeps at most `runs` runs out of order, from 1 to [`MAX_RUNS`].
+    pub fn with_runs(alloc: Global, capacity: usize, runs: usize) -> Result<Self, ReasmError>
+        requires least { 1 ≤ runs }
+        requires most { runs ≤ greatest_runs }
+        ensures ok { IfOk result (λ q. q ≡ empty_with_runs capacity runs) }
+        ensures sound { IfOk result IsInbox }
+        ensures bad { (result ≡ Err ReasmError.BadCapacity) ↔ ((capacity < 1) ⊎ (max_capacity < capacity)) }
+    {
+        Self::with_runs_in(alloc, capacity, runs)
+    }
 }
 
-impl<A: Allocator> Reassembly<A> {
+impl<A: Allocator + Copy> Reassembly<A> {
     /// An empty reassembly of `capacity` bytes, in memory of `alloc`. An error where the capacity is out of range, or
     /// there is no memory.
     pub fn new_in(alloc: A, capacity: usize) -> Result<Self, ReasmError>
@@ -61,16 +80,49 @@ impl<A: Allocator> Reassembly<A> {
         ensures sound { IfOk result IsInbox }
         ensures bad { (result ≡ Err ReasmError.BadCapacity) ↔ ((capacity < 1) ⊎ (max_capacity < capacity)) }
     {
+        Self::with_runs_in(alloc, capacity, DEFAULT_RUNS)
+    }
+
+    /// One as of [`with_runs`](Reassembly::with_runs), in memory of `alloc`.
+    pub fn with_runs_in(alloc: A, capacity: usize, runs: usize) -> Result<Self, ReasmError>
+        requires least { 1 ≤ runs }
+        requires most { runs ≤ greatest_runs }
+        ensures ok { IfOk result (λ q. q ≡ empty_with_runs capacity runs) }
+        ensures sound { IfOk result IsInbox }
+        ensures bad { (result ≡ Err ReasmError.BadCapacity) ↔ ((capacity < 1) ⊎ (max_capacity < capacity)) }
+    {
+        Self::with_runs_of(alloc, alloc, capacity, runs)
+    }
+}
+
+impl<A: Allocator> Reassembly<A> {
+    /// One as of [`with_runs`](Reassembly::with_runs), whose bytes and whose table of runs have an allocator each.
+    pub fn with_runs_of(
+        bytes: A,
+        table: A,
+        capacity: usize,
+        runs: usize,
+    ) -> Result<Self, ReasmError>
+        requires least { 1 ≤ runs }
+        requires most { runs ≤ greatest_runs }
+        ensures ok { IfOk result (λ q. q ≡ empty_with_runs capacity runs) }
+        ensures sound { IfOk result IsInbox }
+        ensures bad { (result ≡ Err ReasmError.BadCapacity) ↔ ((capacity < 1) ⊎ (max_capacity < capacity)) }
+    {
         if capacity < 1 || capacity > MAX_CAPACITY {
             return Err(ReasmError::BadCapacity);
         }
-        let Ok(ring) = Ring::new_in(alloc, capacity) else {
+        let Ok(ring) = Ring::new_in(bytes, capacity) else {
+            return Err(ReasmError::NoMemory);
+        };
+        let Ok(table) = Vec::with_capacity(table, runs) else {
             return Err(ReasmError::NoMemory);
         };
         Ok(Reassembly {
             ring,
             unread: 0,
-            table: ArrayVec::new(),
+            most_runs: runs,
+            table,
         })
     }
 }
@@ -142,9 +194,9 @@ impl<A: Allocator> Reassembly<A> {
         requires within { start + length text.now + length self.old.unread ≤ self.old.capacity }
         requires most { self.old.capacity ≤ max_capacity }
         ensures after { let over = overlay_at self.old start text.now in
-            self.new ≡ (if has_too_many start over then self.old else with_overlay self.old over) }
+            self.new ≡ (if has_too_many self.old.most_runs start over then self.old else with_overlay self.old over) }
         ensures answer { let over = overlay_at self.old start text.now in
-            result ≡ (if has_too_many start over then Placed.NotKept else answer_for (length (bytes_in_order over))) }
+            result ≡ (if has_too_many self.old.most_runs start over then Placed.NotKept else answer_for (length (bytes_in_order over))) }
         ensures sound { IsInbox self.new }
     {
         if start == 0 {
@@ -178,13 +230,14 @@ impl<A: Allocator> Reassembly<A> {
         count as usize
     }
 
-    /// Keeps a text that begins after RCV.NXT. A seventeenth run isn't kept: that is tested before a byte is written.
+    /// Keeps a text that begins after RCV.NXT. What would make a run more than the greatest number isn't kept: that is
+    /// tested before a byte is written.
     fn hold(&mut self, start: usize, text: &[u8]) -> bool
         requires gap { 0 < start }
         requires some { 0 < length text.now }
         requires within { start + length text.now + length self.old.unread ≤ self.old.capacity }
         requires most { self.old.capacity ≤ max_capacity }
-        ensures kept { result ≡ nat_le (length (runs (overlay_at self.old start text.now))) max_runs }
+        ensures kept { result ≡ nat_le (length (runs (overlay_at self.old start text.now))) self.old.most_runs }
         ensures after { self.new ≡ (if result then with_overlay self.old (overlay_at self.old start text.now) else self.old) }
         ensures none { bytes_in_order (overlay_at self.old start text.now) ≡ [] }
         ensures sound { IsInbox self.new }
@@ -193,14 +246,14 @@ impl<A: Allocator> Reassembly<A> {
             from: start as u32,
             to: (start + text.len()) as u32,
         };
-        let mut table = rest_of(&self.table, piece, 0);
-        if table.len() >= MAX_RUNS {
+        if count_rest(&self.table, piece) >= self.most_runs {
             return false;
         }
-        table.insert(0, union_of(&self.table, piece));
+        let union = union_of(&self.table, piece);
         let unread = self.unread;
         lay(&mut self.ring, unread, &self.table, start, text);
-        self.table = table;
+        leave_rest(&mut self.table, piece, 0);
+        let _ = self.table.insert(0, union);
         true
     }
 
@@ -251,8 +304,8 @@ impl<A: Allocator> Reassembly<A> {
         ensures value { result.items ≡ blocks self.now }
         ensures sound { IsInbox self.now }
 
-        // At most this many runs are kept, and none begins at RCV.NXT.
-        ensures few { length (runs self.now.held) ≤ max_runs }
+        // No more runs are kept than its number, and none begins at RCV.NXT.
+        ensures few { length (runs self.now.held) ≤ self.now.most_runs }
         ensures missing { cell_at self.now.held 0 ≡ None }
     {
         let count = self.table.len().min(MAX_BLOCKS);
@@ -267,7 +320,7 @@ impl<A: Allocator> Reassembly<A> {
         MAX_BLOCKS.min(self.table.len())
     }
 
-    /// How many runs are kept out of order, at most 16.
+    /// How many runs are kept out of order.
     pub fn held_runs(&self) -> usize
         ensures { result ≡ length (runs self.now.held) }
     {
@@ -277,7 +330,7 @@ impl<A: Allocator> Reassembly<A> {
     /// Discards what is unread or kept out of order, and leaves the whole window, as a reset and an abort do (RFC 9293,
     /// 3.10.5 and 3.10.7.4).
     pub fn clear(&mut self)
-        ensures state { self.new ≡ empty_inbox self.old.capacity }
+        ensures state { self.new ≡ empty_with_runs self.old.capacity self.old.most_runs }
         ensures sound { IsInbox self.new }
     {
         self.unread = 0;

@@ -1,12 +1,10 @@
 //! The runs that are kept out of order: a table of intervals that don't touch, the newest first.
-ghost use Rattle.std.specs.Prelude.{◌≡◌, ℕ, ◌≤◌, length, map};
-ghost use Rattle.tcp_reasm.specs.Reassembly.{Run as Interval, max_runs, max_blocks};
+ghost use Rattle.std.specs.Prelude.{◌≡◌, ℕ, ◌≤◌, length, map, vec_capacity};
+ghost use Rattle.tcp_reasm.specs.Reassembly.{Run as Interval, max_blocks};
 ghost use Rattle.tcp_reasm.specs.Store.{run_of, runs_in, touches as touches_run, rest_of as others_of, joined as joined_with, union_of as whole_of, moved, held_to as held_up_to, gap_before, gap_to as gap_up_to};
 
 use arrayvec::ArrayVec;
-
-/// The greatest number of runs that are kept apart.
-pub(crate) const MAX_RUNS: usize = 16;
+use std::alloc::Allocator;
 
 /// An interval of offsets, counted from RCV.NXT.
 #[derive(Clone, Copy, Debug, Default)]
@@ -47,34 +45,31 @@ pub(crate) fn union_of(table: &[Run], piece: Run) -> Run
     union
 }
 
-/// The runs that a piece doesn't touch, now `count` bytes nearer to RCV.NXT.
-pub(crate) fn rest_of(table: &[Run], piece: Run, count: u32) -> ArrayVec<Run, 16>
-    requires { length table.now ≤ max_runs }
-    ensures items { runs_in result.items ≡ map (moved count) (others_of (run_of piece) (runs_in table.now)) }
-    ensures few { length result.items ≤ max_runs }
+/// How many runs a piece doesn't touch.
+pub(crate) fn count_rest(table: &[Run], piece: Run) -> usize
+    ensures { result ≡ length (others_of (run_of piece) (runs_in table.now)) }
 {
-    let mut rest = ArrayVec::new();
+    let mut count = 0;
     for run in table {
         if !touches(piece, *run) {
-            rest.push(Run {
-                from: run.from.saturating_sub(count),
-                to: run.to.saturating_sub(count),
-            });
+            count += 1;
         }
     }
-    rest
+    count
 }
 
-/// Leaves the runs that a piece doesn't touch, now `count` bytes nearer to RCV.NXT. Mostly none is kept: no table is
-/// moved then.
-pub(crate) fn leave_rest(table: &mut ArrayVec<Run, 16>, piece: Run, count: u32)
-    requires { length table.old.items ≤ max_runs }
+/// Leaves the runs that a piece doesn't touch, now `count` bytes nearer to RCV.NXT.
+pub(crate) fn leave_rest<A: Allocator>(table: &mut Vec<Run, A>, piece: Run, count: u32)
     ensures items { runs_in table.new.items ≡ map (moved count) (others_of (run_of piece) (runs_in table.old.items)) }
-    ensures few { length table.new.items ≤ max_runs }
+    ensures few { length table.new.items ≤ length table.old.items }
+    ensures capacity { vec_capacity table.new ≡ vec_capacity table.old }
 {
-    if !table.is_empty() {
-        *table = rest_of(table.as_slice(), piece, count);
-    }
+    table.retain_mut(|run| {
+        let kept = !touches(piece, *run);
+        run.from = run.from.saturating_sub(count);
+        run.to = run.to.saturating_sub(count);
+        kept
+    });
 }
 
 /// Where the run that an offset is in ends, or the offset itself where no byte is kept.

@@ -44,7 +44,7 @@ unfoldable pub use Rattle.tcp_conn.specs.Forms.{segment_of}
 pub use Rattle.tcp_conn.specs.Judgement.{acks_syn, count_numbers, is_acceptable_segment, is_allowed_shut, is_for_other, is_from_other, position_near}
 unfoldable pub use Rattle.tcp_conn.specs.Judgement.{acceptable_judgement, ack_judgement, closed_judgement, is_foreign, judgement, judgement_after_syn}
 unfoldable pub use Rattle.tcp_conn.specs.Judgement.{listen_judgement, phase_judgement, syn_sent_judgement, unacceptable_judgement}
-pub use Rattle.tcp_conn.specs.NewEnd.{new_end}
+pub use Rattle.tcp_conn.specs.NewEnd.{end_with_runs, new_end}
 pub use Rattle.tcp_conn.specs.State.{State, with_ack_pending}
 pub use Rattle.tcp_conn.specs.Timers.{after_gaps, marks_end, needs_probe, sends_again}
 unfoldable pub use Rattle.tcp_conn.specs.Timers.{after_reorder, after_resend_first, after_retransmit, after_time_wait}
@@ -67,11 +67,12 @@ pub use Rattle.tcp_halves.specs.Options.{shift_option}
 unfoldable pub use Rattle.tcp_halves.specs.Options.{link_of}
 pub use Rattle.tcp_conn.specs.Phase.{discards, has_peer, is_closed, is_ended, is_handshake, is_last_ack, is_listening, is_syn_received, is_syn_sent}
 pub use Rattle.tcp_conn.specs.Phase.{is_time_wait, phase_after_fin, phase_after_own_fin, resets_on_abort, sends_text, takes_text}
-pub use Rattle.tcp_halves.specs.Receiver.{after_delivering, HoldsWithin, is_fin_due, max_ordered, new_receiving, rcv_position, Receiving, with_fin}
+pub use Rattle.tcp_halves.specs.Receiver.{after_delivering, HoldsWithin, is_fin_due, max_ordered, new_receiving, rcv_position, Receiving, receiving_with_runs, with_fin}
 pub use Rattle.tcp_halves.specs.Receiver.{with_inbox, with_syn, without_bytes}
 unfoldable pub use Rattle.tcp_halves.specs.Receiver.{after_text}
 pub use Rattle.tcp_halves.specs.Sender.{Sending, acks_more, acks_unsent, count_below, count_sendable, count_unsent, end_of_text, is_fin_acked, is_newer}
-pub use Rattle.tcp_halves.specs.Sender.{is_probe_needed, new_sending, place_of, position_at, with_acked, with_all_resent, with_first_resent, with_gaps_resent}
+pub use Rattle.tcp_halves.specs.Sender.{is_probe_needed, new_sending, place_of, position_at, sending_with_runs, with_acked, with_all_resent, with_first_resent}
+pub use Rattle.tcp_halves.specs.Sender.{with_gaps_resent}
 pub use Rattle.tcp_halves.specs.Sender.{with_syn_acked, with_syn_sent, with_text, with_window, without_resend, without_text}
 unfoldable pub use Rattle.tcp_halves.specs.Sender.{after_ack, after_window_update}
 pub use Rattle.tcp_halves.specs.declared.config.Config.{Config}
@@ -108,7 +109,7 @@ pub use Rattle.tcp_reasm.proofs.Maximal.{runs_are_maximal_lem}
 pub use Rattle.tcp_reasm.proofs.Placing.{after_place-keeps}
 pub use Rattle.tcp_reasm.specs.Agreement.{Advances, Agrees, LiesAt, advance_of}
 pub use Rattle.tcp_reasm.specs.Laws.{IsHeld, IsMaximal, KeepsBytes, byte_at, byte_of}
-pub use Rattle.tcp_reasm.specs.Reassembly.{Cell, Inbox, Piece, Run, answer_for, bytes_in_order, greatest_stamp, insertion_by_stamp, is_refused, max_blocks}
+pub use Rattle.tcp_reasm.specs.Reassembly.{Cell, default_runs, Inbox, Piece, Run, answer_for, bytes_in_order, greatest_stamp, insertion_by_stamp, is_refused, max_blocks}
 pub use Rattle.tcp_reasm.specs.Reassembly.{overlay, overlay_of, piece, runs, window, with_overlay, with_ranks_from}
 unfoldable pub use Rattle.tcp_reasm.specs.Reassembly.{after_place, after_read, blocks, place_answer, runs_newest_first, with_ranks}
 pub use Rattle.tcp_reasm.specs.declared.placed.Placed.TheVariants.{Advanced, NotKept}
@@ -128,12 +129,13 @@ pub use Rattle.tcp_replay.specs.Alone.{FitsPhase, IsAlone, IsAnswering, IsDone, 
 pub use Rattle.tcp_replay.specs.Events.{Abort, Acknowledge, Close, Connect, Damage, Deliver, Emit, EventContent, HasBytes, IsDamage, Receive, Send}
 pub use Rattle.tcp_replay.specs.Events.{EmitAcknowledgement, ResendFirst, Timer, event_content, side_of}
 pub use Rattle.tcp_replay.specs.Emissions.{due_for, segment_as}
-pub use Rattle.tcp_replay.specs.OneEnd.{AcknowledgesInOrder, Came, CameIn, DeliversWhatCame, OneEndIsTrue, SendsItsUsers, TookSyn, count_come, rcv_position_after}
+pub use Rattle.tcp_replay.specs.OneEnd.{AcknowledgesInOrderWith, Came, CameInWith, count_come, DeliversWhatCameWith, OneEndIsTrueWithRuns, rcv_position_with}
+pub use Rattle.tcp_replay.specs.OneEnd.{SendsItsUsers, TookSynWith}
 unfoldable pub use Rattle.tcp_replay.specs.OneEnd.{count_in_order}
-pub use Rattle.tcp_replay.specs.Safe.{EmitsTruth, EveryRunIsSafe, FindsDamage, has_discarded, HasTrueHints, HintsAreTrue, IsSafe, IsSafeDirection}
+pub use Rattle.tcp_replay.specs.Safe.{EmitsTruth, EveryRunIsSafe, EveryRunIsSafeWithRuns, FindsDamage, has_discarded, HasTrueHints, HintsAreTrue, IsSafe, IsSafeDirection}
 pub use Rattle.tcp_replay.specs.Safe.{rcv_position_of, unread_of, witness_of}
-pub use Rattle.tcp_replay.specs.Solo.{after_solo, bytes_put_out, bytes_taken, delivers_end, end_after, is_close, IsLogOf, run_alone, segment_emitted}
-pub use Rattle.tcp_replay.specs.Solo.{segments, solo_outcome, solo_start, SoloState}
+pub use Rattle.tcp_replay.specs.Solo.{after_solo, alone_with_runs, bytes_put_out, bytes_taken, delivers_end, end_after, is_close, IsLogOf, segment_emitted}
+pub use Rattle.tcp_replay.specs.Solo.{segments, solo_outcome, solo_with_runs, SoloState}
 unfoldable pub use Rattle.tcp_replay.specs.Solo.{segment_alone, segment_due, solo_run}
 pub use Rattle.tcp_replay.specs.SoloEvents.{Arrive, HasRanges, SoloContent, solo_content}
 pub use Rattle.tcp_replay.specs.Sound.{AreBlocksBehind, AreOwn, AreSoundEnds, DeliversPrefix, IsBlockBehind, IsOwn, IsSound, IsSoundEnd, IsSoundPair}
@@ -141,9 +143,9 @@ pub use Rattle.tcp_replay.specs.Sound.{KeepBothHints, KeepsHints, SpeaksTo, Take
 pub use Rattle.tcp_replay.specs.Truthful.{HasPosition, IsOfUser, IsTrueAck, IsTrueBlock, IsTruthful, StandsAt, Witness}
 pub use Rattle.tcp_replay.specs.World.{acks_late, address_of, age_refusal, arrival_outcome, both, bytes_with_damage, damage_refusal}
 pub use Rattle.tcp_replay.specs.World.{delivery_refusal, Effect, flags_in, front_taken, grows_for, HasFault, is_end_of_stream, is_expired, is_late}
-pub use Rattle.tcp_replay.specs.World.{is_missing, KeepsAllSegments, later, max_life, NamesFault, new_party, new_world, new_world_with, other, outcome_of}
+pub use Rattle.tcp_replay.specs.World.{is_missing, KeepsAllSegments, later, max_life, NamesFault, new_party, new_world, new_world_with, other, outcome_of, party_with_runs}
 pub use Rattle.tcp_replay.specs.World.{outcome_out, party_of, party_out, PartyState, refusal_of, segment_at, sent_at, sent_by, SentSegment, seq_in}
-pub use Rattle.tcp_replay.specs.World.{stay_or, stop_or, StopsForMemory, world_after, world_from, world_with_effect, WorldState}
+pub use Rattle.tcp_replay.specs.World.{stay_or, stop_or, StopsForMemory, world_after, world_from, world_with_effect, world_with_runs, WorldState}
 unfoldable pub use Rattle.tcp_replay.specs.World.{effect_of, party_after_abort, party_after_acknowledge, party_after_arrival, party_after_close}
 unfoldable pub use Rattle.tcp_replay.specs.World.{party_after_connect, party_after_emission, party_after_listen, party_after_receive, party_after_send}
 unfoldable pub use Rattle.tcp_replay.specs.World.{party_after_ack_alone, party_after_resend_first, party_after_timer, run_of, stop_of, world_after_all}

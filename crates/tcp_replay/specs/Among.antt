@@ -15,7 +15,7 @@ use Rattle.tcp_conn.specs.Judgement.{judgement}
 use Rattle.tcp_conn.specs.State.{State}
 use Rattle.tcp_replay.specs.declared.event.Side.{Side}
 use Rattle.tcp_replay.specs.Events.{EventContent, HasBytes}
-use Rattle.tcp_replay.specs.World.{WorldState, PartyState, party_of, other, world_from, world_after, new_world_with, max_life}
+use Rattle.tcp_replay.specs.World.{WorldState, PartyState, party_of, other, world_from, world_after, new_world_with, world_with_runs, max_life}
 use Rattle.tcp_replay.specs.Safe.{IsSafe, HintsAreTrue, FindsDamage}
 
 -- ---- LET IN: the rules that open or end a connection, or take anything of a segment (RFC 9293, 3.10.7)
@@ -104,3 +104,12 @@ EveryRunAmongStrangersIsSafe =
     (life : ℕ) (a b : Config) (list : List Happening) → life ≤ max_life → IsConfig a → IsConfig b → AreFair (new_world_with life a b) list
     → IsSafe (after_happenings (new_world_with life a b) list) × HintsAreTrue (after_happenings (new_world_with life a b) list)
     × FindsDamage (after_happenings (new_world_with life a b) list)
+
+-- so it is whatever number of runs either end keeps out of order and remembers of its peer's
+abbrev pub EveryRunAmongStrangersIsSafeWithRuns : Type 0
+EveryRunAmongStrangersIsSafeWithRuns =
+    (life : ℕ) (a b : Config) (runs_a runs_b : ℕ) (list : List Happening) → life ≤ max_life → IsConfig a → IsConfig b
+    → AreFair (world_with_runs life a b runs_a runs_b) list
+    → IsSafe (after_happenings (world_with_runs life a b runs_a runs_b) list)
+    × HintsAreTrue (after_happenings (world_with_runs life a b runs_a runs_b) list)
+    × FindsDamage (after_happenings (world_with_runs life a b runs_a runs_b) list)

@@ -13,7 +13,7 @@ use Rattle.tcp_conn.specs.Phase.{discards}
 use Rattle.tcp_conn.specs.State.{position_at}
 use Rattle.tcp_replay.specs.declared.outcome.Outcome.TheVariants as outcomes
 use Rattle.tcp_replay.specs.Events.{EventContent, HasBytes, IsDamage}
-use Rattle.tcp_replay.specs.World.{WorldState, PartyState, SentSegment, max_life, new_world_with, refusal_of, outcome_of, world_with_effect, run_of, world_after_all}
+use Rattle.tcp_replay.specs.World.{WorldState, PartyState, SentSegment, max_life, new_world_with, world_with_runs, refusal_of, outcome_of, world_with_effect, run_of, world_after_all}
 use Rattle.tcp_replay.specs.Truthful.{Witness, HasPosition, IsTruthful, StandsAt, HasTrueBlocks}
 
 abbrev pub unread_of : PartyState → List ℕ
@@ -109,3 +109,15 @@ EveryRunIsSafe =
     → IsSafe (run_of (new_world_with life a b) list) × IsSafe (world_after_all (new_world_with life a b) list)
     × HintsAreTrue (run_of (new_world_with life a b) list) × HintsAreTrue (world_after_all (new_world_with life a b) list)
     × FindsDamage (run_of (new_world_with life a b) list) × FindsDamage (world_after_all (new_world_with life a b) list)
+
+-- so it is whatever number of runs either end keeps out of order and remembers of its peer's
+abbrev pub IsSafeRun : WorldState → List EventContent → Type 0
+IsSafeRun w list =
+    IsSafe (run_of w list) × IsSafe (world_after_all w list)
+    × HintsAreTrue (run_of w list) × HintsAreTrue (world_after_all w list)
+    × FindsDamage (run_of w list) × FindsDamage (world_after_all w list)
+
+abbrev pub EveryRunIsSafeWithRuns : Type 0
+EveryRunIsSafeWithRuns =
+    (life : ℕ) (a b : Config) (runs_a runs_b : ℕ) (list : List EventContent) → life ≤ max_life → IsConfig a → IsConfig b
+    → AllByRecursion HasBytes list → IsSafeRun (world_with_runs life a b runs_a runs_b) list

@@ -5,7 +5,8 @@ use Rattle.tcp_numbers.specs.declared.addr.Addr.{Addr}
 use Rattle.tcp_halves.specs.declared.config.Config.{Config}
 use Rattle.tcp_halves.specs.Config.{IsGoodConfig}
 use Rattle.tcp_conn.specs.State.{State}
-use Rattle.tcp_conn.specs.NewEnd.{new_end}
+use Rattle.tcp_conn.specs.NewEnd.{end_with_runs}
+use Rattle.tcp_reasm.specs.Reassembly.{default_runs}
 use Rattle.tcp_conn.specs.Calls.{opening_answer, after_connect, after_listen, send_answer, after_send, receive_answer, after_receive, received_bytes, close_answer, after_close, abort_answer, after_abort, after_acknowledge}
 use Rattle.tcp_conn.specs.Timers.{timer_answer, after_timer, sends_again, after_resend_first}
 use Rattle.tcp_conn.specs.Due.{due_of, ack_alone}
@@ -34,8 +35,12 @@ pub record SoloState : Type 0 where
   -- the outcome of each event
   pub outcomes : List Outcome
 
+-- a new end that keeps at most this many runs out of order, and remembers as many of its peer's (RFC 2018, 5)
+abbrev pub solo_with_runs : Config → ℕ → SoloState
+solo_with_runs c runs = record { endpoint = end_with_runs c runs; accepted = []; delivered = []; closed = false; ended = false; emitted = []; outcomes = [] }
+
 abbrev pub solo_start : Config → SoloState
-solo_start c = record { endpoint = new_end c; accepted = []; delivered = []; closed = false; ended = false; emitted = []; outcomes = [] }
+solo_start c = solo_with_runs c default_runs
 
 -- THE END after an event
 abbrev pub end_after : State → SoloContent → State
@@ -115,9 +120,12 @@ unfoldable pub solo_run : SoloState → List SoloContent → SoloState
 solo_run x [] = x
 solo_run x (event ∷ events) = solo_run (after_solo x event) events
 
--- one end from its Config on
+-- one end from its Config on, and the number of runs that it keeps
+abbrev pub alone_with_runs : Config → ℕ → List SoloContent → SoloState
+alone_with_runs c runs list = solo_run (solo_with_runs c runs) list
+
 abbrev pub run_alone : Config → List SoloContent → SoloState
-run_alone c list = solo_run (solo_start c) list
+run_alone c list = alone_with_runs c default_runs list
 
 -- ---- what the code returns
 

@@ -13,8 +13,9 @@ use Rattle.tcp_conn.specs.declared.outcome.Received.TheVariants.{Bytes, EndOfStr
 use Rattle.tcp_conn.specs.declared.phase.Timer.{Timer as Which}
 use Rattle.tcp_conn.specs.State.{State}
 use Rattle.tcp_halves.specs.Config.{default_limit, HasBadCapacity, HasBadMss, HasBadShift, HasBadLimit, IsGoodConfig}
-use Rattle.tcp_conn.specs.NewEnd.{new_end}
+use Rattle.tcp_conn.specs.NewEnd.{end_with_runs}
 use Rattle.tcp_halves.specs.Receiver.{rcv_position}
+use Rattle.tcp_reasm.specs.Reassembly.{default_runs}
 use Rattle.tcp_conn.specs.Calls.{opening_answer, after_connect, after_listen, send_answer, after_send, receive_answer, after_receive, received_bytes, close_answer, after_close, abort_answer, after_abort, after_acknowledge}
 use Rattle.tcp_conn.specs.Timers.{timer_answer, after_timer, sends_again, after_resend_first}
 use Rattle.tcp_conn.specs.declared.emit.due.Due.{Due}
@@ -74,11 +75,19 @@ both life a b = record { life = life; a = a; b = b }
 abbrev pub max_life : ℕ
 max_life = 2 ^ 31
 
+-- its end keeps at most this many runs out of order, and remembers as many of its peer's (RFC 2018, 5)
+abbrev pub party_with_runs : Config → ℕ → PartyState
+party_with_runs c runs = record { endpoint = end_with_runs c runs; sent = []; accepted = []; delivered = []; closed = false; ended = false }
+
 abbrev pub new_party : Config → PartyState
-new_party c = record { endpoint = new_end c; sent = []; accepted = []; delivered = []; closed = false; ended = false }
+new_party c = party_with_runs c default_runs
+
+-- each end has a number of its own
+abbrev pub world_with_runs : ℕ → Config → Config → ℕ → ℕ → WorldState
+world_with_runs life a b runs_a runs_b = both life (party_with_runs a runs_a) (party_with_runs b runs_b)
 
 abbrev pub new_world_with : ℕ → Config → Config → WorldState
-new_world_with life a b = both life (new_party a) (new_party b)
+new_world_with life a b = world_with_runs life a b default_runs default_runs
 
 abbrev pub new_world : Config → Config → WorldState
 new_world a b = new_world_with max_life a b

@@ -24,5 +24,5 @@ pub use event::{Event, Side};
 pub use headline::{every_run_among_strangers_is_safe, every_run_is_safe, one_end_is_true};
 pub use outcome::{Outcome, SoloError, StepError, WorldError};
 pub use solo_event::SoloEvent;
-pub use solo_log::{SoloLog, solo, solo_in};
+pub use solo_log::{SoloLog, solo, solo_in, solo_with_runs, solo_with_runs_in};
 pub use world::{MAX_LIFE, World};

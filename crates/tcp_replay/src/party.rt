@@ -1,11 +1,12 @@
-ghost use Rattle.std.specs.Prelude.{◌≡◌, ◌<◌, ◌↔◌, ◌||◌, length, OnOk, OnErr, IfOk, IfErr, IfSome, IfNone, IsOk};
+ghost use Rattle.std.specs.Prelude.{◌≡◌, ◌<◌, ◌≤◌, ◌↔◌, ◌||◌, length, OnOk, OnErr, IfOk, IfErr, IfSome, IfNone, IsOk};
 ghost use Rattle.tcp_wire.specs.Checksum.{AreBytes};
 ghost use Rattle.tcp_halves.specs.Config.{HasBadCapacity, HasBadMss, HasBadShift, HasBadLimit, IsGoodConfig, IsConfig};
 ghost use Rattle.tcp_conn.specs.Calls.{opening_answer, send_answer, receive_answer, close_answer, abort_answer};
 ghost use Rattle.tcp_conn.specs.Timers.{sends_again, timer_answer};
 ghost use Rattle.tcp_conn.specs.Arrival.{arrival_answer};
+ghost use Rattle.tcp_reasm.specs.Reassembly.{greatest_runs};
 ghost use Rattle.tcp_replay.specs.Emissions.{due_for};
-ghost use Rattle.tcp_replay.specs.World.{PartyState, new_party, address_of, party_after_connect, party_after_listen, party_after_send, is_end_of_stream, party_after_receive, party_after_close, party_after_abort, party_after_acknowledge, party_after_timer, party_after_resend_first, party_out, outcome_out, party_after_arrival, arrival_outcome, sent_at, segment_at, bytes_with_damage, delivery_refusal, damage_refusal};
+ghost use Rattle.tcp_replay.specs.World.{PartyState, party_with_runs, address_of, party_after_connect, party_after_listen, party_after_send, is_end_of_stream, party_after_receive, party_after_close, party_after_abort, party_after_acknowledge, party_after_timer, party_after_resend_first, party_out, outcome_out, party_after_arrival, arrival_outcome, sent_at, segment_at, bytes_with_damage, delivery_refusal, damage_refusal};
 
 use crate::growth::{emit_for, receive_to, send_from};
 use crate::outcome::{Outcome, StepError};
@@ -46,9 +47,11 @@ pub(crate) fn ended_by(ended: bool, answer: Result<Received, CallError>) -> bool
 }
 
 impl<A: Allocator + Copy> Party<A> {
-    /// A new end before any call.
-    pub(crate) fn new_in(alloc: A, config: Config) -> Result<Self, ConfigError>
-        ensures new { IfOk result (λ p. p ≡ new_party config) }
+    /// A new end before any call, with this number of runs.
+    pub(crate) fn new_in(alloc: A, config: Config, runs: usize) -> Result<Self, ConfigError>
+        requires least { 1 ≤ runs }
+        requires most { runs ≤ greatest_runs }
+        ensures new { IfOk result (λ p. p ≡ party_with_runs config runs) }
         ensures bad_capacity { (result ≡ Err ConfigError.BadCapacity) ↔ HasBadCapacity config }
         ensures bad_mss { (result ≡ Err ConfigError.BadMss) ↔ HasBadMss config }
         ensures bad_shift { (result ≡ Err ConfigError.BadShift) ↔ HasBadShift config }
@@ -56,7 +59,7 @@ impl<A: Allocator + Copy> Party<A> {
         ensures good { (result ≡ Err ConfigError.NoMemory) → IsGoodConfig config }
         ensures made { OnOk result (IsConfig config) }
     {
-        let endpoint = Endpoint::new_in(alloc, config)?;
+        let endpoint = Endpoint::with_runs_in(alloc, config, runs)?;
         Ok(Party {
             endpoint,
             sent: Vec::new(alloc),

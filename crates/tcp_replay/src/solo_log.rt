@@ -1,13 +1,14 @@
-ghost use Rattle.std.specs.Prelude.{false, ◌≡◌, ◌<◌, ◌++◌, ◌||◌, ◌∷◌, [], ◌↔◌, length, map, option_to_list, option_map, Ok, Err, IfOk, IfErr, OnOk, OnErr};
+ghost use Rattle.std.specs.Prelude.{false, ◌≡◌, ◌<◌, ◌≤◌, ◌++◌, ◌||◌, ◌∷◌, [], ◌↔◌, length, map, option_to_list, option_map, Ok, Err, IfOk, IfErr, OnOk, OnErr};
 ghost use Rattle.tcp_wire.specs.Checksum.{AreBytes};
 ghost use Rattle.tcp_conn.specs.Arrival.{after_arrival, arrival_answer};
 ghost use Rattle.tcp_halves.specs.Config.{HasBadCapacity, HasBadMss, HasBadShift, HasBadLimit, IsGoodConfig, IsConfig};
 ghost use Rattle.tcp_conn.specs.Calls.{receive_answer, received_bytes, after_receive};
 ghost use Rattle.tcp_conn.specs.Emission.{after_due};
-ghost use Rattle.tcp_conn.specs.NewEnd.{new_end};
-ghost use Rattle.tcp_replay.specs.OneEnd.{SendsItsUsers, DeliversWhatCame, AcknowledgesInOrder};
+ghost use Rattle.tcp_conn.specs.NewEnd.{end_with_runs};
+ghost use Rattle.tcp_reasm.specs.Reassembly.{greatest_runs};
+ghost use Rattle.tcp_replay.specs.OneEnd.{SendsItsUsers, DeliversWhatCame, DeliversWhatCameWith, AcknowledgesInOrder, AcknowledgesInOrderWith};
 ghost use Rattle.tcp_replay.specs.Emissions.{due_for, segment_as};
-ghost use Rattle.tcp_replay.specs.Solo.{end_after, bytes_taken, bytes_put_out, delivers_end, segment_emitted, solo_outcome, run_alone, segments, IsLogOf, IsWantOfMemory};
+ghost use Rattle.tcp_replay.specs.Solo.{end_after, bytes_taken, bytes_put_out, delivers_end, segment_emitted, solo_outcome, alone_with_runs, run_alone, segments, IsLogOf, IsWantOfMemory};
 ghost use Rattle.tcp_replay.specs.SoloEvents.{solo_content, HasRanges};
 ghost use Rattle.tcp_replay.specs.World.{is_end_of_stream};
 
@@ -17,6 +18,7 @@ use crate::party::ended_by;
 use crate::solo_event::SoloEvent;
 use std::alloc::{Allocator, Global};
 use tcp_conn::{Config, ConfigError, Endpoint};
+use tcp_reasm::DEFAULT_RUNS;
 use tcp_wire::Addr;
 
 /// The outcomes of all events of one end.
@@ -46,9 +48,11 @@ fn arrive<A: Allocator>(endpoint: &mut Endpoint<A>, src: Addr, dst: Addr, bytes:
 }
 
 impl<A: Allocator + Copy> SoloLog<A> {
-    /// A new end before any event.
-    fn new_in(alloc: A, config: Config) -> Result<Self, ConfigError>
-        ensures endpoint { IfOk result (λ log. log.endpoint ≡ new_end config) }
+    /// A new end before any event, with this number of runs.
+    fn new_in(alloc: A, config: Config, runs: usize) -> Result<Self, ConfigError>
+        requires least { 1 ≤ runs }
+        requires most { runs ≤ greatest_runs }
+        ensures endpoint { IfOk result (λ log. log.endpoint ≡ end_with_runs config runs) }
         ensures accepted { IfOk result (λ log. log.accepted.items ≡ []) }
         ensures delivered { IfOk result (λ log. log.delivered.items ≡ []) }
         ensures emitted { IfOk result (λ log. log.emitted.items ≡ []) }
@@ -61,7 +65,7 @@ impl<A: Allocator + Copy> SoloLog<A> {
         ensures good { (result ≡ Err ConfigError.NoMemory) → IsGoodConfig config }
         ensures made { OnOk result (IsConfig config) }
     {
-        let endpoint = Endpoint::new_in(alloc, config)?;
+        let endpoint = Endpoint::with_runs_in(alloc, config, runs)?;
         Ok(SoloLog {
             accepted: Vec::new(alloc),
             delivered: Vec::new(alloc),
@@ -176,6 +180,33 @@ pub fn solo(alloc: Global, config: Config, events: &[SoloEvent]) -> Result<SoloL
     solo_in(alloc, config, events)
 }
 
+/// One end as of [`solo`], with a number of runs, from 1 to [`MAX_RUNS`](tcp_reasm::MAX_RUNS): at most as many runs of
+/// bytes are kept out of order (RFC 9293, 3.10.7.4), and at most as many runs that the peer reported are remembered (RFC
+/// 2018, 5).
+pub fn solo_with_runs(
+    alloc: Global,
+    config: Config,
+    runs: usize,
+    events: &[SoloEvent],
+) -> Result<SoloLog, SoloError>
+    requires least { 1 ≤ runs }
+    requires most { runs ≤ greatest_runs }
+    // The log is the fold of calls, timers, emissions and arrivals over the events.
+    ensures log { IfOk result (λ log. IsLogOf log (alone_with_runs config runs (map solo_content events.now))) }
+    ensures sends_its_users { IfOk result (λ log. SendsItsUsers config log.accepted.items (alone_with_runs config runs (map solo_content events.now)).closed (segments log.emitted.items)) }
+    ensures delivers_what_came { IfOk result (λ log. DeliversWhatCameWith config runs (map solo_content events.now) log.delivered.items) }
+    ensures acknowledges_in_order { OnOk result (AcknowledgesInOrderWith config runs (map solo_content events.now)) }
+    ensures bad_capacity { (result ≡ Err (SoloError.Config ConfigError.BadCapacity)) ↔ HasBadCapacity config }
+    ensures bad_mss { (result ≡ Err (SoloError.Config ConfigError.BadMss)) ↔ HasBadMss config }
+    ensures bad_shift { (result ≡ Err (SoloError.Config ConfigError.BadShift)) ↔ HasBadShift config }
+    ensures bad_limit { (result ≡ Err (SoloError.Config ConfigError.BadLimit)) ↔ HasBadLimit config }
+    ensures good { (result ≡ Err (SoloError.Config ConfigError.NoMemory)) → IsGoodConfig config }
+    // Once the end is made, only memory can be missing, at any of the events.
+    ensures fault { IfErr result (IsWantOfMemory config (length events.now)) }
+{
+    solo_with_runs_in(alloc, config, runs, events)
+}
+
 /// One end as of [`solo`], with memory of this allocator.
 pub fn solo_in<A: Allocator + Copy>(
     alloc: A,
@@ -195,7 +226,32 @@ pub fn solo_in<A: Allocator + Copy>(
     // Once the end is made, only memory can be missing, at any of the events.
     ensures fault { IfErr result (IsWantOfMemory config (length events.now)) }
 {
-    let mut log = match SoloLog::new_in(alloc, config) {
+    solo_with_runs_in(alloc, config, DEFAULT_RUNS, events)
+}
+
+/// One end as of [`solo_with_runs`], with memory of this allocator.
+pub fn solo_with_runs_in<A: Allocator + Copy>(
+    alloc: A,
+    config: Config,
+    runs: usize,
+    events: &[SoloEvent],
+) -> Result<SoloLog<A>, SoloError>
+    requires least { 1 ≤ runs }
+    requires most { runs ≤ greatest_runs }
+    // The log is the fold of calls, timers, emissions and arrivals over the events.
+    ensures log { IfOk result (λ log. IsLogOf log (alone_with_runs config runs (map solo_content events.now))) }
+    ensures sends_its_users { IfOk result (λ log. SendsItsUsers config log.accepted.items (alone_with_runs config runs (map solo_content events.now)).closed (segments log.emitted.items)) }
+    ensures delivers_what_came { IfOk result (λ log. DeliversWhatCameWith config runs (map solo_content events.now) log.delivered.items) }
+    ensures acknowledges_in_order { OnOk result (AcknowledgesInOrderWith config runs (map solo_content events.now)) }
+    ensures bad_capacity { (result ≡ Err (SoloError.Config ConfigError.BadCapacity)) ↔ HasBadCapacity config }
+    ensures bad_mss { (result ≡ Err (SoloError.Config ConfigError.BadMss)) ↔ HasBadMss config }
+    ensures bad_shift { (result ≡ Err (SoloError.Config ConfigError.BadShift)) ↔ HasBadShift config }
+    ensures bad_limit { (result ≡ Err (SoloError.Config ConfigError.BadLimit)) ↔ HasBadLimit config }
+    ensures good { (result ≡ Err (SoloError.Config ConfigError.NoMemory)) → IsGoodConfig config }
+    // Once the end is made, only memory can be missing, at any of the events.
+    ensures fault { IfErr result (IsWantOfMemory config (length events.now)) }
+{
+    let mut log = match SoloLog::new_in(alloc, config, runs) {
         Ok(log) => log,
         Err(fault) => return Err(SoloError::Config(fault)),
     };

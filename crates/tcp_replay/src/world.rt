@@ -1,8 +1,9 @@
 ghost use Rattle.std.specs.Prelude.{◌≡◌, ◌≢◌, ◌↔◌, ◌≤◌, true, length, None, Some, OnOk, OnErr, IfOk, IfErr, IfSome, IfNone, map, option_map, slice_get};
 ghost use Rattle.std.specs.List.{AllByRecursion};
 ghost use Rattle.tcp_halves.specs.Config.{IsConfig};
+ghost use Rattle.tcp_reasm.specs.Reassembly.{greatest_runs};
 ghost use Rattle.tcp_replay.specs.Events.{event_content, HasBytes, IsDamage};
-ghost use Rattle.tcp_replay.specs.World.{WorldState, KeepsAllSegments, max_life, new_world, new_world_with, both, party_of, effect_of, world_with_effect, refusal_of, outcome_of, grows_for, step_answer, world_after, run_of, stop_of, StopsForMemory, HasGoodConfigs, NamesFault};
+ghost use Rattle.tcp_replay.specs.World.{WorldState, KeepsAllSegments, max_life, new_world, new_world_with, world_with_runs, both, party_of, effect_of, world_with_effect, refusal_of, outcome_of, grows_for, step_answer, world_after, run_of, stop_of, StopsForMemory, HasGoodConfigs, NamesFault};
 ghost use Rattle.tcp_replay.specs.Safe.{IsSafe, HintsAreTrue};
 
 use crate::event::{Event, Side};
@@ -11,6 +12,7 @@ use crate::party::{Party, connect, damage, deliver};
 use std::alloc::{Allocator, Global};
 use std::marker::Model;
 use tcp_conn::{Arrival, Config, ConfigError, Endpoint};
+use tcp_reasm::DEFAULT_RUNS;
 use tcp_wire::DecodeError;
 
 /// The longest lifetime of segments, in positions of a direction: 2^31 (RFC 9293, 3.4).
@@ -121,6 +123,33 @@ impl World {
     {
         Self::with_lifetime_in(alloc, a, b, life)
     }
+
+    /// Two new ends as of [`with_lifetime`](World::with_lifetime), each with a number of runs, from 1 to
+    /// [`MAX_RUNS`](tcp_reasm::MAX_RUNS): at most as many runs of bytes are kept out of order (RFC 9293, 3.10.7.4), and
+    /// at most as many runs that the peer reported are remembered (RFC 2018, 5).
+    pub fn with_runs(
+        alloc: Global,
+        a: Config,
+        b: Config,
+        life: u32,
+        runs_a: usize,
+        runs_b: usize,
+    ) -> Result<Self, WorldError>
+        requires least { 2 ≤ life }
+        requires most { life ≤ max_life }
+        requires least_a { 1 ≤ runs_a }
+        requires most_a { runs_a ≤ greatest_runs }
+        requires least_b { 1 ≤ runs_b }
+        requires most_b { runs_b ≤ greatest_runs }
+        ensures new { IfOk result (λ w. w ≡ world_with_runs life a b runs_a runs_b) }
+        ensures safe { IfOk result IsSafe }
+        ensures hints { IfOk result HintsAreTrue }
+        ensures good { OnOk result (HasGoodConfigs a b) }
+        ensures made { OnOk result (IsConfig a × IsConfig b) }
+        ensures fault { NamesFault a b result }
+    {
+        Self::with_runs_in(alloc, a, b, life, runs_a, runs_b)
+    }
 }
 
 impl<A: Allocator + Copy> World<A> {
@@ -147,11 +176,36 @@ impl<A: Allocator + Copy> World<A> {
         ensures made { OnOk result (IsConfig a × IsConfig b) }
         ensures fault { NamesFault a b result }
     {
-        let first = match Party::new_in(alloc, a) {
+        Self::with_runs_in(alloc, a, b, life, DEFAULT_RUNS, DEFAULT_RUNS)
+    }
+
+    /// [`World::with_runs`] with memory of this allocator.
+    pub fn with_runs_in(
+        alloc: A,
+        a: Config,
+        b: Config,
+        life: u32,
+        runs_a: usize,
+        runs_b: usize,
+    ) -> Result<Self, WorldError>
+        requires least { 2 ≤ life }
+        requires most { life ≤ max_life }
+        requires least_a { 1 ≤ runs_a }
+        requires most_a { runs_a ≤ greatest_runs }
+        requires least_b { 1 ≤ runs_b }
+        requires most_b { runs_b ≤ greatest_runs }
+        ensures new { IfOk result (λ w. w ≡ world_with_runs life a b runs_a runs_b) }
+        ensures safe { IfOk result IsSafe }
+        ensures hints { IfOk result HintsAreTrue }
+        ensures good { OnOk result (HasGoodConfigs a b) }
+        ensures made { OnOk result (IsConfig a × IsConfig b) }
+        ensures fault { NamesFault a b result }
+    {
+        let first = match Party::new_in(alloc, a, runs_a) {
             Ok(party) => party,
             Err(fault) => return Err(WorldError::Config(Side::A, fault)),
         };
-        let second = match Party::new_in(alloc, b) {
+        let second = match Party::new_in(alloc, b, runs_b) {
             Ok(party) => party,
             Err(fault) => return Err(WorldError::Config(Side::B, fault)),
         };

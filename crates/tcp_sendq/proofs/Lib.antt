@@ -1,4 +1,5 @@
 pub mod Calls
+pub mod Halves
 pub mod Intervals
 pub mod Joined
 pub mod Kept

@@ -21,7 +21,7 @@ refilled = refl
 
 -- ten bytes, of which the peer reports those at 2 and 3 as received, and then the one at 4
 abbrev ten : Queue
-ten = record { capacity = 16; bytes = replicate 10 0; marks = replicate 10 false }
+ten = record { capacity = 16; most_runs = 16; bytes = replicate 10 0; marks = replicate 10 false }
 
 unfoldable told : Queue
 told = after_mark (after_mark ten 2 4) 4 5
@@ -67,7 +67,7 @@ sixteen_begun : runs_begun sixteen ≡ 16
 sixteen_begun = refl
 
 abbrev crowded : Queue
-crowded = record { capacity = 40; bytes = replicate 36 0; marks = sixteen ++ replicate 4 false }
+crowded = record { capacity = 40; most_runs = 16; bytes = replicate 36 0; marks = sixteen ++ replicate 4 false }
 
 -- a 17th can't be kept, one that continues another can
 no_seventeenth : can_mark crowded 33 35 ≡ false

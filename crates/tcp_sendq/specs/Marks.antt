@@ -1,7 +1,7 @@
 -- The marked bytes of a queue (RFC 2018, 5) as a table of intervals: its view, and what the private calls on the table do.
 use Rattle.std.specs.Prelude.{ℕ, suc, ◌+◌, ◌-◌, ◌<◌, ◌≤◌, min, max, Bool, false, ◌&&◌, ◌||◌, nat_lt, nat_le, if◌then◌else◌, List, [], ◌∷◌, map, length, slice_get, Option, Some, None}
 use Rattle.std.specs.Option.{option_map}
-use Rattle.std.specs.List.{range_with_len}
+use Rattle.std.specs.List.{range_with_len, AllByRecursion}
 use Rattle.tcp_sendq.specs.SendQueue.{Queue, IsQueue}
 use Rattle.tcp_sendq.specs.declared.marks.Interval.{Interval}
 
@@ -28,6 +28,11 @@ IsTableFrom low high (one ∷ rest) = (low ≤ one.start) × (one.start < one.en
 -- a table of marks of the first `count` bytes
 abbrev pub IsTable : ℕ → List Interval → Type 0
 IsTable count table = IsTableFrom 0 count table
+
+-- none of the intervals is empty, and each begins after the end of those before it
+abbrev pub AreInOrder : List Interval → Type 0
+AreInOrder [] = Unit {0}
+AreInOrder (one ∷ rest) = (one.start < one.end) × AllByRecursion (λ later. one.end < later.start) rest × AreInOrder rest
 
 -- ---- the table after the calls
 
@@ -77,9 +82,9 @@ last_end table = option_map (λ one. one.end) (slice_get table (length table - 1
 -- ---- the queue as it is kept
 
 -- a queue whose marks are given by a table
-abbrev pub queue_of : ℕ → List ℕ → List Interval → Queue
-queue_of capacity bytes table = record { capacity = capacity; bytes = bytes; marks = marks_of table (length bytes) }
+abbrev pub queue_of : ℕ → ℕ → List ℕ → List Interval → Queue
+queue_of most capacity bytes table = record { capacity = capacity; most_runs = most; bytes = bytes; marks = marks_of table (length bytes) }
 
-pub record IsKept (capacity : ℕ) (bytes : List ℕ) (table : List Interval) : Type 0 where
-  pub sound : IsQueue (queue_of capacity bytes table)
+pub record IsKept (most capacity : ℕ) (bytes : List ℕ) (table : List Interval) : Type 0 where
+  pub sound : IsQueue (queue_of most capacity bytes table)
   pub in_order : IsTable (length bytes) table

@@ -5,13 +5,25 @@ use Rattle.std.specs.List.{range_with_len}
 
 pub record Queue : Type 0 where
   pub capacity : ℕ
+  -- the greatest number of runs of marked bytes
+  pub most_runs : ℕ
   -- accepted and not yet released
   pub bytes : List ℕ
   -- for each byte, whether it is marked
   pub marks : List Bool
 
+-- how many runs of marked bytes there can be where no number is given, and the greatest number
+abbrev pub default_runs : ℕ
+default_runs = 16
+
+abbrev pub greatest_runs : ℕ
+greatest_runs = 4096
+
+abbrev pub empty_with_runs : ℕ → ℕ → Queue
+empty_with_runs capacity most = record { capacity = capacity; most_runs = most; bytes = []; marks = [] }
+
 abbrev pub empty_queue : ℕ → Queue
-empty_queue capacity = record { capacity = capacity; bytes = []; marks = [] }
+empty_queue capacity = empty_with_runs capacity default_runs
 
 abbrev pub room : Queue → ℕ
 room q = q.capacity - length q.bytes
@@ -67,13 +79,9 @@ begins_run marks place = is_marked marks place && not (follows_mark marks place)
 abbrev pub runs_begun : List Bool → ℕ
 runs_begun marks = count_by (begins_run marks) (range_with_len 0 (length marks))
 
--- the greatest number of runs that are kept apart
-abbrev pub max_runs : ℕ
-max_runs = 16
-
 -- whether the peer's report can be kept
 unfoldable pub can_mark : Queue → ℕ → ℕ → Bool
-can_mark q from to = nat_le (count_runs false (marks_with from to q.marks)) max_runs
+can_mark q from to = nat_le (count_runs false (marks_with from to q.marks)) q.most_runs
 
 -- the peer reported these bytes as received (RFC 2018, 5); what would make too many runs changes nothing
 unfoldable pub after_mark : Queue → ℕ → ℕ → Queue
@@ -145,4 +153,6 @@ pub record IsQueue (q : Queue) : Type 0 where
   pub within : length q.bytes ≤ q.capacity
   -- one flag for each byte
   pub flags : length q.marks ≡ length q.bytes
-  pub few_runs : count_runs false q.marks ≤ max_runs
+  pub least_runs : 1 ≤ q.most_runs
+  pub most_of_runs : q.most_runs ≤ greatest_runs
+  pub few_runs : count_runs false q.marks ≤ q.most_runs

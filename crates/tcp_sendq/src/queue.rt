@@ -1,6 +1,6 @@
 //! The send queue (RFC 9293, 3.3.1).
-ghost use Rattle.std.specs.Prelude.{◌≡◌, ℕ, ◌+◌, ◌<◌, ◌≤◌, ◌++◌, ◌↔◌, ◌⊎◌, length, take, drop, IsTrue, IsFalse, IsNone, IfSome, IfOk};
-ghost use Rattle.tcp_sendq.specs.SendQueue.{Queue, IsQueue, IsMarked, empty_queue, room, count_taken, after_offer, after_release, marks_with, runs_begun, max_runs, max_capacity, can_mark, after_mark, without_marks, next_unmarked, IsNextUnmarked, AllMarkedFrom, last_mark_end, IsLastMarkEnd, NoneMarkedFrom};
+ghost use Rattle.std.specs.Prelude.{vec_capacity, ◌≡◌, ℕ, ◌+◌, ◌<◌, ◌≤◌, ◌++◌, ◌↔◌, ◌⊎◌, length, take, drop, IsTrue, IsFalse, IsNone, IfSome, IfOk};
+ghost use Rattle.tcp_sendq.specs.SendQueue.{Queue, IsQueue, IsMarked, empty_queue, room, count_taken, after_offer, after_release, marks_with, runs_begun, max_capacity, can_mark, after_mark, without_marks, empty_with_runs, greatest_runs, next_unmarked, IsNextUnmarked, AllMarkedFrom, last_mark_end, IsLastMarkEnd, NoneMarkedFrom};
 ghost use Rattle.tcp_sendq.specs.Marks.{queue_of, IsKept};
 
 use crate::error::QueueError;
@@ -9,6 +9,12 @@ use crate::ring;
 use circular_buffer::HeapCircularBuffer;
 use std::alloc::{Allocator, Global};
 use std::marker::Model;
+
+/// How many runs of marked bytes there can be where no number is given.
+pub const DEFAULT_RUNS: usize = 16;
+
+/// The greatest number of runs of marked bytes that a queue can be made for.
+pub const MAX_RUNS: usize = 4_096;
 
 /// The greatest capacity of a queue, in bytes.
 pub const MAX_CAPACITY: usize = 1_048_576;
@@ -19,21 +25,23 @@ pub const MAX_CAPACITY: usize = 1_048_576;
 pub struct SendQueue<A: Allocator = Global> {
     /// A ring, whose capacity is the queue's: from 1 to [`MAX_CAPACITY`].
     bytes: HeapCircularBuffer<u8, A>,
-    /// The runs of marked bytes.
-    marks: Marks,
+    /// The greatest number of runs of marked bytes, from 1 to [`MAX_RUNS`].
+    most_runs: usize,
+    /// The runs of marked bytes, with room for all.
+    marks: Marks<A>,
 }
 
 impl<A: Allocator> Model for SendQueue<A> {
     ghost Value = { Queue };
 
-    ghost view = { λ q. queue_of q.bytes.capacity q.bytes.items q.marks.table.items };
+    ghost view = { λ q. queue_of q.most_runs q.bytes.capacity q.bytes.items q.marks.table.items };
 
-    ghost invariant = { λ q. IsKept q.bytes.capacity q.bytes.items q.marks.table.items };
+    ghost invariant = { λ q. IsKept q.most_runs q.bytes.capacity q.bytes.items q.marks.table.items × (q.most_runs ≤ vec_capacity q.marks.table) };
 }
 
 impl SendQueue {
-    /// An empty queue of `capacity` bytes. It allocates now, and no later call does. An error where the capacity is out
-    /// of range, or there is no memory.
+    /// An empty queue of `capacity` bytes, of which at most [`DEFAULT_RUNS`] runs can be marked. It allocates now, and no
+    /// later call does. An error where the capacity is out of range, or there is no memory.
     pub fn new(alloc: Global, capacity: usize) -> Result<Self, QueueError>
         ensures empty { IfOk result (λ q. q ≡ empty_queue capacity) }
         ensures sound { IfOk result IsQueue }
@@ -41,9 +49,20 @@ impl SendQueue {
     {
         Self::new_in(alloc, capacity)
     }
+
+    /// One as of [`new`](SendQueue::new) of which at most `runs` runs can be marked, from 1 to [`MAX_RUNS`].
+    pub fn with_runs(alloc: Global, capacity: usize, runs: usize) -> Result<Self, QueueError>
+        requires least { 1 ≤ runs }
+        requires most { runs ≤ greatest_runs }
+        ensures empty { IfOk result (λ q. q ≡ empty_with_runs capacity runs) }
+        ensures sound { IfOk result IsQueue }
+        ensures bad_capacity { (result ≡ Err QueueError.BadCapacity) ↔ ((capacity < 1) ⊎ (max_capacity < capacity)) }
+    {
+        Self::with_runs_in(alloc, capacity, runs)
+    }
 }
 
-impl<A: Allocator> SendQueue<A> {
+impl<A: Allocator + Copy> SendQueue<A> {
     /// An empty queue of `capacity` bytes, in memory of `alloc`. It allocates now, and no later call does. An error
     /// where the capacity is out of range, or there is no memory.
     pub fn new_in(alloc: A, capacity: usize) -> Result<Self, QueueError>
@@ -51,15 +70,48 @@ impl<A: Allocator> SendQueue<A> {
         ensures sound { IfOk result IsQueue }
         ensures bad_capacity { (result ≡ Err QueueError.BadCapacity) ↔ ((capacity < 1) ⊎ (max_capacity < capacity)) }
     {
+        Self::with_runs_in(alloc, capacity, DEFAULT_RUNS)
+    }
+
+    /// One as of [`with_runs`](SendQueue::with_runs), in memory of `alloc`.
+    pub fn with_runs_in(alloc: A, capacity: usize, runs: usize) -> Result<Self, QueueError>
+        requires least { 1 ≤ runs }
+        requires most { runs ≤ greatest_runs }
+        ensures empty { IfOk result (λ q. q ≡ empty_with_runs capacity runs) }
+        ensures sound { IfOk result IsQueue }
+        ensures bad_capacity { (result ≡ Err QueueError.BadCapacity) ↔ ((capacity < 1) ⊎ (max_capacity < capacity)) }
+    {
+        Self::with_runs_of(alloc, alloc, capacity, runs)
+    }
+}
+
+impl<A: Allocator> SendQueue<A> {
+    /// One as of [`with_runs`](SendQueue::with_runs), whose bytes and whose table of marks have an allocator each.
+    pub fn with_runs_of(
+        bytes: A,
+        table: A,
+        capacity: usize,
+        runs: usize,
+    ) -> Result<Self, QueueError>
+        requires least { 1 ≤ runs }
+        requires most { runs ≤ greatest_runs }
+        ensures empty { IfOk result (λ q. q ≡ empty_with_runs capacity runs) }
+        ensures sound { IfOk result IsQueue }
+        ensures bad_capacity { (result ≡ Err QueueError.BadCapacity) ↔ ((capacity < 1) ⊎ (max_capacity < capacity)) }
+    {
         if capacity < 1 || capacity > MAX_CAPACITY {
             return Err(QueueError::BadCapacity);
         }
-        let Ok(bytes) = HeapCircularBuffer::with_capacity(alloc, capacity) else {
+        let Ok(bytes) = HeapCircularBuffer::with_capacity(bytes, capacity) else {
+            return Err(QueueError::NoMemory);
+        };
+        let Ok(marks) = Marks::new_in(table, runs) else {
             return Err(QueueError::NoMemory);
         };
         Ok(SendQueue {
             bytes,
-            marks: Marks::new(),
+            most_runs: runs,
+            marks,
         })
     }
 }
@@ -114,7 +166,7 @@ impl<A: Allocator> SendQueue<A> {
     {
         let rest = self.bytes.len() - n;
         self.bytes.truncate_front(rest);
-        self.marks.release(n);
+        self.marks.release(n as u32);
     }
 
     /// Fills `out` with the bytes from the offset `at` on.
@@ -137,19 +189,19 @@ impl<A: Allocator> SendQueue<A> {
         ring::lend_from(front, back, at, count)
     }
 
-    /// Marks the bytes from the offset `from` on and before `to` (RFC 2018, 5). Where more than 16 runs would then be
-    /// marked it returns false, and nothing changes.
+    /// Marks the bytes from the offset `from` on and before `to` (RFC 2018, 5). Where that would make a run more than the
+    /// greatest number it returns false, and nothing changes.
     pub fn mark(&mut self, from: usize, to: usize) -> bool
         requires ordered { from < to }
         requires within { to ≤ length self.old.bytes }
         ensures value { result ≡ can_mark self.old from to }
         ensures state { self.new ≡ after_mark self.old from to }
         ensures refused { IsFalse result → self.new ≡ self.old }
-        ensures runs { IsTrue result ↔ (runs_begun (marks_with from to self.old.marks) ≤ max_runs) }
+        ensures runs { IsTrue result ↔ (runs_begun (marks_with from to self.old.marks) ≤ self.old.most_runs) }
         ensures places { IsTrue result → (place : ℕ) → IsMarked self.new place ↔ (IsMarked self.old place ⊎ ((from ≤ place) × (place < to))) }
         ensures sound { IsQueue self.new }
     {
-        self.marks.mark(from, to)
+        self.marks.mark(from as u32, to as u32, self.most_runs)
     }
 
     /// Removes every mark (RFC 2018, 5).

@@ -1,19 +1,32 @@
 //! The calls of a reassembly.
 use crate::buffer::Buffer;
-use crate::words::number;
+use crate::words::{capacity_and_runs, number};
 use kit_text::{LineError, SPACE, cut, push_bytes, read_bytes};
 use std::alloc::{AllocError, Global};
-use tcp_reasm::{Placed, Reassembly};
+use tcp_reasm::{MAX_RUNS, Placed, ReasmError, Reassembly};
 
 /// The longest text that a line places, in bytes.
 const MAX_TEXT: usize = 65_495;
+
+/// One with this number of runs, or with the default one.
+fn new_of(alloc: Global, capacity: usize, runs: Option<usize>) -> Result<Reassembly, ReasmError> {
+    match runs {
+        Some(runs) => Reassembly::with_runs(alloc, capacity, runs.clamp(1, MAX_RUNS)),
+        None => Reassembly::new(alloc, capacity),
+    }
+}
 
 pub(crate) fn new_inbox(
     alloc: Global,
     rest: &[u8],
     answers: &mut String,
 ) -> Result<Option<Buffer>, LineError> {
-    match Reassembly::new(alloc, number(rest)?) {
+    let (capacity, runs) = capacity_and_runs(rest)?;
+    if runs.is_some_and(|runs| !(1..=MAX_RUNS).contains(&runs)) {
+        answers.push_str("outside\n")?;
+        return Ok(None);
+    }
+    match new_of(alloc, capacity, runs) {
         Ok(inbox) => {
             answers.push_str("new\n")?;
             Ok(Some(Buffer::Inbox(inbox)))

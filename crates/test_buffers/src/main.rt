@@ -1,5 +1,5 @@
 //! Both buffers of an end, for tests: reads calls, a line each, and answers each. `queue CAPACITY` and `inbox CAPACITY`
-//! begin with another send queue or reassembly, or answer why there is none. A queue takes `offer HEX`, `release N`,
+//! begin with another send queue or reassembly, or answer why there is none; a second word is the number of runs. A queue takes `offer HEX`, `release N`,
 //! `copy AT N`, `mark FROM TO`, `forget`, `unmarked AT`, `marked` (the end of the last mark) and `state`. A reassembly
 //! takes `place OFFSET HEX` or `place -BEFORE HEX`, `read N`, `blocks`, `clear`, `clear_held` and `state`.
 #![tactic(auto)]

@@ -1,16 +1,29 @@
 //! The calls of a send queue. A call that requests more than the queue has is answered by `outside`, and isn't made.
 use crate::buffer::Buffer;
-use crate::words::{number, two_numbers};
+use crate::words::{capacity_and_runs, number, two_numbers};
 use kit_text::{LineError, push_bytes, read_bytes};
 use std::alloc::Global;
-use tcp_sendq::SendQueue;
+use tcp_sendq::{MAX_RUNS, QueueError, SendQueue};
+
+/// One with this number of runs, or with the default one.
+fn new_of(alloc: Global, capacity: usize, runs: Option<usize>) -> Result<SendQueue, QueueError> {
+    match runs {
+        Some(runs) => SendQueue::with_runs(alloc, capacity, runs.clamp(1, MAX_RUNS)),
+        None => SendQueue::new(alloc, capacity),
+    }
+}
 
 pub(crate) fn new_queue(
     alloc: Global,
     rest: &[u8],
     answers: &mut String,
 ) -> Result<Option<Buffer>, LineError> {
-    match SendQueue::new(alloc, number(rest)?) {
+    let (capacity, runs) = capacity_and_runs(rest)?;
+    if runs.is_some_and(|runs| !(1..=MAX_RUNS).contains(&runs)) {
+        answers.push_str("outside\n")?;
+        return Ok(None);
+    }
+    match new_of(alloc, capacity, runs) {
         Ok(queue) => {
             answers.push_str("new\n")?;
             Ok(Some(Buffer::Queue(queue)))

@@ -15,6 +15,16 @@ pub(crate) fn number(word: &[u8]) -> Result<usize, LineError>
     }
 }
 
+/// The capacity of a line, and the number of runs, where there is a second word.
+pub(crate) fn capacity_and_runs(words: &[u8]) -> Result<(usize, Option<usize>), LineError> {
+    let (capacity, runs) = cut(SPACE, words);
+    let capacity = number(capacity)?;
+    match runs {
+        Some(runs) => Ok((capacity, Some(number(runs)?))),
+        None => Ok((capacity, None)),
+    }
+}
+
 pub(crate) fn two_numbers(words: &[u8]) -> Result<(usize, usize), LineError>
     ensures { IfOk result (λ pair. (pair.0 ≤ 4294967295) × (pair.1 ≤ 4294967295)) }
 {

@@ -17,9 +17,9 @@ takes_text s = not s.is_closed && is_open s
 abbrev pub is_in_flight : Small → Bool
 is_in_flight s = nat_lt s.una s.nxt && is_open s
 
--- all that it sent is acknowledged behind its close, and the peer hasn't closed
+-- all that it sent is acknowledged behind its close, all that came is read, and the peer hasn't closed
 abbrev pub awaits_fin : Small → Bool
-awaits_fin s = (s.is_closed && s.una == s.accepted) && (not s.is_resting && is_open s)
+awaits_fin s = (s.is_closed && s.una == s.accepted) && (s.unread == 0 && (not s.is_resting && is_open s))
 
 abbrev pub wants : Small → Wants
 wants s =
@@ -37,8 +37,8 @@ acked_to s ack = max s.una (min s.nxt ack)
 
 abbrev pub report : Small → List ℕ → List ℕ → List ℕ → Report
 report s src dst (ack ∷ gap ∷ fin ∷ window ∷ rest) =
-    record { acked = acked_to s ack - s.una; is_duplicate = ack == s.una; at_once = fin == 1; window = Some window; repeats_fin = s.is_resting && fin == 1; advances = fin == 1 }
-report s src dst other = record { acked = 0; is_duplicate = false; at_once = false; window = None; repeats_fin = false; advances = false }
+    record { acked = acked_to s ack - s.una; is_duplicate = ack == s.una; at_once = fin == 1; window = Some window; repeats_fin = s.is_resting && fin == 1; from_peer = fin == 1 || nat_lt 0 window }
+report s src dst other = record { acked = 0; is_duplicate = false; at_once = false; window = None; repeats_fin = false; from_peer = false }
 
 abbrev pub arrived : Small → List ℕ → List ℕ → List ℕ → Small
 arrived s src dst (ack ∷ gap ∷ fin ∷ window ∷ rest) = record s {

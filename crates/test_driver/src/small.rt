@@ -1,8 +1,8 @@
 //! A small end: numbers without bytes, one in a segment.
-ghost use Rattle.std.specs.Prelude.{◌≡◌};
+ghost use Rattle.std.specs.Prelude.{◌≡◌, ◌≤◌, ◌+◌, ◌<◌, ◌^◌, IfSome, false};
 ghost use Rattle.test_driver.specs.Small.{segment};
 
-use tcp_driver::{Core, Report, Sent, Timer, Wants};
+use tcp_driver::{Core, Report, Sent, Timer, Wants, holds};
 
 /// The bytes of each of its segments.
 const SEGMENT: usize = 14;
@@ -17,7 +17,7 @@ const NOTHING: Report = Report {
     at_once: false,
     window: None,
     repeats_fin: false,
-    advances: false,
+    from_peer: false,
 };
 
 /// An end that sends numbers, one in a segment. What comes to it, from anywhere, is an acknowledgement, whether the peer
@@ -49,13 +49,67 @@ pub struct Small {
 }
 
 impl Small {
-    ghost use Rattle.test_driver.specs.Small.{awaits_fin};
+    ghost use Rattle.test_driver.specs.Small.{alone, awaits_fin, due, emitted};
 
-    /// Whether all that it sent is acknowledged behind its close, and the peer hasn't closed.
+    /// Whether all that it sent is acknowledged behind its close, all that came is read, and the peer hasn't closed.
     fn awaits_fin(&self) -> bool
         ensures { result ≡ awaits_fin self.now }
     {
-        (self.is_closed && self.una == self.accepted) && (!self.is_resting && !self.is_over)
+        (self.is_closed && self.una == self.accepted)
+            && (self.unread == 0 && (!self.is_resting && !self.is_over))
+    }
+
+    /// What is due.
+    fn next(&self) -> Option<Sent>
+        ensures { result ≡ due self.now }
+    {
+        if self.is_over {
+            None
+        } else if self.again < self.until {
+            Some(segment(self.again, 1))
+        } else if self.nxt < self.accepted {
+            Some(segment(self.nxt, 1))
+        } else if self.is_owed {
+            Some(segment(self.nxt, 0))
+        } else {
+            None
+        }
+    }
+
+    /// What is due goes out.
+    fn transmit(&mut self) -> Option<Sent>
+        ensures sent { result ≡ due self.old }
+        ensures state { self.new ≡ emitted self.old }
+        ensures most { IfSome result (λ sent. sent.len ≤ 14) }
+        ensures fits { IfSome result (λ sent. sent.start + sent.count < 2 ^ 64) }
+    {
+        let due = self.next();
+        if self.is_over {
+            return due;
+        }
+        if self.again < self.until {
+            self.again += 1;
+        } else if self.nxt < self.accepted {
+            self.nxt += 1;
+        }
+        self.is_owed = false;
+        due
+    }
+
+    /// The acknowledgement goes out alone, if one is pending.
+    fn emit_acknowledgement(&mut self) -> Option<Sent>
+        ensures sent { result ≡ alone self.old }
+        ensures state { self.new ≡ record self.old { is_owed = false } }
+        ensures most { IfSome result (λ sent. sent.len ≤ 14) }
+        ensures fits { IfSome result (λ sent. sent.start + sent.count < 2 ^ 64) }
+    {
+        let is_due = self.is_owed && !self.is_over;
+        self.is_owed = false;
+        if is_due {
+            Some(segment(self.nxt, 0))
+        } else {
+            None
+        }
     }
 }
 
@@ -65,6 +119,8 @@ impl Core for Small {
     type Sending = bool;
 
     type Receiving = u64;
+
+    type Consuming = u64;
 
     type Closing = bool;
 
@@ -77,6 +133,8 @@ impl Core for Small {
     ghost send_answer = { λ s text. takes_text s };
 
     ghost receive_answer = { λ s room. s.unread };
+
+    ghost consume_answer = { λ s count. s.unread };
 
     ghost close_answer = { λ s. takes_text s };
 
@@ -140,51 +198,18 @@ impl Core for Small {
             at_once: *fin == 1,
             window: Some(u64::from(*window)),
             repeats_fin: rested && *fin == 1,
-            advances: *fin == 1,
+            from_peer: *fin == 1 || *window > 0,
         };
         (report, !self.is_over)
     }
 
-    fn next(&self) -> Option<Sent> {
-        if self.is_over {
-            None
-        } else if self.again < self.until {
-            Some(segment(self.again, 1))
-        } else if self.nxt < self.accepted {
-            Some(segment(self.nxt, 1))
-        } else if self.is_owed {
-            Some(segment(self.nxt, 0))
+    fn transmit_within(&mut self, window: u64, _out: &mut [u8]) -> Option<Sent> {
+        let answers = self.is_owed && !self.is_over;
+        if holds(self.next(), self.una, self.flight(), answers, window) {
+            self.emit_acknowledgement()
         } else {
-            None
+            self.transmit()
         }
-    }
-
-    fn transmit(&mut self, _out: &mut [u8]) -> Option<Sent> {
-        let due = self.next();
-        if self.is_over {
-            return due;
-        }
-        if self.again < self.until {
-            self.again += 1;
-        } else if self.nxt < self.accepted {
-            self.nxt += 1;
-        }
-        self.is_owed = false;
-        due
-    }
-
-    fn emit_acknowledgement(&mut self, _out: &mut [u8]) -> Option<Sent> {
-        let is_due = self.is_owed && !self.is_over;
-        self.is_owed = false;
-        if is_due {
-            Some(segment(self.nxt, 0))
-        } else {
-            None
-        }
-    }
-
-    fn answers(&self) -> bool {
-        self.is_owed && !self.is_over
     }
 
     fn resend_first(&mut self) -> bool {
@@ -205,6 +230,12 @@ impl Core for Small {
     }
 
     fn receive(&mut self, _out: &mut [u8]) -> u64 {
+        let unread = self.unread;
+        self.unread = 0;
+        unread
+    }
+
+    fn consume(&mut self, _count: usize) -> u64 {
         let unread = self.unread;
         self.unread = 0;
         unread

@@ -3,7 +3,7 @@ use crate::CONFIG;
 use linked_list_allocator::LocalHeap;
 use std::alloc::Global;
 use std::io;
-use tcp_conn::Endpoint;
+use tcp_conn::{ConfigError, Endpoint};
 use tcp_reasm::Reassembly;
 use tcp_replay::{MAX_LIFE, World, WorldError};
 use tcp_sendq::{QueueError, SendQueue};
@@ -14,8 +14,10 @@ enum Kind {
     Queue,
     Inbox,
     End,
+    EndOfOneRun,
     World,
     WorldWithLifetime,
+    WorldWithRuns,
 }
 
 /// Whether the value is made on this heap, or refused because there is no memory; `None` where it is refused for
@@ -24,10 +26,14 @@ fn is_made(heap: &LocalHeap, kind: Kind) -> Option<bool> {
     match kind {
         Kind::Queue => is_queue_made(heap),
         Kind::Inbox => is_inbox_made(heap),
-        Kind::End => is_end_made(heap),
+        Kind::End => is_end_made(Endpoint::new_in(heap, CONFIG)),
+        Kind::EndOfOneRun => is_end_made(Endpoint::with_runs_in(heap, CONFIG, 1)),
         Kind::World => is_made_of(World::new_in(heap, CONFIG, CONFIG)),
         Kind::WorldWithLifetime => {
             is_made_of(World::with_lifetime_in(heap, CONFIG, CONFIG, MAX_LIFE))
+        }
+        Kind::WorldWithRuns => {
+            is_made_of(World::with_runs_in(heap, CONFIG, CONFIG, MAX_LIFE, 2, 4))
         }
     }
 }
@@ -47,8 +53,8 @@ fn is_inbox_made(heap: &LocalHeap) -> Option<bool> {
     }
 }
 
-fn is_end_made(heap: &LocalHeap) -> Option<bool> {
-    match Endpoint::new_in(heap, CONFIG) {
+fn is_end_made(made: Result<Endpoint<&LocalHeap>, ConfigError>) -> Option<bool> {
+    match made {
         Ok(_) => Some(true),
         Err(fault) => is_want_of_memory(fault.number()),
     }
@@ -88,6 +94,8 @@ pub(crate) fn print_makers(rt: &(impl Print + AllocGlobal)) -> io::Result<()> {
     print_kind(rt, "send queue", Kind::Queue)?;
     print_kind(rt, "reassembly", Kind::Inbox)?;
     print_kind(rt, "end", Kind::End)?;
+    print_kind(rt, "end with one run", Kind::EndOfOneRun)?;
     print_kind(rt, "two ends", Kind::World)?;
-    print_kind(rt, "two ends with a lifetime", Kind::WorldWithLifetime)
+    print_kind(rt, "two ends with a lifetime", Kind::WorldWithLifetime)?;
+    print_kind(rt, "two ends with 2 and 4 runs", Kind::WorldWithRuns)
 }

@@ -14,12 +14,14 @@ repeat 2 emit A
 receive B 10
 ";
 
-/// Whether two scripts have the same version, lifetime and ends, and as many events with the same turns.
+/// Whether two scripts have the same version, lifetime, ends and numbers of runs, and as many events with the same turns.
 fn is_same(script: &Script<&LocalHeap>, wanted: &Script) -> bool {
     script.version == wanted.version
         && script.life == wanted.life
         && script.a == wanted.a
         && script.b == wanted.b
+        && script.runs_a == wanted.runs_a
+        && script.runs_b == wanted.runs_b
         && script.events.len() == wanted.events.len()
         && script
             .events

@@ -1,7 +1,7 @@
 //! One end alone, for tests: reads calls and arriving segments, a line each, and prints each answer, each emission and
 //! the phase after it. They are those of the log of `solo` over all lines of that end up to now. A line `new ISN MSS
 //! SEND RECV SHIFT SACK` begins with another end, or prints why there is none; a shift of `none` offers none, SACK is 0
-//! or 1. Other lines are `connect`, `listen`, `close`, `abort`, `acknowledge`, `emit`, `emit bytes` (which prints the
+//! or 1. A seventh word is the number of runs, from 1 to 4096. Other lines are `connect`, `listen`, `close`, `abort`, `acknowledge`, `emit`, `emit bytes` (which prints the
 //! segment's bytes), `timers`; `send HEX`, `receive N`, `timer NAME`; or `arrive SOURCE DESTINATION HEX`. The end is
 //! 10.0.0.2, port 2; it connects to 10.0.0.1, port 1.
 #![tactic(auto)]
@@ -25,8 +25,8 @@ fn take_line(
     line: &[u8],
     answers: &mut String,
 ) -> Result<(), LineError> {
-    if let Some(config) = reading::read_config(line) {
-        return stream::begin(alloc, config, stream, answers);
+    if let Some((config, runs)) = reading::read_config(line) {
+        return stream::begin(alloc, config, runs, stream, answers);
     }
     match stream {
         Some(stream) => stream.take_line(alloc, line, answers),

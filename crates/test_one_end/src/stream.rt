@@ -4,33 +4,34 @@ use crate::events::read_event;
 use kit_text::{LineError, SPACE, cut};
 use std::alloc::Global;
 use tcp_conn::Config;
-use tcp_replay::{SoloError, SoloEvent, solo};
+use tcp_reasm::MAX_RUNS;
+use tcp_replay::{SoloError, SoloEvent, SoloLog, solo_with_runs};
 
-/// The Config of an end, and its events.
+/// The Config of an end and its number of runs, and its events.
 #[derive(Drop)]
 pub(crate) struct Stream {
     config: Config,
+    runs: usize,
     events: Vec<SoloEvent>,
-}
-
-/// Why there is no end of this Config.
-fn refusal_of(alloc: Global, config: Config) -> Option<SoloError> {
-    solo(alloc, config, &[]).err()
 }
 
 /// Begins with another end, or without one where it is refused, and appends why.
 pub(crate) fn begin(
     alloc: Global,
     config: Config,
+    runs: usize,
     stream: &mut Option<Stream>,
     answers: &mut String,
 ) -> Result<(), LineError> {
     *stream = None;
-    match refusal_of(alloc, config) {
-        None => {
-            let events = Vec::new(alloc);
-            *stream = Some(Stream { config, events });
-        }
+    let events = Vec::new(alloc);
+    let begun = Stream {
+        config,
+        runs,
+        events,
+    };
+    match begun.log(alloc).err() {
+        None => *stream = Some(begun),
         Some(SoloError::Config(refusal)) => {
             let number = refusal.number();
             write!(answers, "refused {number}: {refusal}\n")?;
@@ -41,6 +42,12 @@ pub(crate) fn begin(
 }
 
 impl Stream {
+    /// The log of all events up to now.
+    fn log(&self, alloc: Global) -> Result<SoloLog, SoloError> {
+        let runs = self.runs.clamp(1, MAX_RUNS);
+        solo_with_runs(alloc, self.config, runs, &self.events)
+    }
+
     /// Appends what the log of all events up to now reports of a line.
     fn push_answer(
         &self,
@@ -48,7 +55,7 @@ impl Stream {
         line: &[u8],
         answers: &mut String,
     ) -> Result<(), LineError> {
-        match solo(alloc, self.config, &self.events) {
+        match self.log(alloc) {
             Ok(log) if line == TIMERS => push_timers(answers, &log.endpoint),
             Ok(log) => push_last(alloc, answers, &log, line == EMISSION_AS_BYTES),
             Err(_) => Err(LineError::NoMemory),

@@ -1,6 +1,6 @@
 //! The allocator over a block, for tests: reads lines, and answers each. `region SIZE N N ..` requests pieces of N
-//! bytes in turn from a region of a block of SIZE bytes; `end SEND RECV` makes an end of capacities 64 and 17 whose
-//! buffers have a region each, of blocks of these sizes.
+//! bytes in turn from a region of a block of SIZE bytes; `end SEND RECV MARKS HELD` makes an end of capacities 64 and 17
+//! and of 3 runs, whose buffers and tables have a region each, of blocks of these sizes.
 #![tactic(auto)]
 
 use kit_io::{Counted, read_all};
@@ -39,11 +39,26 @@ fn ask(region: &Region, sizes: &[u8], answers: &mut String) -> Result<(), LineEr
     Ok(())
 }
 
-fn make_end(send: Region, recv: Region, answers: &mut String) -> Result<(), LineError> {
+/// The regions of the blocks with these sizes, of which there are three.
+fn three_regions(alloc: Global, sizes: &[u8]) -> Result<(Region, Region, Region), LineError> {
+    let (recv, sizes) = cut(SPACE, sizes);
+    let (marks, held) = cut(SPACE, sizes.ok_or(LineError::BadForm)?);
+    let held = held.ok_or(LineError::BadForm)?;
+    let recv = region(alloc, recv)?;
+    let marks = region(alloc, marks)?;
+    Ok((recv, marks, region(alloc, held)?))
+}
+
+fn make_end(
+    send: Region,
+    rest: (Region, Region, Region),
+    answers: &mut String,
+) -> Result<(), LineError> {
+    let (recv, marks, held) = rest;
     let mut config = Config::new(Addr([10, 0, 0, 1]), 1, Seq(1));
     config.send_capacity = 64;
     config.recv_capacity = 17;
-    match Endpoint::new_of(send, recv, config) {
+    match Endpoint::with_runs_of(send, recv, marks, held, config, 3) {
         Ok(_) => write!(answers, " made")?,
         Err(error) => write!(answers, " {}", error.number())?,
     }
@@ -57,7 +72,7 @@ fn answer_line(alloc: Global, line: &[u8], answers: &mut String) -> Result<(), L
     let first = region(alloc, size)?;
     match word {
         b"region" => ask(&first, sizes, answers)?,
-        b"end" => make_end(first, region(alloc, sizes)?, answers)?,
+        b"end" => make_end(first, three_regions(alloc, sizes)?, answers)?,
         _ => return Err(LineError::BadForm),
     }
     answers.push_str("\n")?;

@@ -11,13 +11,10 @@ ghost use Rattle.tcp_conn.specs.Writing.{bytes_of, destination_of};
 
 use crate::emit::due::Due;
 use crate::emit::segment::sack_options;
-use crate::emit::write::Sum;
+use crate::emit::write::{HEADER_ROOM, Sum};
 use crate::endpoint::Endpoint;
 use std::alloc::Allocator;
 use tcp_wire::{Addr, TcpOption, write_front};
-
-/// The room that `parts` requires, in bytes: the length of the longest header with options (RFC 9293, 3.1).
-pub const HEADER_ROOM: usize = 60;
 
 /// A segment that is due: its header, which was written, then all of `first`, then all of `second`.
 #[derive(Clone, Copy, Debug)]

@@ -1,5 +1,5 @@
 //! Writes a segment that is due: the one place where an end's bytes are made.
-ghost use Rattle.std.specs.Prelude.{◌≡◌, ◌≤◌, ◌+◌, ◌++◌, take, drop, length, map};
+ghost use Rattle.std.specs.Prelude.{◌≡◌, ◌≤◌, ◌+◌, ◌++◌, [], take, drop, length, map};
 ghost use Rattle.tcp_wire.specs.Partial.{completed};
 ghost use Rattle.tcp_wire.specs.View.{around, option_content, text_offset};
 ghost use Rattle.tcp_wire.specs.Wire.{IsValid, encoded_bytes, header_len, max_area_len, wire_length};
@@ -10,12 +10,15 @@ ghost use Rattle.tcp_conn.specs.Forms.{plain_segment, reset_segment, segment_of,
 ghost use Rattle.tcp_conn.specs.Writing.{IsWritable, bytes_of, destination_of, summed, written_of};
 
 use crate::emit::due::Due;
-use crate::emit::parts::HEADER_ROOM;
 use crate::emit::segment::sack_options;
 use crate::endpoint::Endpoint;
 use std::alloc::Allocator;
 use tcp_halves::WaitingReset;
 use tcp_wire::{Addr, HEADER_LEN, Header, TcpOption, write_around, write_around_partial};
+
+/// The length of the longest header with options, in bytes (RFC 9293, 3.1): the room that [`parts`](Endpoint::parts)
+/// requires.
+pub const HEADER_ROOM: usize = 60;
 
 /// Who computes the checksum of a segment that is written.
 #[derive(Clone, Copy, Debug, PartialEq, Eq)]
@@ -48,6 +51,17 @@ fn write_header(
         Sum::Whole => write_around(header, options, 0, count, src, dst, out),
         Sum::Partial => write_around_partial(header, options, 0, count, src, dst, out),
     }
+}
+
+/// Writes a segment that is nothing but a header, without options, at the start of `out`, and returns its length.
+#[inline(always)]
+pub(crate) fn write_bare(header: &Header, src: Addr, dst: Addr, out: &mut [u8]) -> usize
+    requires valid { IsValid (around header.now [] 0 0 out.old) }
+    requires room { header_len ≤ length out.old }
+    ensures len { result ≡ wire_length (around header.now [] 0 0 out.old) }
+    ensures written { out.new ≡ encoded_bytes src.0 dst.0 (around header.now [] 0 0 out.old) ++ drop (wire_length (around header.now [] 0 0 out.old)) out.old }
+{
+    write_around(header, &[], 0, 0, src, dst, out)
 }
 
 impl<A: Allocator> Endpoint<A> {

@@ -18,6 +18,7 @@ use crate::arrive::effect::reset_of_stray;
 use crate::arrive::judged_fields::JudgedFields;
 use crate::arrive::judgement::{Judgement, judge_after_syn, judge_closed};
 use crate::emit::segment::reset_from;
+use crate::emit::write::write_bare;
 use crate::endpoint::Endpoint;
 use crate::outcome::{Arrival, CallError};
 use crate::phase::{Ending, Phase, Timer};
@@ -26,7 +27,7 @@ use crate::windows::MAX_WINDOW;
 use std::alloc::Allocator;
 use std::marker::Model;
 use tcp_halves::{Peer, WaitingReset};
-use tcp_wire::{Addr, Flags, Header, RawSegment, Seq, write_around};
+use tcp_wire::{Addr, Flags, Header, RawSegment, Seq};
 
 /// The length in bytes of each segment that a [`TimeWait`] emits.
 pub const TIME_WAIT_LEN: usize = 20;
@@ -296,7 +297,7 @@ impl TimeWait {
     {
         if let Some(reset) = self.reset {
             let header = reset_from(self.port, reset);
-            let len = write_around(&header, &[], 0, 0, self.addr, reset.to.addr, out);
+            let len = write_bare(&header, self.addr, reset.to.addr, out);
             self.reset = None;
             return Some((reset.to.addr, len));
         }
@@ -304,7 +305,7 @@ impl TimeWait {
             return None;
         }
         let header = self.ack_header();
-        let len = write_around(&header, &[], 0, 0, self.addr, self.peer.addr, out);
+        let len = write_bare(&header, self.addr, self.peer.addr, out);
         self.ack = false;
         Some((self.peer.addr, len))
     }

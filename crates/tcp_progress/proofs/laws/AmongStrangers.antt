@@ -20,8 +20,9 @@ use Rattle.tcp_progress.specs.Handshake.{CanOpen, OpensAndGetsThrough}
 use Rattle.tcp_progress.specs.Sent.{TakeOnlySent}
 use Rattle.tcp_progress.specs.Settled.{IsLive, IsNotStuck}
 use Rattle.tcp_progress.specs.Steady.{IsSteady}
+use Rattle.tcp_progress.specs.WithRuns.{GoesOnAmongStrangersWithRuns, SteadyAmongStrangersWithRuns}
 use Rattle.tcp_progress.proofs.Words.{A, B, Side}
-use Rattle.tcp_progress.proofs.{handshake.BothOpen.opens-and, handshake.FinishedInEight.can-open, laws.Injected.among-strangers}
+use Rattle.tcp_progress.proofs.{handshake.BothOpen.opens-and, handshake.FinishedInEight.can-open, laws.Injected.among-strangers, laws.Injected.among-strangers-with-runs}
 use Rattle.tcp_progress.proofs.{laws.NotStuck.not_stuck-kept, steady.AlwaysSteady.kept-steady, steady.OnlySent.only_sent, turn.BothHalves.halved-kept}
 use Rattle.tcp_progress.proofs.{turn.CalmWorlds.left-kept, turn.Draining.bursts-end, turn.HalfTurnsHad.halves_had-kept, turn.Lowering.lowers_lem}
 use Rattle.tcp_progress.proofs.{turn.Turning.served-kept, turn.TurnsHad.turns-kept}
@@ -58,6 +59,26 @@ bursts-among = among-strangers (λ w. (side : Side) → BurstEnds w side) bursts
 
 pub left-among : NeverGrowsAmongStrangers
 left-among = among-strangers NeverGrows left-kept
+
+-- ---- EACH OF THEM whatever the numbers of runs
+pub steady-with-runs : SteadyAmongStrangersWithRuns
+steady-with-runs = record {
+  steady = among-strangers-with-runs IsSteady kept-steady;
+  taken = among-strangers-with-runs TakeOnlySent (λ w h. only_sent w h.all.sent);
+}
+
+pub goes-on-with-runs : GoesOnAmongStrangersWithRuns
+goes-on-with-runs = record {
+  not_stuck = among-strangers-with-runs IsNotStuck not_stuck-kept;
+  opens = among-strangers-with-runs CanOpen can-open;
+  served = among-strangers-with-runs GetsThrough (served-kept lowers_lem);
+  served_opens = among-strangers-with-runs OpensAndGetsThrough opens-and;
+  half_turns = among-strangers-with-runs GetsThroughByHalves halved-kept;
+  turns = among-strangers-with-runs (λ w. NoneDiscarded w → (n : ℕ) → CanHaveTurns n w) turns-kept;
+  halves = among-strangers-with-runs (λ w. IsLive w.a → IsLive w.b → (n : ℕ) → CanHaveHalves n w) halves_had-kept;
+  bursts = among-strangers-with-runs (λ w. (side : Side) → BurstEnds w side) bursts-end;
+  left = among-strangers-with-runs NeverGrows left-kept;
+}
 
 -- ---- WHERE TEXT IS TAKEN what isn't let in changes nothing, or makes an acknowledgement pending
 module _ (s : State) (src : List ℕ) (v : Content) where

@@ -13,7 +13,7 @@ every_other zero = []
 every_other (suc n) = None ∷ Some (record { byte = n; stamp = suc n }) ∷ every_other n
 
 full : Inbox
-full = record { capacity = 34; unread = []; held = every_other 16 ++ None ∷ None ∷ [] }
+full = record { capacity = 34; most_runs = 16; unread = []; held = every_other 16 ++ None ∷ None ∷ [] }
 
 config : Config
 config = record {
@@ -61,7 +61,7 @@ unfolding holding config full every_other
 holding_sound = record {
   within = (record { size = refl; queued = omega arith }, record { size = refl; received = refl });
   sends = record { order = omega arith; most = omega arith; limit = omega arith; snd_wnd = omega arith; queued = omega arith };
-  inbox = record { least = omega arith; most = omega arith; whole = refl; few = omega arith; missing = refl };
+  inbox = record { least = omega arith; most = omega arith; whole = refl; least_runs = omega arith; most_of_runs = omega arith; few = omega arith; missing = refl };
   next = omega arith;
   ordered = omega arith;
 }
@@ -81,7 +81,7 @@ covering_next = record {
 sent : ℕ → State
 sent n = record holding {
   sending = record (new_sending 40)
-      { snd_una = 1; snd_nxt = suc n; queue = record { capacity = 40; bytes = 97 ∷ 98 ∷ 99 ∷ []; marks = false ∷ true ∷ false ∷ [] } };
+      { snd_una = 1; snd_nxt = suc n; queue = record { capacity = 40; most_runs = 16; bytes = 97 ∷ 98 ∷ 99 ∷ []; marks = false ∷ true ∷ false ∷ [] } };
 }
 
 sent_may_send : MaySend (sent 3)

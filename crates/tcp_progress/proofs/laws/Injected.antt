@@ -5,7 +5,9 @@ unfoldable use Rattle.tcp_replay.specs.Among.{after_happenings, AreFair}
 use Rattle.tcp_replay.proofs.run.Injections.{in-injected, life-injected, sound-injected}
 use Rattle.tcp_replay.proofs.run.Worlds as worlds
 use Rattle.tcp_progress.specs.Settled.{least_life}
+use Rattle.tcp_reasm.specs.Reassembly.{default_runs}
 use Rattle.tcp_progress.specs.Among.{InEveryWorldAmongStrangers}
+use Rattle.tcp_progress.specs.WithRuns.{InEveryWorldAmongStrangersWithRuns}
 use Rattle.tcp_progress.proofs.Words.{Side}
 use Rattle.tcp_progress.proofs.{steady.AdvertisedWindows.advertised-kept, steady.AlwaysSteady.IsKept, steady.AlwaysSteady.kept-after}
 use Rattle.tcp_progress.proofs.{steady.AlwaysSteady.new-kept, steady.Edges.edges-kept, steady.FinsByState.stages-kept, steady.OnlySent.sent-kept}
@@ -33,6 +35,10 @@ kept-happenings w [] fair h = h
 kept-happenings w (happening ∷ list) fair h = kept-happenings (after_happening w happening) list fair.1 (kept-happening w happening fair.0 h)
 
 -- so what all of these worlds keep holds in every world among strangers
+pub among-strangers-with-runs : (Holds : WorldState → Type 0) → ((w : WorldState) → IsKept w → Holds w) → InEveryWorldAmongStrangersWithRuns Holds
+among-strangers-with-runs Holds holds life a b runs_a runs_b list least most one two fair =
+    holds _ (kept-happenings _ list fair (new-kept life a b runs_a runs_b least most one two))
+
 pub among-strangers : (Holds : WorldState → Type 0) → ((w : WorldState) → IsKept w → Holds w) → InEveryWorldAmongStrangers Holds
 among-strangers Holds holds life a b list least most one two fair =
-    holds _ (kept-happenings _ list fair (new-kept life a b least most one two))
+    among-strangers-with-runs Holds holds life a b default_runs default_runs list least most one two fair

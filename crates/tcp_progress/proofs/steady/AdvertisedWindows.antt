@@ -2,7 +2,7 @@
 use Rattle.tcp_replay.proofs.Words.{◌&&◌, ◌*◌, ◌++◌, ◌/◌, ◌^◌, Aborted, address_of, after_acked_text, after_discarding, after_own_syn, after_peer_accepts}
 use Rattle.tcp_replay.proofs.Words.{after_peer_opens, after_text, after_window_and_blocks, ap, arith, Bool, Config, Content, div-mul-le_self, Due, false}
 use Rattle.tcp_replay.proofs.Words.{false≢true, has, HasGoodShift, HoldsWithin, if◌then◌else◌, Inbox, is_sack_offered, is_some, IsSoundPair, Link, link_of}
-use Rattle.tcp_replay.proofs.Words.{max_shift, max_window, min, min_mss, mul-le, new_party, None, not, Option, own_shift, PartyState, permission_options}
+use Rattle.tcp_replay.proofs.Words.{max_shift, max_window, min, min_mss, mul-le, party_with_runs, None, not, Option, own_shift, PartyState, permission_options}
 use Rattle.tcp_replay.proofs.Words.{plain_segment, receive_refusal, refl, Reset, rst, scale_options, segment_of, SentSegment, shift_offered, shift_option}
 use Rattle.tcp_replay.proofs.Words.{State, subst, sym, Syn, syn, syn_options, syn_segment, true, unwrap_or, whole_empty, window, window_field}
 use Rattle.tcp_replay.proofs.Words.{with_bytes_received, ℕ, ◌∙◌, ◌≡◌, ◌≤◌}
@@ -205,8 +205,8 @@ advertised-kept = record {
 }
 
 -- ---- NEW ENDS
-pub new-advertised : (a b : Config) → KeepsAdvertised (new_party a) (new_party b)
-new-advertised a b = record {
+pub new-advertised : (a b : Config) (runs_a runs_b : ℕ) → KeepsAdvertised (party_with_runs a runs_a) (party_with_runs b runs_b)
+new-advertised a b runs_a runs_b = record {
   room = record { within = record { size = refl; received = whole_empty a.recv_capacity }; mss = omega arith; agreed = λ never. absurd (cc) };
   emitted = λ k g v never. absurd (cc);
 }

@@ -1,8 +1,8 @@
 -- WHAT EVERY WORLD KEEPS is enough for it to be steady.
-use Rattle.tcp_replay.proofs.Words.{arith, Config, EventContent, HasBytes, IsConfig, IsSound, IsSoundPair, max_life, new_world_with, None, other, party_of}
+use Rattle.tcp_replay.proofs.Words.{arith, Config, EventContent, HasBytes, IsConfig, IsSound, IsSoundPair, max_life, world_with_runs, default_runs, None, other, party_of}
 use Rattle.tcp_replay.proofs.Words.{PartyState, refusal_of, world_with_effect, WorldState, ℕ, ◌≡◌, ◌≤◌}
 use Rattle.tcp_replay.proofs.Lemmas.{Both, both-swapped, in-world, kept-after_all, kept-run, life-after, pair-swapped, sound-after, sound-new}
-use Rattle.tcp_progress.proofs.Words.{A, B, EveryWorldIsSteady, InEveryWorld, IsSteady, IsSteadyEnd, IsSteadyPair, least_life, Side}
+use Rattle.tcp_progress.proofs.Words.{A, B, EveryWorldIsSteady, InEveryWorld, InEveryWorldWithRuns, IsSteady, IsSteadyEnd, IsSteadyPair, least_life, Side}
 use Rattle.tcp_progress.proofs.{steady.OnlySent.KeepsSent, steady.OnlySent.new-sent, steady.OnlySent.sent-kept, steady.OnlySent.takes-only_sent, steady.AdvertisedWindows.KeepsAdvertised}
 use Rattle.tcp_progress.proofs.{steady.AdvertisedWindows.new-advertised, steady.AdvertisedWindows.advertises-within, steady.AdvertisedWindows.advertised-kept, steady.Edges.edges-kept, steady.Edges.KeepsEdges, steady.Edges.new-edge}
 use Rattle.tcp_progress.proofs.{steady.FinsByState.KeepsStages, steady.FinsByState.new-stages, steady.FinsByState.stage-says, steady.FinsByState.stages-kept, turn.Live.steady-back}
@@ -64,24 +64,30 @@ side-sent w A h = h.all.sent
 side-sent w B h = both-swapped KeepsSent w.a w.b h.all.sent
 
 -- from the first event on
-pub new-kept : (life : ℕ) (a b : Config) → least_life ≤ life → life ≤ max_life → IsConfig a → IsConfig b → IsKept (new_world_with life a b)
-new-kept life a b least most one two = record {
-  sound = sound-new life a b most one two;
+pub new-kept : (life : ℕ) (a b : Config) (runs_a runs_b : ℕ) → least_life ≤ life → life ≤ max_life → IsConfig a → IsConfig b
+    → IsKept (world_with_runs life a b runs_a runs_b)
+new-kept life a b runs_a runs_b least most one two = record {
+  sound = sound-new life a b runs_a runs_b most one two;
   all = record {
-    sent = record { there = new-sent a b; back = new-sent b a };
-    advertised = record { there = new-advertised a b; back = new-advertised b a };
-    edges = record { there = new-edge a b; back = new-edge b a };
-    stages = record { there = new-stages a b; back = new-stages b a };
+    sent = record { there = new-sent a b runs_a runs_b; back = new-sent b a runs_b runs_a };
+    advertised = record { there = new-advertised a b runs_a runs_b; back = new-advertised b a runs_b runs_a };
+    edges = record { there = new-edge a b runs_a runs_b; back = new-edge b a runs_b runs_a };
+    stages = record { there = new-stages a b runs_a runs_b; back = new-stages b a runs_b runs_a };
   };
   least = least;
 }
 
 -- what all of these worlds keep holds in every world
+pub in-every-world-with-runs : (Holds : WorldState → Type 0) → ((w : WorldState) → IsKept w → Holds w) → InEveryWorldWithRuns Holds
+in-every-world-with-runs Holds holds life a b runs_a runs_b list least most one two fits =
+    let w = world_with_runs life a b runs_a runs_b in
+    let start = new-kept life a b runs_a runs_b least most one two in
+    (holds _ (kept-run IsKept kept-after w list fits start), holds _ (kept-after_all IsKept kept-after w list fits start))
+
+-- with the default number of each end, too
 pub in-every-world : (Holds : WorldState → Type 0) → ((w : WorldState) → IsKept w → Holds w) → InEveryWorld Holds
 in-every-world Holds holds life a b list least most one two fits =
-    let w = new_world_with life a b in
-    let start = new-kept life a b least most one two in
-    (holds _ (kept-run IsKept kept-after w list fits start), holds _ (kept-after_all IsKept kept-after w list fits start))
+    in-every-world-with-runs Holds holds life a b default_runs default_runs list least most one two fits
 
 pub steady_lem : EveryWorldIsSteady
 steady_lem = in-every-world IsSteady kept-steady

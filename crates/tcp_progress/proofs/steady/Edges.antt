@@ -5,7 +5,7 @@ use Rattle.tcp_replay.proofs.Words.{and_parts, arith, Bool, can_mark, cond_both,
 use Rattle.tcp_replay.proofs.Words.{discards, Due, end_of_marks, end_of_marks-marked, end_of_text, eqb-true, false, IfSome, inl, inr, is_of_flight}
 use Rattle.tcp_replay.proofs.Words.{is_probe_needed, is_syn_received, IsAlone, IsMarked, IsMarked-after_offer, IsMarked-after_release}
 use Rattle.tcp_replay.proofs.Words.{IsMarked-without_marks, IsSoundPair, last_mark_end, leb-true, length, length-append, List, ltb-true, marks_text}
-use Rattle.tcp_replay.proofs.Words.{marks_with, marks_with-only, max, min, nat_le, nat_lt, nat_tests, needs_probe, new_count, new_party, NewText, None}
+use Rattle.tcp_replay.proofs.Words.{marks_with, marks_with-only, max, min, nat_le, nat_lt, nat_tests, needs_probe, new_count, party_with_runs, NewText, None}
 use Rattle.tcp_replay.proofs.Words.{Option, or_cases, PartyState, Pending, pending_after, place_of, position_at, position_near, Range, range_after}
 use Rattle.tcp_replay.proofs.Words.{rcv_position_of, send_refusal, Sending, sending_after, Sends, sends_text, SentSegment, slice_get_within, Some, State}
 use Rattle.tcp_replay.proofs.Words.{subst, take, text_limit, true, window_from, with_acked, with_marks, with_syn_acked, with_syn_sent, with_text}
@@ -396,8 +396,8 @@ edges-kept = record {
 }
 
 -- new parties
-pub new-edge : (a b : Config) → Edged (new_party a) (new_party b) (new_party a).endpoint
-new-edge a b = record {
+pub new-edge : (a b : Config) (runs_a runs_b : ℕ) → Edged (party_with_runs a runs_a) (party_with_runs b runs_b) (party_with_runs a runs_a).endpoint
+new-edge a b runs_a runs_b = record {
   sent = omega arith;
   near = omega arith;
   window = omega arith;

@@ -3,7 +3,7 @@ use Rattle.tcp_replay.proofs.Words.{◌+◌, ◌<◌, ◌==◌, Aborted, address
 use Rattle.tcp_replay.proofs.Words.{after_peer_accepts, after_peer_opens, after_text, after_window_and_blocks, and_parts, ap, arith, Bool, close_refusal}
 use Rattle.tcp_replay.proofs.Words.{Closed, CloseWait, Config, Content, decode_answer, discards, Due, Ended, Ending, Established, false, false≢true, fin}
 use Rattle.tcp_replay.proofs.Words.{FinWait2, FitsPhase, has, has_fin, has_peer, is_closed, is_ended, is_fin_acked, is_fin_due, is_last_ack, is_listening}
-use Rattle.tcp_replay.proofs.Words.{is_syn_sent, is_unanswered, IsAlone, IsOwn, IsSoundPair, LastAck, length, List, Listen, new_party, None, not, NotEnded}
+use Rattle.tcp_replay.proofs.Words.{is_syn_sent, is_unanswered, IsAlone, IsOwn, IsSoundPair, LastAck, length, List, Listen, party_with_runs, None, not, NotEnded}
 use Rattle.tcp_replay.proofs.Words.{NotOpen, number, Ok, open_refusal, Orderly, PartyState, Phase, phase_after_fin, phase_after_own_fin, rcv_position_of}
 use Rattle.tcp_replay.proofs.Words.{refl, refusal_if, Reset, rst, segment_of, Sends, SentSegment, State, sym, SynReceived, SynSent, takes_fin, takes_text}
 use Rattle.tcp_replay.proofs.Words.{takes_text_of, TimeWait, true, with_closing, with_fin, ℕ, ◌∙◌, ◌≡◌, ◌≤◌}
@@ -325,8 +325,8 @@ stages-kept = record {
 }
 
 -- NEW PARTIES have it
-pub new-stages : (a b : Config) → KeepsStages (new_party a) (new_party b)
-new-stages a b = record {
+pub new-stages : (a b : Config) (runs_a runs_b : ℕ) → KeepsStages (party_with_runs a runs_a) (party_with_runs b runs_b)
+new-stages a b runs_a runs_b = record {
   table = (λ _. refl, λ never. absurd (cc));
   port = λ never. absurd (cc);
   names = λ k g v never. absurd (cc);

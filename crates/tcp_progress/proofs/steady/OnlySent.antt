@@ -5,7 +5,7 @@ use Rattle.tcp_replay.proofs.Words.{after_delivering, after_discarding, after_du
 use Rattle.tcp_replay.proofs.Words.{after_read, after_text, after_window_and_blocks, and_parts, ap, arith, cases_lt, Cell, cond_both, Config, Content}
 use Rattle.tcp_replay.proofs.Words.{count_numbers, count_of, discards, drop, Due, eqb-false, EventContent, false, false≢true, Fin, fin, has, has_fin}
 use Rattle.tcp_replay.proofs.Words.{HasBytes, is_fin, is_fin_due, is_syn_received, IsSound, IsSoundPair, IsTruthful, length, length-drop, length-take}
-use Rattle.tcp_replay.proofs.Words.{List, min, new_party, new_world_with, NewText, None, not, not-true, number, offset, offset_of_earlier, offset_of_later}
+use Rattle.tcp_replay.proofs.Words.{List, min, party_with_runs, world_with_runs, NewText, None, not, not-true, number, offset, offset_of_earlier, offset_of_later}
 use Rattle.tcp_replay.proofs.Words.{Option, PartyState, piece, plain_segment, position_near, position_of, position_of_number, receive_refusal, Receiving}
 use Rattle.tcp_replay.proofs.Words.{refl, refusal_of, Resend, ResentFin, Reset, rst, segment_of, Sending, Sent, SentSegment, slice_get, Some, start_of}
 use Rattle.tcp_replay.proofs.Words.{State, state_after, subst, suc, sym, Syn, syn, syn_segment, takes_fin, takes_text, Text, text_of, true, window}
@@ -16,7 +16,7 @@ use Rattle.tcp_replay.proofs.Lemmas.{due-position, end-closed, end-listen, end-s
 use Rattle.tcp_replay.proofs.Lemmas.{held-none, held-same, in-world, IsAhead, IsSaid, IsYoung, Kept, kept-after_all, kept-run, kept-same, KeptByCalls}
 use Rattle.tcp_replay.proofs.Lemmas.{MayGoOut, Moved, on-arrival, one_if, one_if-false, one_if-most, PairKept, placed, said-after, said-back}
 use Rattle.tcp_replay.proofs.Lemmas.{same-window_and_blocks, sound-after, sound-new, Speaks, syn-bits, text_advance, uncapped_rcv_position}
-use Rattle.tcp_progress.proofs.Words.{NothingIsTakenBeforeItIsSent, TakeOnlySent, TakesOnlySent}
+use Rattle.tcp_progress.proofs.Words.{NothingIsTakenBeforeItIsSentWithRuns, TakeOnlySent, TakesOnlySent}
 use Rattle.tcp_replay.proofs.Lemmas.{waiting-bit}
 
 -- the byte at this place behind a position lies below another one
@@ -256,8 +256,8 @@ sent-after : (w : WorldState) (event : EventContent) → HasBytes event → refu
 sent-after w event fits e h =
     record { sound = sound-after w event fits e h.sound; sent = in-world _ _ _ sent-kept w event h.sound.life fits e tt tt h.sound.ends h.sent }
 
-pub new-sent : (a b : Config) → KeepsSent (new_party a) (new_party b)
-new-sent a b = record { taken = record { next = λ never. absurd (cc); held = held-none (Below 1 0) 0 a.recv_capacity }; emitted = λ k g v never. absurd (cc) }
+pub new-sent : (a b : Config) (runs_a runs_b : ℕ) → KeepsSent (party_with_runs a runs_a) (party_with_runs b runs_b)
+new-sent a b runs_a runs_b = record { taken = record { next = λ never. absurd (cc); held = held-none (Below 1 0) 0 a.recv_capacity }; emitted = λ k g v never. absurd (cc) }
 
 -- each held byte, by its place
 held-below : (from n start : ℕ) (held : List (Option Cell)) (place : ℕ) (cell : Cell) → AllHeld (Below from n) start held
@@ -281,10 +281,11 @@ takes-only_sent x y h = record {
 pub only_sent : (w : WorldState) → Both KeepsSent w.a w.b → TakeOnlySent w
 only_sent w h = record { there = takes-only_sent w.a w.b h; back = takes-only_sent w.b w.a (both-swapped KeepsSent _ _ h) }
 
-pub only_sent_lem : NothingIsTakenBeforeItIsSent
-only_sent_lem life a b list most one two fits =
-    let new : Both KeepsSent (new_party a) (new_party b) = record { there = new-sent a b; back = new-sent b a } in
-    let start : IsSoundAndSent (new_world_with life a b) = record { sound = sound-new life a b most one two; sent = new } in
-    let stops = kept-run IsSoundAndSent sent-after (new_world_with life a b) list fits start in
-    let goes_on = kept-after_all IsSoundAndSent sent-after (new_world_with life a b) list fits start in
+pub only_sent_lem : NothingIsTakenBeforeItIsSentWithRuns
+only_sent_lem life a b runs_a runs_b list most one two fits =
+    let w = world_with_runs life a b runs_a runs_b in
+    let new : Both KeepsSent w.a w.b = record { there = new-sent a b runs_a runs_b; back = new-sent b a runs_b runs_a } in
+    let start : IsSoundAndSent w = record { sound = sound-new life a b runs_a runs_b most one two; sent = new } in
+    let stops = kept-run IsSoundAndSent sent-after w list fits start in
+    let goes_on = kept-after_all IsSoundAndSent sent-after w list fits start in
     (only_sent _ stops.sent, only_sent _ goes_on.sent)

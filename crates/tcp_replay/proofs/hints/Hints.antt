@@ -6,7 +6,7 @@ use Rattle.tcp_replay.proofs.Words.{arith, block_numbers, blocks, blocks_to_repo
 use Rattle.tcp_replay.proofs.Words.{Ending, eqb-false, EventContent, false, false≢true, has, has_discarded, HasBytes, HasPosition, HasTrueHints}
 use Rattle.tcp_replay.proofs.Words.{HintsAreTrue, inr, insertion_by_stamp, is_current, is_sack_offered, is_syn_received, IsBlockBehind, IsHeld, IsMaximal}
 use Rattle.tcp_replay.proofs.Words.{IsSoundPair, IsTrueBlock, IsTruthful, KeepBothHints, KeepsHints, length, List, map, max_blocks, max_life, Mss, nat_lt}
-use Rattle.tcp_replay.proofs.Words.{new_party, None, not, not-true, number, offset, Option, other, PartyState, permission_options, plain_segment}
+use Rattle.tcp_replay.proofs.Words.{party_with_runs, None, not, not-true, number, offset, Option, other, PartyState, permission_options, plain_segment}
 use Rattle.tcp_replay.proofs.Words.{position_near, rcv_position, rcv_position_of, Receiving, refl, refusal_of, reported_blocks, Reset, rst, Run, runs}
 use Rattle.tcp_replay.proofs.Words.{runs_are_maximal_lem, runs_newest_first, sack_options, scale_options, segment_of, Sending, SentSegment, shift_offered}
 use Rattle.tcp_replay.proofs.Words.{slice_get, Some, State, subst, suc, sym, Syn, take, takes_fin, takes_text, takes_text_of, true, window_from}
@@ -316,12 +316,12 @@ pub hints-after : (w : WorldState) (event : EventContent) → w.life ≤ max_lif
 hints-after w event most fits e ends h = in-world _ _ _ hints-kept w event most fits e tt tt ends h
 
 -- nothing is marked or reported yet
-new-hints : (a b : Config) → KeepsHints (new_party a) (new_party b)
-new-hints a b = record { blocks = λ k g v never. absurd (cc); marks = λ stays place never. absurd (cc) }
+new-hints : (a b : Config) (runs_a runs_b : ℕ) → KeepsHints (party_with_runs a runs_a) (party_with_runs b runs_b)
+new-hints a b runs_a runs_b = record { blocks = λ k g v never. absurd (cc); marks = λ stays place never. absurd (cc) }
 
 -- two new ends report and mark nothing
-pub hints-new : (a b : Config) → KeepBothHints (new_party a) (new_party b)
-hints-new a b = record { there = new-hints a b; back = new-hints b a }
+pub hints-new : (a b : Config) (runs_a runs_b : ℕ) → KeepBothHints (party_with_runs a runs_a) (party_with_runs b runs_b)
+hints-new a b runs_a runs_b = record { there = new-hints a b runs_a runs_b; back = new-hints b a runs_b runs_a }
 
 -- what is kept tells that the hints are true
 true-there : (p q : PartyState) → KeepsHints p q → HasTrueHints p q

@@ -5,7 +5,7 @@ use Rattle.tcp_replay.proofs.Words.{after_taking_shut, after_text, after_window_
 use Rattle.tcp_replay.proofs.Words.{cond_both, Config, Content, count_below, discards, Ending, Established, false, false≢true, fin, FinWait1, first_reset}
 use Rattle.tcp_replay.proofs.Words.{FitsPhase, has, has_fin, has_peer, IfSome, if◌then◌else◌, is_closed, is_fin_due, is_handshake, is_newer, is_of_flight}
 use Rattle.tcp_replay.proofs.Words.{is_syn_received, IsAlone, IsConfig, IsWritable, leb-true, length, length-marks_with, List, ltb-true, marks_text}
-use Rattle.tcp_replay.proofs.Words.{marks_with, max, nat_le, nat_lt, new_end, None, not, not-true, NotEnded, number, Option, or_cases, phase_after_fin}
+use Rattle.tcp_replay.proofs.Words.{marks_with, max, nat_le, nat_lt, end_with_runs, None, not, not-true, NotEnded, number, Option, or_cases, phase_after_fin}
 use Rattle.tcp_replay.proofs.Words.{phase_after_own_fin, place_of, position_near, refl, Sending, Sends, Some, State, sym, takes_fin, takes_text}
 use Rattle.tcp_replay.proofs.Words.{takes_text_of, true, WaitingReset, window_from, with_ack_pending, with_acked, with_fin, with_marks, with_reset}
 use Rattle.tcp_replay.proofs.Words.{with_syn_acked, with_window, without_resend, ◌||◌, ℕ, ◌∙◌, ◌≡◌, ◌≤◌, ⊎_elim}
@@ -16,8 +16,8 @@ use Rattle.tcp_replay.proofs.{pair.Halves.sends-acked, pair.Halves.sends-discard
 use Rattle.tcp_replay.proofs.{Cases.own_fin-cases}
 
 -- a new end
-pub alone-new : (c : Config) → IsConfig c → IsAlone (new_end c) [] false
-alone-new c is = record {
+pub alone-new : (c : Config) (runs : ℕ) → IsConfig c → IsAlone (end_with_runs c runs) [] false
+alone-new c runs is = record {
   config = is;
   closing = refl;
   progress = λ _. record { snd_nxt_is = refl; not_opened = refl };

@@ -2,7 +2,7 @@
 use Rattle.tcp_replay.proofs.Words.{◌%◌, ◌+◌, ◌++◌, ◌-◌, ◌<◌, [], ◌^◌, advance_of, advance_of-answer_for, after_delivering, after_place, after_read}
 use Rattle.tcp_replay.proofs.Words.{after_text, answer_for, ap, append-nil, append_assoc, arith, Bool, bytes_in_order, Cell, distance, drop, false}
 use Rattle.tcp_replay.proofs.Words.{false≢true, greatest_stamp, if◌then◌else◌, Inbox, is_refused, length, length-append, List, ltb-false, ltb-true, min}
-use Rattle.tcp_replay.proofs.Words.{nat_lt, negsuc, new_receiving, None, NotKept, number, offset, offset_ahead, offset_of_earlier, Option, overlay}
+use Rattle.tcp_replay.proofs.Words.{nat_lt, negsuc, receiving_with_runs, None, NotKept, number, offset, offset_ahead, offset_of_earlier, Option, overlay}
 use Rattle.tcp_replay.proofs.Words.{overlay_of, piece, place_answer, Receiving, refl, replicate, Run, runs, slice_get, Some, subst, suc, sym, take}
 use Rattle.tcp_replay.proofs.Words.{take-append-drop, take_min, true, window, with_fin, with_overlay, with_ranks, with_ranks_from, with_syn, without_bytes}
 use Rattle.tcp_replay.proofs.Words.{zero, ℕ, ℤ, ◌∙◌, ◌∷◌, ◌≡◌, ◌≤◌}
@@ -199,8 +199,8 @@ pub record IsFed (P : ℕ → ℕ → Type 0) (r : Receiving) (irs k : ℕ) (del
   pub whole : gone ≡ false → length (delivered ++ r.inbox.unread) ≡ k
 
 -- nothing came at a new end
-pub fed-new : (P : ℕ → ℕ → Type 0) (capacity irs : ℕ) → IsFed P (new_receiving capacity) irs 0 [] false
-fed-new P capacity irs = record {
+pub fed-new : (P : ℕ → ℕ → Type 0) (capacity runs irs : ℕ) → IsFed P (receiving_with_runs capacity runs) irs 0 [] false
+fed-new P capacity runs irs = record {
   next = λ never. absurd (cc);
   unopened = λ _. (refl, refl, refl);
   bare = λ _. held-none (λ _ _. ⊥) 0 capacity;

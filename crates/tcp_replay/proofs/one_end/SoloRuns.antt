@@ -1,14 +1,14 @@
 -- ONE END after every list of events: what it keeps of its own, where what it has came from, and what it emitted.
-use Rattle.tcp_replay.proofs.Words.{◌+◌, ◌++◌, ◌<◌, [], ◌^◌, ack, ack_alone, AcknowledgesInOrder, after_arrival, after_reading, after_solo, AllByRecursion}
+use Rattle.tcp_replay.proofs.Words.{◌+◌, ◌++◌, ◌<◌, [], ◌^◌, ack, ack_alone, AcknowledgesInOrderWith, after_arrival, after_reading, after_solo, AllByRecursion}
 use Rattle.tcp_replay.proofs.Words.{answer_unless, ap, append-nil, append_assoc, AreBytes, arith, Arrive, Bool, bytes_of, bytes_put_out, bytes_taken}
-use Rattle.tcp_replay.proofs.Words.{CallError, Came, CameIn, Config, Content, count_come, count_in_order, count_sendable, decode_answer, decoded_encoded}
-use Rattle.tcp_replay.proofs.Words.{decoded_valid, DecodeError, DeliversWhatCame, destination_of, discards, Due, due_of, end_after, Err, false, false≢true}
+use Rattle.tcp_replay.proofs.Words.{CallError, Came, CameInWith, Config, Content, count_come, count_in_order, count_sendable, decode_answer, decoded_encoded}
+use Rattle.tcp_replay.proofs.Words.{decoded_valid, DecodeError, DeliversWhatCameWith, destination_of, discards, Due, due_of, end_after, Err, false, false≢true}
 use Rattle.tcp_replay.proofs.Words.{front_taken, has, HasRanges, IfSome, if◌then◌else◌, is_acceptable_segment, is_close, is_foreign, IsAlone, IsConfig}
-use Rattle.tcp_replay.proofs.Words.{IsOfUser, List, new_end, None, number, Ok, OneEndIsTrue, Option, option_map, option_to_list, party_after_abort}
+use Rattle.tcp_replay.proofs.Words.{IsOfUser, List, end_with_runs, None, number, Ok, OneEndIsTrueWithRuns, Option, option_map, option_to_list, party_after_abort}
 use Rattle.tcp_replay.proofs.Words.{party_after_acknowledge, party_after_close, party_after_connect, party_after_listen, party_after_receive}
-use Rattle.tcp_replay.proofs.Words.{party_after_resend_first, party_after_send, party_after_timer, PartyState, Peer, rcv_position_after, refl, Reset}
-use Rattle.tcp_replay.proofs.Words.{Result, rst, run_alone, segment_alone, segment_due, segment_emitted, segment_of, send_refusal, SendsItsUsers}
-use Rattle.tcp_replay.proofs.Words.{slice_get, solo_run, solo_start, SoloContent, SoloState, Some, State, subst, sym, Syn, syn, TookSyn, true, ◌||◌, ℕ}
+use Rattle.tcp_replay.proofs.Words.{party_after_resend_first, party_after_send, party_after_timer, PartyState, Peer, rcv_position_with, refl, Reset}
+use Rattle.tcp_replay.proofs.Words.{Result, rst, alone_with_runs, segment_alone, segment_due, segment_emitted, segment_of, send_refusal, SendsItsUsers}
+use Rattle.tcp_replay.proofs.Words.{slice_get, solo_run, solo_with_runs, SoloContent, SoloState, Some, State, subst, sym, Syn, syn, TookSynWith, true, ◌||◌, ℕ}
 use Rattle.tcp_replay.proofs.Words.{◌∙◌, ◌∷◌, ◌≡◌, ⊎_elim}
 use Rattle.tcp_replay.specs.SoloEvents.{Abort, Acknowledge, Close, Connect, Emit, EmitAcknowledgement, Listen, Receive, ResendFirst, Send, Timer}
 use Rattle.tcp_replay.proofs.one_end.Feeds.{AllText, ByNumber, fed-any, fed-more, fed-new, IsFed, text-at, text-front, text-of}
@@ -163,9 +163,9 @@ came-more list e h = record {
   read = h.read;
 }
 
-byte-more : (c : Config) (list : List SoloContent) (e : SoloContent) (n byte : ℕ) → CameIn c list n byte → CameIn c (list ++ e ∷ []) n byte
+byte-more : (c : Config) (runs : ℕ) (list : List SoloContent) (e : SoloContent) (n byte : ℕ) → CameInWith c runs list n byte → CameInWith c runs (list ++ e ∷ []) n byte
 unfolding came-more
-byte-more c list e n byte h =
+byte-more c runs list e n byte h =
     record {
       came = came-more list e h.came;
       mine = h.mine;
@@ -178,21 +178,21 @@ byte-more c list e n byte h =
       number = h.number;
     }
 
-syn-more : (c : Config) (list : List SoloContent) (e : SoloContent) (irs : ℕ) → TookSyn c list irs → TookSyn c (list ++ e ∷ []) irs
+syn-more : (c : Config) (runs : ℕ) (list : List SoloContent) (e : SoloContent) (irs : ℕ) → TookSynWith c runs list irs → TookSynWith c runs (list ++ e ∷ []) irs
 unfolding came-more
-syn-more c list e irs h = record { came = came-more list e h.came; is_syn = h.is_syn; before = h.before; after = h.after; number = h.number }
+syn-more c runs list e irs h = record { came = came-more list e h.came; is_syn = h.is_syn; before = h.before; after = h.after; number = h.number }
 
 -- the segment that comes last
 came-last : (list : List SoloContent) (src dst bytes : List ℕ) (v : Content) → decode_answer src dst bytes ≡ Ok v → Came (list ++ Arrive src dst bytes ∷ [])
 came-last list src dst bytes v e = record { front = list; src = src; dst = dst; bytes = bytes; rest = []; whole = refl; content = v; read = e }
 
-text-came : (c : Config) (list : List SoloContent) (x : SoloState) (src dst bytes : List ℕ) (v : Content) → run_alone c list ≡ x
+text-came : (c : Config) (runs : ℕ) (list : List SoloContent) (x : SoloState) (src dst bytes : List ℕ) (v : Content) → alone_with_runs c runs list ≡ x
     → decode_answer src dst bytes ≡ Ok v
     → is_foreign x.endpoint src dst v ≡ false → IsTaken x.endpoint v
-    → AllText (ByNumber (CameIn c (list ++ Arrive src dst bytes ∷ [])) v.seq) 0 v.text
+    → AllText (ByNumber (CameInWith c runs (list ++ Arrive src dst bytes ∷ [])) v.seq) 0 v.text
 unfolding came-last
-text-came c list x src dst bytes v at e mine fits =
-    text-of (ByNumber (CameIn c (list ++ Arrive src dst bytes ∷ [])) v.seq) 0 0 v.text refl (λ i byte is. record {
+text-came c runs list x src dst bytes v at e mine fits =
+    text-of (ByNumber (CameInWith c runs (list ++ Arrive src dst bytes ∷ [])) v.seq) 0 0 v.text refl (λ i byte is. record {
       came = came-last list src dst bytes v e;
       mine = ap (λ (y : SoloState). is_foreign y.endpoint src dst v) at ∙ mine;
       acceptable = ap (λ (y : SoloState). is_acceptable_segment y.endpoint v) at ∙ fits.acceptable;
@@ -220,12 +220,12 @@ irs_of x irs [] = irs
 irs_of x irs (e ∷ list) = irs_of (after_solo x e) (next_irs x.endpoint irs e) list
 
 -- WHAT HOLDS AFTER THESE EVENTS
-pub record Holds (c : Config) (list : List SoloContent) (x : SoloState) (irs k : ℕ) : Type 0 where
-  pub at : run_alone c list ≡ x
+pub record Holds (c : Config) (runs : ℕ) (list : List SoloContent) (x : SoloState) (irs k : ℕ) : Type 0 where
+  pub at : alone_with_runs c runs list ≡ x
   pub config : x.endpoint.config ≡ c
   pub alone : IsAlone x.endpoint x.accepted x.closed
-  pub fed : IsFed (CameIn c list) x.endpoint.receiving irs k x.delivered (discards x.endpoint.ending)
-  pub taken : x.endpoint.receiving.opened ≡ true → TookSyn c list irs
+  pub fed : IsFed (CameInWith c runs list) x.endpoint.receiving irs k x.delivered (discards x.endpoint.ending)
+  pub taken : x.endpoint.receiving.opened ≡ true → TookSynWith c runs list irs
   pub sends : SendsItsUsers c x.accepted x.closed x.emitted
 
 -- one event more
@@ -281,39 +281,39 @@ fed-next P s irs k delivered (Arrive src dst bytes) h = fed-irs P s irs (seq_rea
 fed-next P s irs k delivered other h = h
 
 -- by event
-feeds-by : (c : Config) (list : List SoloContent) (x : SoloState) (irs k : ℕ) (e : SoloContent) → HasRanges e → Holds c list x irs k
-    → IsFed (CameIn c (list ++ e ∷ [])) x.endpoint.receiving irs k x.delivered (discards x.endpoint.ending)
-    → Feeds (CameIn c (list ++ e ∷ [])) (BringsSyn e) x.endpoint (end_after x.endpoint e) (next_irs x.endpoint irs e) k
+feeds-by : (c : Config) (runs : ℕ) (list : List SoloContent) (x : SoloState) (irs k : ℕ) (e : SoloContent) → HasRanges e → Holds c runs list x irs k
+    → IsFed (CameInWith c runs (list ++ e ∷ [])) x.endpoint.receiving irs k x.delivered (discards x.endpoint.ending)
+    → Feeds (CameInWith c runs (list ++ e ∷ [])) (BringsSyn e) x.endpoint (end_after x.endpoint e) (next_irs x.endpoint irs e) k
     (x.delivered ++ bytes_put_out x.endpoint e)
-feeds-by c list x irs k e fits h fed =
-    let P = λ (e : SoloContent) (s : State) (delivered : List ℕ). Feeds (CameIn c (list ++ e ∷ [])) (BringsSyn e) x.endpoint s
+feeds-by c runs list x irs k e fits h fed =
+    let P = λ (e : SoloContent) (s : State) (delivered : List ℕ). Feeds (CameInWith c runs (list ++ e ∷ [])) (BringsSyn e) x.endpoint s
     (next_irs x.endpoint irs e) k delivered in
     solo-step x (λ p. P e p.endpoint p.delivered) h.alone
     (λ peer _. feeds-calls _ (BringsSyn e) peer (party_in x) (next_irs x.endpoint irs e) k h.alone (fed-next _ x.endpoint irs k x.delivered e fed)) e fits
     (λ src dst bytes is. subst (λ e. P e (after_arrival x.endpoint src dst bytes) x.delivered) (sym is)
     (feeds-arrived _ x.endpoint irs k x.delivered x.accepted x.closed src dst bytes (subst HasRanges is fits) h.alone
-    (λ v e mine ok. text-came c list x src dst bytes v h.at e mine ok)
-    (subst (λ e. IsFed (CameIn c (list ++ e ∷ [])) x.endpoint.receiving irs k x.delivered (discards x.endpoint.ending)) is fed)))
+    (λ v e mine ok. text-came c runs list x src dst bytes v h.at e mine ok)
+    (subst (λ e. IsFed (CameInWith c runs (list ++ e ∷ [])) x.endpoint.receiving irs k x.delivered (discards x.endpoint.ending)) is fed)))
 
-feeds-step : (c : Config) (list : List SoloContent) (x : SoloState) (irs k : ℕ) (e : SoloContent) → HasRanges e → Holds c list x irs k
-    → Feeds (CameIn c (list ++ e ∷ [])) (BringsSyn e) x.endpoint (end_after x.endpoint e) (next_irs x.endpoint irs e) k
+feeds-step : (c : Config) (runs : ℕ) (list : List SoloContent) (x : SoloState) (irs k : ℕ) (e : SoloContent) → HasRanges e → Holds c runs list x irs k
+    → Feeds (CameInWith c runs (list ++ e ∷ [])) (BringsSyn e) x.endpoint (end_after x.endpoint e) (next_irs x.endpoint irs e) k
     (x.delivered ++ bytes_put_out x.endpoint e)
-feeds-step c list x irs k e fits h =
-    feeds-by c list x irs k e fits h
-    (fed-more (CameIn c list) (CameIn c (list ++ e ∷ [])) x.endpoint.receiving irs k x.delivered (discards x.endpoint.ending) (byte-more c list e) h.fed)
+feeds-step c runs list x irs k e fits h =
+    feeds-by c runs list x irs k e fits h
+    (fed-more (CameInWith c runs list) (CameInWith c runs (list ++ e ∷ [])) x.endpoint.receiving irs k x.delivered (discards x.endpoint.ending) (byte-more c runs list e) h.fed)
 
 -- IRS is what it was once a SYN was taken
 pub irs-same : (s : State) (irs : ℕ) (e : SoloContent) → s.receiving.opened ≡ true → next_irs s irs e ≡ irs
 irs-same s irs (Arrive src dst bytes) opened = ap (λ (b : Bool). if b then irs else seq_read (decode_answer src dst bytes)) opened
 irs-same s irs other opened = refl
 
-syn-read : (c : Config) (list : List SoloContent) (x : SoloState) (irs : ℕ) (src dst bytes : List ℕ) (r : Result Content DecodeError)
-    → decode_answer src dst bytes ≡ r → IsSynRead r → run_alone c list ≡ x
+syn-read : (c : Config) (runs : ℕ) (list : List SoloContent) (x : SoloState) (irs : ℕ) (src dst bytes : List ℕ) (r : Result Content DecodeError)
+    → decode_answer src dst bytes ≡ r → IsSynRead r → alone_with_runs c runs list ≡ x
     → x.endpoint.receiving.opened ≡ false → (after_arrival x.endpoint src dst bytes).receiving.opened ≡ true
-    → TookSyn c (list ++ Arrive src dst bytes ∷ []) (seq_read r)
+    → TookSynWith c runs (list ++ Arrive src dst bytes ∷ []) (seq_read r)
 unfolding came-last
-syn-read c list x irs src dst bytes (Err fault) e is at shut opened = absurd is
-syn-read c list x irs src dst bytes (Ok v) e is at shut opened = record {
+syn-read c runs list x irs src dst bytes (Err fault) e is at shut opened = absurd is
+syn-read c runs list x irs src dst bytes (Ok v) e is at shut opened = record {
   came = came-last list src dst bytes v e;
   is_syn = is;
   before = ap (λ (y : SoloState). y.endpoint.receiving.opened) at ∙ shut;
@@ -321,28 +321,28 @@ syn-read c list x irs src dst bytes (Ok v) e is at shut opened = record {
   number = refl;
 }
 
-syn-new : (c : Config) (list : List SoloContent) (x : SoloState) (irs : ℕ) (e : SoloContent) → BringsSyn e → run_alone c list ≡ x
+syn-new : (c : Config) (runs : ℕ) (list : List SoloContent) (x : SoloState) (irs : ℕ) (e : SoloContent) → BringsSyn e → alone_with_runs c runs list ≡ x
     → x.endpoint.receiving.opened ≡ false
-    → (end_after x.endpoint e).receiving.opened ≡ true → TookSyn c (list ++ e ∷ []) (next_irs x.endpoint irs e)
-syn-new c list x irs (Arrive src dst bytes) is at shut opened =
-    subst (TookSyn c (list ++ Arrive src dst bytes ∷ [])) (ap (λ (b : Bool). if b then irs else seq_read (decode_answer src dst bytes)) (sym shut))
-    (syn-read c list x irs src dst bytes (decode_answer src dst bytes) refl is at shut opened)
-syn-new c list x irs other is at shut opened = absurd is
+    → (end_after x.endpoint e).receiving.opened ≡ true → TookSynWith c runs (list ++ e ∷ []) (next_irs x.endpoint irs e)
+syn-new c runs list x irs (Arrive src dst bytes) is at shut opened =
+    subst (TookSynWith c runs (list ++ Arrive src dst bytes ∷ [])) (ap (λ (b : Bool). if b then irs else seq_read (decode_answer src dst bytes)) (sym shut))
+    (syn-read c runs list x irs src dst bytes (decode_answer src dst bytes) refl is at shut opened)
+syn-new c runs list x irs other is at shut opened = absurd is
 
-syn-step : (c : Config) (list : List SoloContent) (x : SoloState) (irs k : ℕ) (e : SoloContent) → HasRanges e → Holds c list x irs k
+syn-step : (c : Config) (runs : ℕ) (list : List SoloContent) (x : SoloState) (irs k : ℕ) (e : SoloContent) → HasRanges e → Holds c runs list x irs k
     → (end_after x.endpoint e).receiving.opened ≡ true
-    → TookSyn c (list ++ e ∷ []) (next_irs x.endpoint irs e)
-syn-step c list x irs k e fits h opened =
+    → TookSynWith c runs (list ++ e ∷ []) (next_irs x.endpoint irs e)
+syn-step c runs list x irs k e fits h opened =
     let s = x.endpoint in
-    by_test s.receiving.opened (λ _. TookSyn c (list ++ e ∷ []) (next_irs s irs e))
-    (λ had. subst (TookSyn c (list ++ e ∷ [])) (sym (irs-same s irs e had)) (syn-more c list e irs (h.taken had)))
-    (λ shut. ⊎_elim (λ (had : s.receiving.opened ≡ true). absurd (false≢true (sym shut ∙ had))) (λ is. syn-new c list x irs e is h.at shut opened)
-    ((feeds-step c list x irs k e fits h).opens opened))
+    by_test s.receiving.opened (λ _. TookSynWith c runs (list ++ e ∷ []) (next_irs s irs e))
+    (λ had. subst (TookSynWith c runs (list ++ e ∷ [])) (sym (irs-same s irs e had)) (syn-more c runs list e irs (h.taken had)))
+    (λ shut. ⊎_elim (λ (had : s.receiving.opened ≡ true). absurd (false≢true (sym shut ∙ had))) (λ is. syn-new c runs list x irs e is h.at shut opened)
+    ((feeds-step c runs list x irs k e fits h).opens opened))
 
 -- all that was emitted
-sends-step : (c : Config) (list : List SoloContent) (x : SoloState) (irs k : ℕ) (e : SoloContent) → Holds c list x irs k
+sends-step : (c : Config) (runs : ℕ) (list : List SoloContent) (x : SoloState) (irs k : ℕ) (e : SoloContent) → Holds c runs list x irs k
     → SendsItsUsers c (x.accepted ++ bytes_taken x.endpoint e) (x.closed || is_close x.endpoint e) (x.emitted ++ option_to_list (segment_emitted x.endpoint e))
-sends-step c list x irs k e h n to bytes is =
+sends-step c runs list x irs k e h n to bytes is =
     let s = x.endpoint in
     let more : (v : Content) → IsOfUser c.isn.0 x.accepted x.closed v → IsOfUser c.isn.0 (x.accepted ++ bytes_taken s e) (x.closed || is_close s e) v =
     λ v own. of_user-grows c.isn.0 c.isn.0 x.accepted (bytes_taken s e) (x.accepted ++ bytes_taken s e) x.closed (x.closed || is_close s e) v refl refl
@@ -357,50 +357,50 @@ sends-step c list x irs k e h n to bytes is =
     ))
     (slice_get-more x.emitted (segment_emitted s e) n (to, bytes) is)
 
-holds-step : (c : Config) (list : List SoloContent) (x : SoloState) (irs k : ℕ) (e : SoloContent) → HasRanges e → Holds c list x irs k
-    → Holds c (list ++ e ∷ []) (after_solo x e) (next_irs x.endpoint irs e) (k + count_come x.endpoint e)
-holds-step c list x irs k e fits h =
-    let feeds = feeds-step c list x irs k e fits h in
+holds-step : (c : Config) (runs : ℕ) (list : List SoloContent) (x : SoloState) (irs k : ℕ) (e : SoloContent) → HasRanges e → Holds c runs list x irs k
+    → Holds c runs (list ++ e ∷ []) (after_solo x e) (next_irs x.endpoint irs e) (k + count_come x.endpoint e)
+holds-step c runs list x irs k e fits h =
+    let feeds = feeds-step c runs list x irs k e fits h in
     record {
-      at = run-last (solo_start c) list e ∙ ap (λ (y : SoloState). after_solo y e) h.at;
+      at = run-last (solo_with_runs c runs) list e ∙ ap (λ (y : SoloState). after_solo y e) h.at;
       config = feeds.config ∙ h.config;
       alone = alone-step x e fits h.alone;
       fed = feeds.fed;
-      taken = syn-step c list x irs k e fits h;
-      sends = sends-step c list x irs k e h;
+      taken = syn-step c runs list x irs k e fits h;
+      sends = sends-step c runs list x irs k e h;
     }
 
 -- ALL EVENTS
-record HoldsAfter (c : Config) (list rest : List SoloContent) (x : SoloState) (irs k : ℕ) : Type 0 where
-  holds : Holds c (list ++ rest) (solo_run x rest) (irs_of x irs rest) (k + count_in_order x.endpoint rest)
+record HoldsAfter (c : Config) (runs : ℕ) (list rest : List SoloContent) (x : SoloState) (irs k : ℕ) : Type 0 where
+  holds : Holds c runs (list ++ rest) (solo_run x rest) (irs_of x irs rest) (k + count_in_order x.endpoint rest)
   stays : x.endpoint.receiving.opened ≡ true → irs_of x irs rest ≡ irs
 
-reaches : (c : Config) (list rest : List SoloContent) (x : SoloState) (irs k : ℕ) → AllByRecursion HasRanges rest → Holds c list x irs k
-    → HoldsAfter c list rest x irs k
+reaches : (c : Config) (runs : ℕ) (list rest : List SoloContent) (x : SoloState) (irs k : ℕ) → AllByRecursion HasRanges rest → Holds c runs list x irs k
+    → HoldsAfter c runs list rest x irs k
 unfolding solo_run count_in_order
-reaches c list [] x irs k fits h =
+reaches c runs list [] x irs k fits h =
     let none : k ≡ k + 0 = omega arith in
-    record { holds = subst (λ (l : List SoloContent). Holds c l x irs (k + 0)) (sym (append-nil list)) (subst (Holds c list x irs) none h); stays = λ _. refl }
-reaches c list (e ∷ rest) x irs k fits h =
+    record { holds = subst (λ (l : List SoloContent). Holds c runs l x irs (k + 0)) (sym (append-nil list)) (subst (Holds c runs list x irs) none h); stays = λ _. refl }
+reaches c runs list (e ∷ rest) x irs k fits h =
     let s = x.endpoint in
-    let next = holds-step c list x irs k e fits.0 h in
-    let further = reaches c (list ++ e ∷ []) rest (after_solo x e) (next_irs s irs e) (k + count_come s e) fits.1 next in
+    let next = holds-step c runs list x irs k e fits.0 h in
+    let further = reaches c runs (list ++ e ∷ []) rest (after_solo x e) (next_irs s irs e) (k + count_come s e) fits.1 next in
     let sum : (k + count_come s e) + count_in_order (end_after s e) rest ≡ k + (count_come s e + count_in_order (end_after s e) rest) = omega arith in
     record {
-      holds = subst (λ (l : List SoloContent). Holds c l (solo_run (after_solo x e) rest) (irs_of (after_solo x e) (next_irs s irs e) rest)
+      holds = subst (λ (l : List SoloContent). Holds c runs l (solo_run (after_solo x e) rest) (irs_of (after_solo x e) (next_irs s irs e) rest)
           (k + (count_come s e + count_in_order (end_after s e) rest)))
           (append_assoc list (e ∷ []) rest)
-          (subst (Holds c ((list ++ e ∷ []) ++ rest) (solo_run (after_solo x e) rest) (irs_of (after_solo x e) (next_irs s irs e) rest)) sum further.holds);
-      stays = λ opened. further.stays ((feeds-step c list x irs k e fits.0 h).stays opened) ∙ irs-same s irs e opened;
+          (subst (Holds c runs ((list ++ e ∷ []) ++ rest) (solo_run (after_solo x e) rest) (irs_of (after_solo x e) (next_irs s irs e) rest)) sum further.holds);
+      stays = λ opened. further.stays ((feeds-step c runs list x irs k e fits.0 h).stays opened) ∙ irs-same s irs e opened;
     }
 
-holds-new : (c : Config) → IsConfig c → Holds c [] (solo_start c) 0 0
+holds-new : (c : Config) (runs : ℕ) → IsConfig c → Holds c runs [] (solo_with_runs c runs) 0 0
 unfolding solo_run
-holds-new c is = record {
+holds-new c runs is = record {
   at = refl;
   config = refl;
-  alone = alone-new c is;
-  fed = fed-new (CameIn c []) c.recv_capacity 0;
+  alone = alone-new c runs is;
+  fed = fed-new (CameInWith c runs []) c.recv_capacity runs 0;
   taken = λ never. absurd (cc);
   sends = λ k to bytes never. absurd (cc);
 }
@@ -419,15 +419,15 @@ not-empty : (xs more : List ℕ) (i byte : ℕ) → xs ++ more ≡ [] → slice_
 not-empty [] more i byte none is = absurd (cc)
 not-empty (x ∷ xs) more i byte none is = absurd (cc)
 
-delivers-came : (c : Config) (list : List SoloContent) (x : SoloState) (irs k : ℕ) → Holds c list x irs k → DeliversWhatCame c list x.delivered
-delivers-came c list x irs k h =
+delivers-came : (c : Config) (runs : ℕ) (list : List SoloContent) (x : SoloState) (irs k : ℕ) → Holds c runs list x irs k → DeliversWhatCameWith c runs list x.delivered
+delivers-came c runs list x irs k h =
     let r = x.endpoint.receiving in
     record {
       irs = irs;
       came = λ i byte is. (
         h.taken (by_test r.opened (λ b. b ≡ true) (λ _. refl) (λ shut. absurd (not-empty x.delivered r.inbox.unread i byte (h.fed.unopened shut).1 is))),
-        text-at (ByNumber (CameIn c list) irs) 1 x.delivered i (1 + i) byte refl is
-            (text-front (ByNumber (CameIn c list) irs) 1 x.delivered r.inbox.unread h.fed.text),
+        text-at (ByNumber (CameInWith c runs list) irs) 1 x.delivered i (1 + i) byte refl is
+            (text-front (ByNumber (CameInWith c runs list) irs) 1 x.delivered r.inbox.unread h.fed.text),
       );
     }
 
@@ -439,35 +439,36 @@ read_as v = Ok v
 pub content-is : {v w : Content} → read_as v ≡ read_as w → v ≡ w
 content-is e = cc
 
-acknowledges : (c : Config) (list : List SoloContent) → IsConfig c → AllByRecursion HasRanges list → AcknowledgesInOrder c list
-acknowledges c list is fits = record {
-  irs = irs_of (solo_start c) 0 list;
+acknowledges : (c : Config) (runs : ℕ) (list : List SoloContent) → IsConfig c → AllByRecursion HasRanges list → AcknowledgesInOrderWith c runs list
+acknowledges c runs list is fits = record {
+  irs = irs_of (solo_with_runs c runs) 0 list;
   reported = λ front rest event to bytes v whole due read plain acked.
       let all = all-split front (event ∷ rest) (subst (AllByRecursion HasRanges) whole fits) in
-      let start = holds-new c is in
-      let x = run_alone c front in
-      let count : 0 + count_in_order (new_end c) front ≡ count_in_order (new_end c) front = omega arith in
-      let irs = irs_of (solo_start c) 0 front in
-      let there = reaches c [] front (solo_start c) 0 0 all.0 start in
-      let beyond = reaches c front (event ∷ rest) x irs (0 + count_in_order (new_end c) front) all.1 there.holds in
+      let start = holds-new c runs is in
+      let x = alone_with_runs c runs front in
+      let count : 0 + count_in_order (end_with_runs c runs) front ≡ count_in_order (end_with_runs c runs) front = omega arith in
+      let irs = irs_of (solo_with_runs c runs) 0 front in
+      let there = reaches c runs [] front (solo_with_runs c runs) 0 0 all.0 start in
+      let beyond = reaches c runs front (event ∷ rest) x irs (0 + count_in_order (end_with_runs c runs) front) all.1 there.holds in
       let out = emits x.endpoint x.accepted x.closed event to bytes there.holds.alone due in
       let same : out.content ≡ v = content-is (sym out.read ∙ ap (λ (c : Config). decode_answer c.addr.0 to bytes) there.holds.config ∙ read) in
       let says = out.says (ap (λ (w : Content). has rst w.flags) same ∙ plain) in
       let told = says.reported (ap (λ (w : Content). has ack w.flags) same ∙ acked) in
-      let one : irs_of (solo_start c) 0 list ≡ irs = ap (irs_of (solo_start c) 0) whole ∙ irs-split (solo_start c) 0 front (event ∷ rest) ∙
+      let one : irs_of (solo_with_runs c runs) 0 list ≡ irs = ap (irs_of (solo_with_runs c runs) 0) whole ∙ irs-split (solo_with_runs c runs) 0 front (event ∷ rest) ∙
       beyond.stays told.0 in (
-        subst (TookSyn c front) (sym one) (there.holds.taken told.0),
+        subst (TookSynWith c runs front) (sym one) (there.holds.taken told.0),
         ap (λ (w : Content). w.ack) (sym same) ∙ told.1 ∙ there.holds.fed.next told.0
-            ∙ ap (λ (n : ℕ). number irs (1 + n + one_if x.endpoint.receiving.finished)) count ∙ ap (λ (n : ℕ). number n (rcv_position_after c front)) (sym one),
+            ∙ ap (λ (n : ℕ). number irs (1 + n + one_if x.endpoint.receiving.finished)) count ∙ ap (λ (n : ℕ). number n (rcv_position_with c runs front)) (sym one),
       );
 }
 
--- ONE END IS TRUE, over every list of events, whoever its peer is
-pub one_end_is_true_lem : OneEndIsTrue
-one_end_is_true_lem c list is fits =
-    let there = reaches c [] list (solo_start c) 0 0 fits (holds-new c is) in
+-- ONE END IS TRUE, over every list of events, whoever its peer is, whatever number of runs it keeps
+pub one_end_is_true_lem : OneEndIsTrueWithRuns
+one_end_is_true_lem c runs list is fits =
+    let there = reaches c runs [] list (solo_with_runs c runs) 0 0 fits (holds-new c runs is) in
     record {
       sends = there.holds.sends;
-      delivers = delivers-came c list (run_alone c list) (irs_of (solo_start c) 0 list) (0 + count_in_order (new_end c) list) there.holds;
-      acknowledges = acknowledges c list is fits;
+      delivers = delivers-came c runs list (alone_with_runs c runs list) (irs_of (solo_with_runs c runs) 0 list)
+          (0 + count_in_order (end_with_runs c runs) list) there.holds;
+      acknowledges = acknowledges c runs list is fits;
     }

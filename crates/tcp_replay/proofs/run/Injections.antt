@@ -3,14 +3,14 @@ use Rattle.tcp_replay.proofs.Words.{A, B, after_judgement, after_reading, AreSou
 use Rattle.tcp_replay.proofs.Words.{HandshakeRefusedShut, IfSome}
 use Rattle.tcp_replay.proofs.Words.{IsSoundPair, IsValid, Judgement, judgement, List, max_life, Ok, other, party_of, PartyState, refl, reset_at_ack}
 use Rattle.tcp_replay.proofs.Words.{reset_of_stray, Result, Side, State, subst, sym, true, WaitingReset}
-use Rattle.tcp_replay.proofs.Words.{with_ack_pending, with_reset, WorldState, ℕ, ◌≡◌, ◌∷◌, [], ◌≤◌, new_world_with, IsSound}
+use Rattle.tcp_replay.proofs.Words.{with_ack_pending, with_reset, WorldState, ℕ, ◌≡◌, ◌∷◌, [], ◌≤◌, world_with_runs, default_runs, IsSound}
 use Rattle.tcp_conn.specs.declared.arrive.judgement.Judgement.TheVariants.{Foreign, ResetIgnored, Stray, AckOfListen, OpensNothing, PeerOpens, AckOfNoSyn}
 use Rattle.tcp_conn.specs.declared.arrive.judgement.Judgement.TheVariants.{PeerRefuses, PeerAccepts, Unacceptable, PeerResets, ResetElsewhere, SynInWindow, NoAck}
 use Rattle.tcp_conn.specs.declared.arrive.judgement.Judgement.TheVariants.{AcksUnsent, HandshakeRefused, Taken, TakenShut}
 unfoldable use Rattle.tcp_conn.specs.Arrival.{after_arrival}
 use Rattle.tcp_wire.proofs.RoundTrip.{decoded_valid}
 use Rattle.tcp_wire.specs.Checksum.{AreBytes}
-use Rattle.tcp_replay.specs.Among.{after_happening, ChangesOnlyPending, EveryRunAmongStrangersIsSafe, Happening, Happens, Injection, Injects}
+use Rattle.tcp_replay.specs.Among.{after_happening, ChangesOnlyPending, EveryRunAmongStrangersIsSafe, EveryRunAmongStrangersIsSafeWithRuns, Happening, Happens, Injection, Injects}
 use Rattle.tcp_replay.specs.Among.{is_reading_let_in, IsBlind, IsFair, lets_in, party_after_injection, WhatIsKeptOutChangesOnlyPending}
 use Rattle.tcp_replay.specs.Among.{world_with_injection}
 unfoldable use Rattle.tcp_replay.specs.Among.{after_happenings, AreFair}
@@ -140,7 +140,10 @@ unfolding after_happenings AreFair
 sound-happenings w [] fair h = h
 sound-happenings w (happening ∷ list) fair h = sound-happenings (after_happening w happening) list fair.1 (sound-happening w happening fair.0 h)
 
-pub among_strangers : EveryRunAmongStrangersIsSafe
-among_strangers life a b list most one two fair =
-    let end = sound-happenings (new_world_with life a b) list fair (sound-new life a b most one two) in
+pub among_strangers_with_runs : EveryRunAmongStrangersIsSafeWithRuns
+among_strangers_with_runs life a b runs_a runs_b list most one two fair =
+    let end = sound-happenings (world_with_runs life a b runs_a runs_b) list fair (sound-new life a b runs_a runs_b most one two) in
     (safe-sound _ end, hints-sound _ end, damage-sound _ end)
+
+pub among_strangers : EveryRunAmongStrangersIsSafe
+among_strangers life a b list most one two fair = among_strangers_with_runs life a b default_runs default_runs list most one two fair

@@ -1,10 +1,10 @@
 -- THE HEADLINE on the definitions: every event keeps both ends sound, sound ends are safe, and no segment expires where the lifetime is the longest.
 use Rattle.tcp_replay.proofs.Words.{◌+◌, ◌++◌, ◌-◌, ◌<◌, [], A, ack, acks_late, address_of, age_refusal, AllByRecursion, and_parts, ap, AreOwn}
 use Rattle.tcp_replay.proofs.Words.{AreSoundEnds, arith, Arrived, B, BadChecksum, Bool, both, bytes_of, cond_both, Config, Damage, default_limit, drop}
-use Rattle.tcp_replay.proofs.Words.{Due, Effect, effect_of, EmitsTruth, empty_inbox-agrees, Err, EventContent, EveryRunIsSafe, Expired, false, FindsDamage}
+use Rattle.tcp_replay.proofs.Words.{default_runs, Due, Effect, effect_of, EmitsTruth, empty_inbox-agrees, Err, EventContent, EveryRunIsSafe, EveryRunIsSafeWithRuns, Expired, false, FindsDamage}
 use Rattle.tcp_replay.proofs.Words.{flags_in, grows_for, has, HasBytes, HintsAreTrue, IfErr, IfNone, IfOk, IfSome, is_expired, is_late, IsConfig, IsDamage}
 use Rattle.tcp_replay.proofs.Words.{IsOwn, IsSafe, IsSafeDirection, IsSound, IsSoundEnd, IsSoundPair, KeepsAllSegments, leb-true, length, length-take}
-use Rattle.tcp_replay.proofs.Words.{List, Malformed, max_life, min, nat_le, new_party, new_world_with, NoMemory, None, not, Ok, OnErr, OnOk, Option}
+use Rattle.tcp_replay.proofs.Words.{List, Malformed, max_life, min, nat_le, party_with_runs, world_with_runs, NoMemory, None, not, Ok, OnErr, OnOk, Option}
 use Rattle.tcp_replay.proofs.Words.{option_map, or_cases, other, Outcome, outcome_of, party_of, PartyState, Peer, rcv_position, refl, refusal_of, Result}
 use Rattle.tcp_replay.proofs.Words.{rst, run_of, sent_by, SentSegment, Side, side_of, Some, State, stay_or, StepError, subst, sym, take, take-append-drop}
 use Rattle.tcp_replay.proofs.Words.{true, world_after, world_after_all, world_from, world_with_effect, WorldState, ◌||◌, ℕ, ◌∙◌, ◌∷◌, ◌≡◌, ◌≤◌, ⊎_elim}
@@ -118,9 +118,9 @@ safe-ends w h = record {
 }
 
 -- TWO NEW ENDS are sound
-new-end : (a b : Config) → IsConfig a → IsSoundEnd (new_party a) (new_party b)
-new-end a b one = record {
-  alone = alone-new a one;
+new-end : (a b : Config) (runs_a runs_b : ℕ) → IsConfig a → IsSoundEnd (party_with_runs a runs_a) (party_with_runs b runs_b)
+new-end a b runs_a runs_b one = record {
+  alone = alone-new a runs_a one;
   speaks = record { peer = λ never. absurd (cc); reset = tt };
   takes =
       record {
@@ -136,8 +136,13 @@ new-end a b one = record {
 }
 
 -- two new ends are sound
-pub ends-new : (life : ℕ) (a b : Config) → IsConfig a → IsConfig b → AreSoundEnds (new_world_with life a b)
-ends-new life a b one two = record { there = new-end a b one; back = new-end b a two; own_there = λ k g none. absurd (cc); own_back = λ k g none. absurd (cc) }
+pub ends-new : (life : ℕ) (a b : Config) (runs_a runs_b : ℕ) → IsConfig a → IsConfig b → AreSoundEnds (world_with_runs life a b runs_a runs_b)
+ends-new life a b runs_a runs_b one two = record {
+  there = new-end a b runs_a runs_b one;
+  back = new-end b a runs_b runs_a two;
+  own_there = λ k g none. absurd (cc);
+  own_back = λ k g none. absurd (cc);
+}
 
 -- ANY RUN keeps what each event that isn't refused keeps
 abbrev pub IsKeptByEvents : (WorldState → Type 0) → Type 0
@@ -167,8 +172,10 @@ module _ (P : WorldState → Type 0) (keeps : IsKeptByEvents P) where
   kept-after_all w (event ∷ list) fits h = kept-after_all (world_after w event) list fits.1 (kept-after w event fits.0 h)
 
 -- so is a new world
-pub sound-new : (life : ℕ) (a b : Config) → life ≤ max_life → IsConfig a → IsConfig b → IsSound (new_world_with life a b)
-sound-new life a b most one two = record { ends = ends-new life a b one two; hints = hints-new a b; life = most }
+pub sound-new : (life : ℕ) (a b : Config) (runs_a runs_b : ℕ) → life ≤ max_life → IsConfig a → IsConfig b
+    → IsSound (world_with_runs life a b runs_a runs_b)
+sound-new life a b runs_a runs_b most one two =
+    record { ends = ends-new life a b runs_a runs_b one two; hints = hints-new a b runs_a runs_b; life = most }
 
 -- and a world after any event
 pub sound-after : (w : WorldState) (event : EventContent) → HasBytes event → refusal_of w event ≡ None → IsSound w → IsSound (world_with_effect w event)
@@ -190,12 +197,15 @@ pub damage-sound : (w : WorldState) → IsSound w → FindsDamage w
 damage-sound w h event is fits e = damage-refused w event is fits e h.ends
 
 -- EVERY RUN IS SAFE, whatever events happen, in whatever order
-pub every_run_is_safe_lem : EveryRunIsSafe
-every_run_is_safe_lem life a b list most one two fits =
-    let start = sound-new life a b most one two in
-    let stops = kept-run IsSound sound-after (new_world_with life a b) list fits start in
-    let goes_on = kept-after_all IsSound sound-after (new_world_with life a b) list fits start in
+pub every_run_with_runs_lem : EveryRunIsSafeWithRuns
+every_run_with_runs_lem life a b runs_a runs_b list most one two fits =
+    let start = sound-new life a b runs_a runs_b most one two in
+    let stops = kept-run IsSound sound-after (world_with_runs life a b runs_a runs_b) list fits start in
+    let goes_on = kept-after_all IsSound sound-after (world_with_runs life a b runs_a runs_b) list fits start in
     (safe-sound _ stops, safe-sound _ goes_on, hints-sound _ stops, hints-sound _ goes_on, damage-sound _ stops, damage-sound _ goes_on)
+
+pub every_run_is_safe_lem : EveryRunIsSafe
+every_run_is_safe_lem life a b list most one two fits = every_run_with_runs_lem life a b default_runs default_runs list most one two fits
 
 -- ONE STEP of the code: what it did if it answered Ok, and nothing if it didn't
 pub sound_step : (r : Result Outcome StepError) (w new : WorldState) (event : EventContent) → IsSound w → OnOk r (new ≡ world_with_effect w event)

@@ -1,4 +1,4 @@
-use Rattle.tcp_driver.proofs.InTime.{in_time_lem}
+use Rattle.tcp_driver.proofs.InTwo.{in_time_lem}
 use Rattle.tcp_driver.proofs.laws.timeout_comes_in_time.Goals as goal
 
 pub returns : goal.returns

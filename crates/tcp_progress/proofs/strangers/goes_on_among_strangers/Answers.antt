@@ -1,5 +1,5 @@
 use Rattle.tcp_progress.proofs.laws.AmongStrangers.{bursts-among, halves-among, halves_had-among, left-among, not_stuck-among, opens-among, served-among}
-use Rattle.tcp_progress.proofs.laws.AmongStrangers.{served_opens-among, turns-among}
+use Rattle.tcp_progress.proofs.laws.AmongStrangers.{goes-on-with-runs, served_opens-among, turns-among}
 use Rattle.tcp_progress.proofs.strangers.goes_on_among_strangers.Goals as goal
 
 pub returns-clause-not_stuck : goal.returns-clause-not_stuck
@@ -28,3 +28,6 @@ returns-clause-bursts c = bursts-among
 
 pub returns-clause-left : goal.returns-clause-left
 returns-clause-left c = left-among
+
+pub returns-clause-with_runs : goal.returns-clause-with_runs
+returns-clause-with_runs c = goes-on-with-runs

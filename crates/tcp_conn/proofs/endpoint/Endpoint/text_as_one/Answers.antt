@@ -1,4 +1,4 @@
-use Rattle.std.proofs.Common.{◌≡◌, ◌∙◌, ◌*◌, ap, arith, max, min, subst, sym}
+use Rattle.std.proofs.Common.{◌≡◌, ◌∙◌, ◌*◌, ap, max, min, subst, sym}
 use Rattle.tcp_halves.specs.declared.sent.Sent.TheVariants.{NewText}
 use Rattle.tcp_halves.specs.Sender.{IsSender}
 use Rattle.tcp_conn.specs.declared.emit.due.Due.TheVariants.{Text}

@@ -1,4 +1,4 @@
-use Rattle.std.proofs.Common.{◌≡◌, ◌++◌, ◌∙◌, List, ℕ, length, subst, sym, ap, drop, ◌+◌, ◌-◌, ◌≤◌, arith}
+use Rattle.std.proofs.Common.{◌≡◌, ◌++◌, ◌∙◌, List, ℕ, length, subst, sym, ap, drop, ◌+◌, ◌-◌, arith}
 use Rattle.tcp_wire.specs.Checksum.{AreBytes}
 use Rattle.tcp_wire.specs.Wire.{Content, IsValid, max_text_len, wire_length, encoded_bytes}
 use Rattle.tcp_conn.specs.State.{State}

@@ -17,7 +17,7 @@ fits g c =
 given : (g : _) (c : goal.After-self-1 g) → (let piece = piece_of 0 (length c.args.text.now) 0 in c.union_of-count.result.to ≡ (union_of piece piece (runs_in c.self.inside.table.items)).to)
 given g c =
     let piece = piece_of 0 (length c.args.text.now) 0 in
-    ap (λ (run : Run). run.to) c.union_of-count.ensures ∙ ap (λ (entries : List Entry). (union_of piece piece (runs_in entries)).to) c.deref.ensures.0
+    ap (λ (run : Run). run.to) c.union_of-count.ensures ∙ ap (λ (entries : List Entry). (union_of piece piece (runs_in entries)).to) c.deref.ensures.value
 
 pub reach-requires : goal.reach-requires
 reach-requires g c =
@@ -27,14 +27,15 @@ reach-requires g c =
     let seen = seen_parts c.self.inside.ring.bytes c.self.inside.unread table c.args.self.now c.self.view_is c.self.invariant.0.fits in
     let before : length c.args.text.now ≤ room = omega (arith, seen.0, seen.1, c.requires.within) in
     let count : c.union_of-count.result.to ≡ (union_of piece piece (runs_in table)).to =
-    ap (λ (run : Run). run.to) c.union_of-count.ensures ∙ ap (λ (entries : List Entry). (union_of piece piece (runs_in entries)).to) c.deref.ensures.0 in
+    ap (λ (run : Run). run.to) c.union_of-count.ensures ∙ ap (λ (entries : List Entry). (union_of piece piece (runs_in entries)).to) c.deref.ensures.value in
     omega (arith, count, union_within room piece piece (runs_in table) before c.self.invariant.0.inside, c.lay.ensures.len, c.self.invariant.0.fits)
 
 pub invariant_of-self : goal.invariant_of-self
 invariant_of-self g c = (
   advanced_kept c.self.inside.ring.bytes c.reach.new.self.bytes c.self.inside.unread c.union_of-count.result.to (length c.args.text.now) 0 c.self.inside.table.items c.leave_rest.new.table.items c.self.invariant.0 (ap length c.reach.ensures.bytes ∙ c.lay.ensures.len) c.requires.some (fits g c) (given g c)
-      c.leave_rest.ensures.items (omega (arith, length-map c.leave_rest.new.table.items run_of, c.leave_rest.ensures.few)),
+      c.leave_rest.ensures.items (omega (arith, length-map c.leave_rest.new.table.items run_of, length-map c.self.inside.table.items run_of, c.leave_rest.ensures.few, c.self.invariant.0.few)),
   c.reach.ensures.ready,
+  omega (arith, c.leave_rest.ensures.capacity, c.self.invariant.2),
 )
 
 pub returns-clause-after : goal.returns-clause-after
@@ -43,7 +44,7 @@ returns-clause-after g c =
     let text : List ℕ = c.args.text.now in
     let table : List Entry = c.self.inside.table.items in
     let piece = piece_of 0 (length text) 0 in
-    let behind = ap (drop unread) c.reach.ensures.bytes ∙ c.lay.ensures.window ∙ ap (λ (entries : List Entry). laid (stamp_of_run (ranked (runs_in entries))) 0 0 text (drop unread c.self.inside.ring.bytes)) c.deref-2.ensures.0 in
+    let behind = ap (drop unread) c.reach.ensures.bytes ∙ c.lay.ensures.window ∙ ap (λ (entries : List Entry). laid (stamp_of_run (ranked (runs_in entries))) 0 0 text (drop unread c.self.inside.ring.bytes)) c.deref-2.ensures.value in
     let advanced = advanced_view c.self.inside.ring.bytes c.reach.new.self.bytes unread c.union_of-count.result.to table c.leave_rest.new.table.items (length text) 0 text refl c.requires.some c.self.invariant.0.fits (fits g c) c.self.invariant.0.inside c.self.invariant.0.away
     (ap length c.reach.ensures.bytes ∙ c.lay.ensures.len) (ap (take unread) c.reach.ensures.bytes ∙ c.lay.ensures.unread) behind (given g c) c.leave_rest.ensures.items in (
       advanced.0

@@ -9,8 +9,8 @@ pub returns-clause-value : goal.returns-clause-value
 returns-clause-value g c =
     let table = c.self.inside.table.items in
     let count = c.min.result in
-    let few : count ≤ length table = omega (arith, c.min.ensures, c.len.ensures.value) in
-    let are = blocks_are c.self.inside.ring.bytes c.self.inside.unread count table (omega (arith, c.min.ensures, c.len.ensures.value)) c.self.invariant.0.inside c.self.invariant.0.away in
+    let few : count ≤ length table = omega (arith, c.min.ensures, c.len.ensures) in
+    let are = blocks_are c.self.inside.most_runs c.self.inside.ring.bytes c.self.inside.unread count table (omega (arith, c.min.ensures, c.len.ensures)) c.self.invariant.0.inside c.self.invariant.0.away in
     sym (length-take-le count table few)
     ∙ sym (length-map (take count table) run_of)
     ∙ sym (length-map (runs_in (take count table)) edges_of)

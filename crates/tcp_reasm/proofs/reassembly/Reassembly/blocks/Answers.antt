@@ -15,13 +15,13 @@ pub returns-clause-value : goal.returns-clause-value
 returns-clause-value g c =
     c.edges_of.ensures
     ∙ ap (λ (table : List Entry). map edges_of (runs_in (take c.min-count.result table))) c.as_slice.ensures.value
-    ∙ blocks_are c.self.inside.ring.bytes c.self.inside.unread c.min-count.result c.self.inside.table.items (omega (arith, c.min-count.ensures, c.len.ensures.value)) c.self.invariant.0.inside c.self.invariant.0.away
+    ∙ blocks_are c.self.inside.most_runs c.self.inside.ring.bytes c.self.inside.unread c.min-count.result c.self.inside.table.items (omega (arith, c.min-count.ensures, c.len.ensures)) c.self.invariant.0.inside c.self.invariant.0.away
     ∙ ap blocks c.self.view_is
 
 pub returns-clause-few : goal.returns-clause-few
 returns-clause-few g c =
     let counted = count_view c.self.inside.ring.bytes c.self.inside.unread c.self.inside.table.items c.self.invariant.0.inside c.self.invariant.0.away in
-    omega (arith, ap (λ (q : Inbox). length (runs q.held)) c.self.view_is, counted, length-map c.self.inside.table.items run_of, c.len.ensures.value, c.len.ensures.fits)
+    omega (arith, ap (λ (q : Inbox). length (runs q.held)) c.self.view_is, counted, length-map c.self.inside.table.items run_of, ap (λ (q : Inbox). q.most_runs) c.self.view_is, c.self.invariant.0.few)
 
 pub returns-clause-missing : goal.returns-clause-missing
 returns-clause-missing g c =

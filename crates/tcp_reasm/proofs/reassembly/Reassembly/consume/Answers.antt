@@ -28,6 +28,7 @@ invariant_of-self-2 g c = (
   read_kept c.self.inside.ring.bytes c.advance.new.self.bytes c.self.inside.unread (c.self.inside.unread - c.min-count.result) c.self.inside.table.items c.self.invariant.0
       (ap length c.advance.ensures.bytes ∙ length_turned c.min-count.result c.self.inside.ring.bytes) (omega arith),
   omega arith,
+  c.self.invariant.2,
 )
 
 pub returns-clause-sound : goal.returns-clause-sound

@@ -8,4 +8,4 @@ use Rattle.tcp_reasm.proofs.reassembly.Reassembly.held_runs.Goals as goal
 pub returns : goal.returns
 returns g c =
     let counted = count_view c.self.inside.ring.bytes c.self.inside.unread c.self.inside.table.items c.self.invariant.0.inside c.self.invariant.0.away in
-    omega (arith, ap (λ (q : Inbox). length (runs q.held)) c.self.view_is, counted, length-map c.self.inside.table.items run_of, c.len.ensures.value)
+    omega (arith, ap (λ (q : Inbox). length (runs q.held)) c.self.view_is, counted, length-map c.self.inside.table.items run_of, c.len.ensures)

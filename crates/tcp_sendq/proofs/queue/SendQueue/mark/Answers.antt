@@ -3,31 +3,40 @@ use Rattle.std.proofs.lemmas.Grind.{common_steps}
 use Rattle.tcp_sendq.specs.SendQueue.{after_mark, can_mark, IsQueue}
 use Rattle.tcp_sendq.specs.Marks.{interval, joined}
 use Rattle.tcp_sendq.proofs.Calls.{marked, can_mark-queue_of, marked_runs, marked_places}
+use Rattle.tcp_sendq.proofs.Intervals.{count_runs-marks_of}
+use Rattle.tcp_sendq.proofs.Halves.{table_in_order}
 use Rattle.tcp_sendq.proofs.queue.SendQueue.mark.Goals as goal
+
+pub mark-requires-clause-in_order : goal.mark-requires-clause-in_order
+mark-requires-clause-in_order g c = table_in_order 0 (length c.self.inside.bytes.items) c.self.inside.marks.table.items c.self.invariant.0.in_order
+
+pub mark-requires-clause-few : goal.mark-requires-clause-few
+mark-requires-clause-few g c =
+    omega (arith, c.self.invariant.0.sound.few_runs, count_runs-marks_of c.self.inside.marks.table.items (length c.self.inside.bytes.items) c.self.invariant.0.in_order)
 
 pub invariant_of-self : goal.invariant_of-self
 invariant_of-self g c =
     let table : c.mark.new.self.table.items ≡ (if c.mark.result then joined (interval c.args.from c.args.to) c.self.inside.marks.table.items else c.self.inside.marks.table.items) = grind (arith, common_steps) in
     let within : c.args.to ≤ length c.self.inside.bytes.items = grind (arith, common_steps) in
-    rw (table) (marked c.args.from c.args.to c.mark.result c.requires.ordered within c.self.invariant c.mark.ensures.value).kept
+    (rw (table) (marked c.args.from c.args.to c.mark.result c.requires.ordered within c.self.invariant.0 c.mark.ensures.value).kept, omega (arith, c.mark.ensures.room, c.self.invariant.1))
 
 pub returns-clause-state : goal.returns-clause-state
 returns-clause-state g c =
     let table : c.mark.new.self.table.items ≡ (if c.mark.result then joined (interval c.args.from c.args.to) c.self.inside.marks.table.items else c.self.inside.marks.table.items) = grind (arith, common_steps) in
     let within : c.args.to ≤ length c.self.inside.bytes.items = grind (arith, common_steps) in
-    rw (table) ((marked c.args.from c.args.to c.mark.result c.requires.ordered within c.self.invariant c.mark.ensures.value).state ∙ ap (λ q. after_mark q c.args.from c.args.to) c.self.view_is)
+    rw (table) ((marked c.args.from c.args.to c.mark.result c.requires.ordered within c.self.invariant.0 c.mark.ensures.value).state ∙ ap (λ q. after_mark q c.args.from c.args.to) c.self.view_is)
 
 pub returns-clause-sound : goal.returns-clause-sound
 returns-clause-sound g c =
     let table : c.mark.new.self.table.items ≡ (if c.mark.result then joined (interval c.args.from c.args.to) c.self.inside.marks.table.items else c.self.inside.marks.table.items) = grind (arith, common_steps) in
     let within : c.args.to ≤ length c.self.inside.bytes.items = grind (arith, common_steps) in
-    rw (table) (marked c.args.from c.args.to c.mark.result c.requires.ordered within c.self.invariant c.mark.ensures.value).kept.sound
+    rw (table) (marked c.args.from c.args.to c.mark.result c.requires.ordered within c.self.invariant.0 c.mark.ensures.value).kept.sound
 
 pub returns-clause-value : goal.returns-clause-value
 returns-clause-value g c =
     let within : c.args.to ≤ length c.self.inside.bytes.items = grind (arith, common_steps) in
     c.mark.ensures.value
-    ∙ (sym (can_mark-queue_of c.self.inside.bytes.capacity c.self.inside.bytes.items c.self.inside.marks.table.items c.args.from c.args.to c.requires.ordered within c.self.invariant)
+    ∙ (sym (can_mark-queue_of c.self.inside.most_runs c.self.inside.bytes.capacity c.self.inside.bytes.items c.self.inside.marks.table.items c.args.from c.args.to c.requires.ordered within c.self.invariant.0)
     ∙ ap (λ q. can_mark q c.args.from c.args.to) c.self.view_is)
 
 pub returns-clause-runs : goal.returns-clause-runs
@@ -35,4 +44,4 @@ returns-clause-runs g c = marked_runs c.args.self.now c.args.from c.args.to c.ma
 
 pub returns-clause-places : goal.returns-clause-places
 returns-clause-places g c =
-    marked_places c.args.self.now _ c.args.from c.args.to c.mark.result (returns-clause-state g c) (returns-clause-value g c) c.requires.ordered c.requires.within (subst IsQueue c.self.view_is c.self.invariant.sound)
+    marked_places c.args.self.now _ c.args.from c.args.to c.mark.result (returns-clause-state g c) (returns-clause-value g c) c.requires.ordered c.requires.within (subst IsQueue c.self.view_is c.self.invariant.0.sound)

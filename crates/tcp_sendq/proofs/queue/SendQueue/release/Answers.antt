@@ -11,7 +11,7 @@ invariant_of-self g c =
     let bytes : c.truncate_front.new.self.items ≡ drop c.args.n c.self.inside.bytes.items = grind (arith, common_steps) in
     let table : c.release.new.self.table.items ≡ moved_down c.args.n c.self.inside.marks.table.items = grind (arith, common_steps) in
     let within : c.args.n ≤ length c.self.inside.bytes.items = grind (arith, common_steps) in
-    rw (capacity, bytes, table) (released c.args.n within c.self.invariant).kept
+    (rw (capacity, bytes, table) (released c.args.n within c.self.invariant.0).kept, omega (arith, c.release.ensures.room, c.self.invariant.1))
 
 pub returns-clause-state : goal.returns-clause-state
 returns-clause-state g c =
@@ -19,7 +19,7 @@ returns-clause-state g c =
     let bytes : c.truncate_front.new.self.items ≡ drop c.args.n c.self.inside.bytes.items = grind (arith, common_steps) in
     let table : c.release.new.self.table.items ≡ moved_down c.args.n c.self.inside.marks.table.items = grind (arith, common_steps) in
     let within : c.args.n ≤ length c.self.inside.bytes.items = grind (arith, common_steps) in
-    rw (capacity, bytes, table) ((released c.args.n within c.self.invariant).state ∙ ap (λ q. after_release q c.args.n) c.self.view_is)
+    rw (capacity, bytes, table) ((released c.args.n within c.self.invariant.0).state ∙ ap (λ q. after_release q c.args.n) c.self.view_is)
 
 pub returns-clause-sound : goal.returns-clause-sound
 returns-clause-sound g c =
@@ -27,4 +27,4 @@ returns-clause-sound g c =
     let bytes : c.truncate_front.new.self.items ≡ drop c.args.n c.self.inside.bytes.items = grind (arith, common_steps) in
     let table : c.release.new.self.table.items ≡ moved_down c.args.n c.self.inside.marks.table.items = grind (arith, common_steps) in
     let within : c.args.n ≤ length c.self.inside.bytes.items = grind (arith, common_steps) in
-    rw (capacity, bytes, table) (released c.args.n within c.self.invariant).kept.sound
+    rw (capacity, bytes, table) (released c.args.n within c.self.invariant.0).kept.sound

@@ -1,0 +1,10 @@
+//! An end with its timers, for C: each exported function is a call of [`tcp_end::End`] and nothing more. Times are counts of
+//! microseconds from any beginning; they never go back.
+pub(crate) mod driven;
+pub(crate) mod driven_handle;
+pub(crate) mod driven_held;
+pub(crate) mod making;
+pub(crate) mod rules;
+pub(crate) mod segments;
+pub(crate) mod timing;
+pub(crate) mod user;

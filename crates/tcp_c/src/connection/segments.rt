@@ -1,0 +1,119 @@
+//! Segments that come in and go out, each at its time.
+ghost use Rattle.std.specs.Prelude.{◌≡◌, length, option_map};
+ghost use Rattle.tcp_driver.specs.Driver.{after_arrival, at};
+ghost use Rattle.tcp_end.specs.Wired.{machine};
+ghost use Rattle.tcp_c.specs.Answers.{answer_of};
+ghost use Rattle.tcp_c.specs.Connections.{arrival_told, emission_told, emitted_within, no_segment, report_told, segment_reported, segment_told, sent_number, taken_by, taken_report, written_within};
+
+use crate::answers::{
+    DONE, EMIT_FIRST, LITTLE_ROOM, NO_END, NOTHING_DUE, WITHHELD, arrival_number,
+};
+use crate::connection::driven_handle::DrivenHandle;
+use crate::records::{CAddr, CArriveReport, CConnectionSegment};
+use crate::reports::{no_arrive_report, report_arrival};
+use tcp_conn::EMIT_ROOM;
+use tcp_driver::{Sent, Taken};
+
+/// What is reported of an arrival: its answer and its report.
+fn arrival_told(taken: Taken<tcp_conn::Taken>) -> (u32, CArriveReport)
+    ensures answer { result.0 ≡ arrival_told taken }
+    ensures report { result.1 ≡ taken_report taken }
+{
+    match taken {
+        Taken::EmitFirst => (EMIT_FIRST, no_arrive_report()),
+        Taken::Withheld => (WITHHELD, no_arrive_report()),
+        Taken::Done(_, found) => (arrival_number(found.arrival), report_arrival(found)),
+    }
+}
+
+/// Takes bytes that came from `src` to `dst` at `now`, with the report of
+/// [`tcp_c_arrive_with_report`](crate::tcp_c_arrive_with_report), and answers as that does (RFC 9293, 3.10.7). But 58 where
+/// a timer has expired and what was due then has to go out first, and 59 for a reset that counts as lost (RFC 1337, 3): then
+/// nothing changes, and the report is all zero.
+#[unsafe(no_mangle)]
+pub extern "C" fn tcp_c_connection_arrive(
+    handle: &mut DrivenHandle,
+    now: u64,
+    src: &CAddr,
+    dst: &CAddr,
+    bytes: &[u8],
+    report: &mut CArriveReport,
+) -> u32
+    ensures answer { result ≡ answer_of (λ d. arrival_told (taken_by d src.now.byte dst.now.byte bytes.now)) handle.old.held.end }
+    ensures report { report.new ≡ report_told src.now.byte dst.now.byte bytes.now handle.old.held.end }
+    ensures state { handle.new.held.end ≡ option_map (λ d. record { end = after_arrival machine d.end (at d.end now) src.now.byte dst.now.byte bytes.now }) handle.old.held.end }
+{
+    let Some(mut driven) = handle.take() else {
+        *report = no_arrive_report();
+        return NO_END;
+    };
+    let taken = driven.end.arrive(now, src.byte, dst.byte, bytes);
+    handle.put(driven);
+    let (answer, found) = arrival_told(taken);
+    *report = found;
+    answer
+}
+
+/// A report of no segment: all zero.
+fn no_segment() -> CConnectionSegment
+    ensures { result ≡ no_segment }
+{
+    CConnectionSegment {
+        to: CAddr { byte: [0; 4] },
+        length: 0,
+        position: 0,
+        count: 0,
+    }
+}
+
+/// What is reported of an emission: the answer, and the segment that was written, if one was.
+fn emission_told(sent: Option<Sent>) -> (u32, CConnectionSegment)
+    ensures answer { result.0 ≡ emission_told sent }
+    ensures segment { result.1 ≡ segment_told sent }
+{
+    match sent {
+        Some(sent) => {
+            let byte = sent.to;
+            let segment = CConnectionSegment {
+                to: CAddr { byte },
+                length: sent.len,
+                position: sent.start,
+                count: sent.count,
+            };
+            (DONE, segment)
+        }
+        None => (NOTHING_DUE, no_segment()),
+    }
+}
+
+/// Writes the segment that is due at `now` into the front of `out`, and reports where it goes, its length, and the numbers
+/// that it takes (RFC 9293, 3.7, 3.8 and 3.10). What ends more than `window` numbers past SND.UNA waits, unless nothing
+/// before it is in flight (RFC 5681, 3.1): then a pending acknowledgement goes out alone, as it does before anything that is
+/// sent again. 33 where `out` has less than [`EMIT_ROOM`] bytes: then nothing changes. 53 where none goes out.
+#[unsafe(no_mangle)]
+pub extern "C" fn tcp_c_connection_emit(
+    handle: &mut DrivenHandle,
+    now: u64,
+    window: u64,
+    out: &mut [u8],
+    segment: &mut CConnectionSegment,
+) -> u32
+    ensures answer { result ≡ answer_of (sent_number window (length out.old)) handle.old.held.end }
+    ensures bytes { out.new ≡ written_within window out.old handle.old.held.end }
+    ensures segment { segment.new ≡ segment_reported window (length out.old) handle.old.held.end }
+    ensures state { handle.new.held.end ≡ option_map (emitted_within now window (length out.old)) handle.old.held.end }
+{
+    *segment = no_segment();
+    let Some(mut driven) = handle.take() else {
+        return NO_END;
+    };
+    if out.len() < EMIT_ROOM {
+        handle.put(driven);
+        return LITTLE_ROOM;
+    }
+    let sent = driven.end.emit(now, window, out);
+    handle.put(driven);
+    let (answer, found) = emission_told(sent);
+    *segment = found;
+    answer
+}

@@ -1,0 +1,77 @@
+//! When a timer expires, and what then happens (RFC 9293, 3.10.8).
+ghost use Rattle.std.specs.Prelude.{◌≡◌, option_map};
+ghost use Rattle.tcp_driver.specs.Driver.{after_time, at};
+ghost use Rattle.tcp_driver.specs.Times.{expiry, next_expiry};
+ghost use Rattle.tcp_end.specs.Wired.{machine};
+ghost use Rattle.tcp_c.specs.Answers.{done, due_number, answer_of, number_written};
+ghost use Rattle.tcp_c.specs.Connections.{time_number, timer_number, timer_told};
+
+use crate::answers::{DONE, NO_END, NOTHING_DUE};
+use crate::connection::driven_handle::DrivenHandle;
+use crate::connection::rules::NEVER;
+use tcp_driver::Timer;
+
+/// A time, or that there is none.
+fn time_number(time: Option<u64>) -> u64
+    ensures { result ≡ time_number time }
+{
+    match time {
+        Some(time) => time,
+        None => NEVER,
+    }
+}
+
+/// Reports when [`tcp_c_connection_timeout`] has to be called, if nothing else happens before; 2^64 - 1 where no timer
+/// runs.
+#[unsafe(no_mangle)]
+pub extern "C" fn tcp_c_connection_poll_at(handle: &mut DrivenHandle, at: &mut u64) -> u32
+    ensures answer { result ≡ answer_of (λ _. done) handle.old.held.end }
+    ensures at { at.new ≡ number_written (λ d. time_number (next_expiry d.end.times)) handle.old.held.end }
+    ensures state { handle.new.held.end ≡ handle.old.held.end }
+{
+    *at = 0;
+    let Some(driven) = handle.take() else {
+        return NO_END;
+    };
+    let poll_at = driven.end.poll_at();
+    handle.put(driven);
+    *at = time_number(poll_at);
+    DONE
+}
+
+/// The number of a timer.
+fn timer_number(timer: Timer) -> u32
+    ensures { result ≡ timer_number timer }
+{
+    match timer {
+        Timer::Retransmit => 0,
+        Timer::Reorder => 1,
+        Timer::TimeWait => 2,
+        Timer::User => 3,
+    }
+}
+
+/// It is `now`: reports the timer that has expired, and 53 where none has. After an expiry no segment is taken, and no other
+/// timer expires, until a [`tcp_c_connection_emit`](crate::tcp_c_connection_emit) finds nothing that may go out.
+#[unsafe(no_mangle)]
+pub extern "C" fn tcp_c_connection_timeout(
+    handle: &mut DrivenHandle,
+    now: u64,
+    timer: &mut u32,
+) -> u32
+    ensures answer { result ≡ answer_of (λ d. due_number (expiry d.end.times (at d.end now))) handle.old.held.end }
+    ensures timer { timer.new ≡ number_written (λ d. timer_told (expiry d.end.times (at d.end now))) handle.old.held.end }
+    ensures state { handle.new.held.end ≡ option_map (λ d. record { end = after_time machine d.end (at d.end now) }) handle.old.held.end }
+{
+    *timer = 0;
+    let Some(mut driven) = handle.take() else {
+        return NO_END;
+    };
+    let expired = driven.end.timeout(now);
+    handle.put(driven);
+    let Some(expired) = expired else {
+        return NOTHING_DUE;
+    };
+    *timer = timer_number(expired);
+    DONE
+}

@@ -1,0 +1,162 @@
+//! The calls of the user of a connection (RFC 9293, 3.10.2 to 3.10.6), each at its time.
+ghost use Rattle.std.specs.Prelude.{◌≡◌, ◌+◌, ◌<◌, ◌++◌, length, drop, option_map};
+ghost use Rattle.tcp_conn.specs.Calls.{abort_answer, after_abort, after_acknowledge, after_close, after_receive, after_send, close_answer, receive_answer, send_answer};
+ghost use Rattle.tcp_conn.specs.Lending.{consume_answer};
+ghost use Rattle.tcp_c.specs.Answers.{done, answer_of, number_written, call_number, received_number};
+ghost use Rattle.tcp_c.specs.Calls.{taken_count, received_count, handed_bytes};
+ghost use Rattle.tcp_c.specs.Connections.{end_of, used};
+ghost use Rattle.tcp_c.specs.Lent.{IsNullIfEmpty, peek_ends, peek_length, peek_number};
+ghost use Rattle.tcp_c.specs.Status.{status_of};
+
+use crate::answers::{DONE, NO_END, call_number, received_number};
+use crate::connection::driven_handle::DrivenHandle;
+use crate::lending::{lent_of, nothing_lent};
+use crate::records::{CLent, CStatus};
+use crate::status::{no_status, status_of};
+use crate::user::{received_count, taken_count};
+
+/// Accepts text as [`tcp_c_send`](crate::tcp_c_send) does (RFC 9293, 3.10.2).
+#[unsafe(no_mangle)]
+pub extern "C" fn tcp_c_connection_send(
+    handle: &mut DrivenHandle,
+    now: u64,
+    text: &[u8],
+    taken: &mut usize,
+) -> u32
+    ensures answer { result ≡ answer_of (λ d. call_number (send_answer (end_of d) text.now)) handle.old.held.end }
+    ensures taken { taken.new ≡ number_written (λ d. taken_count (send_answer (end_of d) text.now)) handle.old.held.end }
+    ensures state { handle.new.held.end ≡ option_map (λ d. used d now (after_send (end_of d) text.now)) handle.old.held.end }
+{
+    *taken = 0;
+    let Some(mut driven) = handle.take() else {
+        return NO_END;
+    };
+    let answer = driven.end.send(now, text);
+    handle.put(driven);
+    *taken = taken_count(&answer);
+    call_number(answer)
+}
+
+/// Delivers unread bytes as [`tcp_c_receive`](crate::tcp_c_receive) does (RFC 9293, 3.10.3).
+#[unsafe(no_mangle)]
+pub extern "C" fn tcp_c_connection_receive(
+    handle: &mut DrivenHandle,
+    now: u64,
+    out: &mut [u8],
+    count: &mut usize,
+) -> u32
+    ensures answer { result ≡ answer_of (λ d. received_number (receive_answer (end_of d) (length out.old))) handle.old.held.end }
+    ensures count { count.new ≡ number_written (λ d. received_count (receive_answer (end_of d) (length out.old))) handle.old.held.end }
+    ensures bytes { let bytes = handed_bytes (length out.old) (option_map end_of handle.old.held.end) in out.new ≡ bytes ++ drop (length bytes) out.old }
+    ensures state { handle.new.held.end ≡ option_map (λ d. used d now (after_receive (end_of d) (length out.old))) handle.old.held.end }
+{
+    *count = 0;
+    let Some(mut driven) = handle.take() else {
+        return NO_END;
+    };
+    let answer = driven.end.receive(now, out);
+    handle.put(driven);
+    *count = received_count(&answer);
+    received_number(answer)
+}
+
+/// Lends the unread bytes as [`tcp_c_peek`](crate::tcp_c_peek) does (RFC 9293, 3.10.3).
+#[unsafe(no_mangle)]
+pub extern "C" fn tcp_c_connection_peek(handle: &mut DrivenHandle, lent: &mut CLent) -> u32
+    ensures answer { result ≡ answer_of (λ d. peek_number (end_of d)) handle.old.held.end }
+    ensures lengths { lent.new.first_length + lent.new.second_length ≡ number_written (λ d. peek_length (end_of d)) handle.old.held.end }
+    ensures first { 0 < number_written (λ d. peek_length (end_of d)) handle.old.held.end → 0 < lent.new.first_length }
+    ensures first_null { IsNullIfEmpty lent.new.first lent.new.first_length }
+    ensures second_null { IsNullIfEmpty lent.new.second lent.new.second_length }
+    ensures ends { lent.new.ends ≡ number_written (λ d. peek_ends (end_of d)) handle.old.held.end }
+    ensures state { handle.new.held.end ≡ handle.old.held.end }
+{
+    let Some(driven) = handle.take() else {
+        *lent = nothing_lent();
+        return NO_END;
+    };
+    let (answer, found) = lent_of(&driven.end.core().end);
+    handle.put(driven);
+    *lent = found;
+    answer
+}
+
+/// Removes the first unread bytes, at most `count`, as [`tcp_c_consume`](crate::tcp_c_consume) does (RFC 9293, 3.10.3).
+#[unsafe(no_mangle)]
+pub extern "C" fn tcp_c_connection_consume(
+    handle: &mut DrivenHandle,
+    now: u64,
+    count: usize,
+    taken: &mut usize,
+) -> u32
+    ensures answer { result ≡ answer_of (λ d. call_number (consume_answer (end_of d) count)) handle.old.held.end }
+    ensures taken { taken.new ≡ number_written (λ d. taken_count (consume_answer (end_of d) count)) handle.old.held.end }
+    ensures state { handle.new.held.end ≡ option_map (λ d. used d now (after_receive (end_of d) count)) handle.old.held.end }
+{
+    *taken = 0;
+    let Some(mut driven) = handle.take() else {
+        return NO_END;
+    };
+    let answer = driven.end.consume(now, count);
+    handle.put(driven);
+    *taken = taken_count(&answer);
+    call_number(answer)
+}
+
+/// Makes an acknowledgement pending, which advertises the window as it is now (RFC 9293, 3.8.6.2.2).
+#[unsafe(no_mangle)]
+pub extern "C" fn tcp_c_connection_acknowledge(handle: &mut DrivenHandle, now: u64) -> u32
+    ensures answer { result ≡ answer_of (λ _. done) handle.old.held.end }
+    ensures state { handle.new.held.end ≡ option_map (λ d. used d now (after_acknowledge (end_of d))) handle.old.held.end }
+{
+    let Some(mut driven) = handle.take() else {
+        return NO_END;
+    };
+    driven.end.acknowledge(now);
+    handle.put(driven);
+    DONE
+}
+
+/// The user has no more to send, as of [`tcp_c_close`](crate::tcp_c_close) (RFC 9293, 3.10.4).
+#[unsafe(no_mangle)]
+pub extern "C" fn tcp_c_connection_close(handle: &mut DrivenHandle, now: u64) -> u32
+    ensures answer { result ≡ answer_of (λ d. call_number (close_answer (end_of d))) handle.old.held.end }
+    ensures state { handle.new.held.end ≡ option_map (λ d. used d now (after_close (end_of d))) handle.old.held.end }
+{
+    let Some(mut driven) = handle.take() else {
+        return NO_END;
+    };
+    let answer = driven.end.close(now);
+    handle.put(driven);
+    call_number(answer)
+}
+
+/// Aborts the connection, as [`tcp_c_abort`](crate::tcp_c_abort) does (RFC 9293, 3.10.5).
+#[unsafe(no_mangle)]
+pub extern "C" fn tcp_c_connection_abort(handle: &mut DrivenHandle, now: u64) -> u32
+    ensures answer { result ≡ answer_of (λ d. call_number (abort_answer (end_of d))) handle.old.held.end }
+    ensures state { handle.new.held.end ≡ option_map (λ d. used d now (after_abort (end_of d))) handle.old.held.end }
+{
+    let Some(mut driven) = handle.take() else {
+        return NO_END;
+    };
+    let answer = driven.end.abort(now);
+    handle.put(driven);
+    call_number(answer)
+}
+
+/// What is reported of the end, as of [`tcp_c_status`](crate::tcp_c_status) (RFC 9293, 3.10.6).
+#[unsafe(no_mangle)]
+pub extern "C" fn tcp_c_connection_status(handle: &mut DrivenHandle, status: &mut CStatus) -> u32
+    ensures answer { result ≡ answer_of (λ _. done) handle.old.held.end }
+    ensures status { status.new ≡ status_of (option_map end_of handle.old.held.end) }
+    ensures state { handle.new.held.end ≡ handle.old.held.end }
+{
+    let Some(driven) = handle.take() else {
+        *status = no_status();
+        return NO_END;
+    };
+    *status = status_of(&driven.end.core().end);
+    handle.put(driven);
+    DONE
+}
