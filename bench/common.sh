@@ -3,6 +3,7 @@
 
 # Builds our program where it is stale, and sets `ours`. Words are those of `rt run`.
 build_ours() {
+    # shellcheck disable=SC2034
     ours=$top/crates/bench_transfer/out/bench_transfer
     (cd "$top/crates/bench_transfer" && rt run "$@" -- in_order 1 65536) >"$out/ours.log" 2>&1 ||
         { tail -20 "$out/ours.log" >&2; echo "bench: our program isn't built" >&2; exit 1; }

@@ -38,7 +38,7 @@ if has clang-tidy clang-tidy --version; then
     done
 fi
 if has mypy mypy --version; then
-    mypy --strict --no-error-summary --cache-dir=/dev/null c/tcpcore/tcpcore.py c/tcpcore/layout.py
+    MYPYPATH=c/tcpcore mypy --strict --no-error-summary --cache-dir=/dev/null c/tcpcore/{tcpcore,datagrams,simulator,layout}.py
     passed=$((passed + 1))
 fi
 # The checksum stands on lanes.

@@ -22,8 +22,10 @@ SETTINGS = [
     "config SIDE shift (?:none|BYTE)",
     "config SIDE sack (?:on|off)",
 ]
+# Beside these in version 2, and beside those in version 3.
 SETTINGS_2 = ["config life NUMBER", "config SIDE limit LIMIT"]
-LIVES, TURNS = range(2, (1 << 31) + 1), range(1, (1 << 20) + 1)
+SETTINGS_3 = ["config SIDE runs WORD"]
+LIVES, TURNS, RUNS = range(2, (1 << 31) + 1), range(1, (1 << 20) + 1), range(1, 4097)
 # Of an end: the fault's number, the keys, what they may be, and in words.
 ENDS = [
     (21, ("send", "recv"), range(1, (1 << 20) + 1), "a capacity isn't from 1 to 1048576"),
@@ -42,7 +44,9 @@ def compiled(form):
     return re.compile(re.sub("|".join(RANGES), number, form))
 
 
-EVENTS, SETTINGS, SETTINGS_2 = ([compiled(form) for form in forms] for forms in (EVENTS, SETTINGS, SETTINGS_2))
+EVENTS, SETTINGS, SETTINGS_2, SETTINGS_3 = (
+    [compiled(form) for form in forms] for forms in (EVENTS, SETTINGS, SETTINGS_2, SETTINGS_3)
+)
 
 
 def fits(forms, line):
@@ -63,10 +67,13 @@ def is_repeat(line):
     return kind not in ("deliver", "damage") or int(numbers[0]) + int(count) - 1 <= RANGES["NUMBER"]
 
 
-def is_setting(line, is_long):
-    if not fits(SETTINGS + SETTINGS_2 * is_long, line):
+def is_setting(line, version):
+    if not fits(SETTINGS + SETTINGS_2 * (version >= 2) + SETTINGS_3 * (version == 3), line):
         return False
-    return not line.startswith("config life ") or int(line.split(" ")[2]) in LIVES
+    _, key, *rest = line.split(" ")
+    if key == "life":
+        return int(rest[0]) in LIVES
+    return rest[0] != "runs" or int(rest[1]) in RUNS
 
 
 def bad_line(data):
@@ -75,11 +82,11 @@ def bad_line(data):
     if above is not None:
         return 1 + data[:above].count(b"\n")
     lines = data.decode("ascii").split("\n")
-    is_long, has_event = lines[0] == "tcpkit 2", False
-    for number, line in list(enumerate(lines, 1))[is_long:]:
+    version, has_event = {"tcpkit 2": 2, "tcpkit 3": 3}.get(lines[0], 1), False
+    for number, line in list(enumerate(lines, 1))[version > 1 :]:
         if line and not line.startswith("#"):
-            is_event = fits(EVENTS, line) or (is_long and is_repeat(line))
-            if not is_event and (has_event or not is_setting(line, is_long)):
+            is_event = fits(EVENTS, line) or (version > 1 and is_repeat(line))
+            if not is_event and (has_event or not is_setting(line, version)):
                 return number
             has_event |= is_event
     return None

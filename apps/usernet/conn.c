@@ -188,12 +188,12 @@ void cut(struct usernet *net, struct conn *conn)
 /* Makes the connection's end, CLOSED; whether it could. */
 static int make_end(struct usernet *net, struct conn *conn)
 {
-    size_t room = TCPCORE_MEMORY(conn->capacity, conn->capacity);
+    size_t room = TCPCORE_MEMORY_RUNS(conn->capacity, conn->capacity, RUNS);
     uint32_t isn = (uint32_t)(250 * net->now + pairs_secret(&net->pairs, &conn->pair));
     uint16_t mss = (uint16_t)(net->mss - (ip6_is_surrogate(conn->pair.client) ? IP6_MORE : 0));
     tcpcore_config config = {.addr = conn->pair.server, .port = conn->pair.server_port, .mss = mss, .isn = isn,
                              .send_capacity = conn->capacity, .recv_capacity = conn->capacity, .limit = UINT64_C(1) << 62,
-                             .window_shift = SHIFT, .scales = 1, .sack = 1};
+                             .window_shift = SHIFT, .scales = 1, .sack = 1, .runs = RUNS};
     path_init(&conn->path, isn, mss + (uint32_t)HEADERS);
     conn->block = malloc(room);
     conn->end = (tcpcore_end)TCPCORE_END_INIT;

@@ -28,6 +28,9 @@
 /* The most and the fewest bytes kept for each direction of a connection, and by how much its windows are shifted. */
 enum { CAPACITY = 262144, LEAST_CAPACITY = 8192, SHIFT = 3, BUCKETS = 65536, FLOW_BUCKETS = 4096 };
 
+/* The runs of bytes that an end keeps out of order: a device hands packets over in their order, so that only losses make any. */
+enum { RUNS = 16 };
+
 /* The most ports that are published; the queues of half-open connections by their destination. */
 enum { LISTENERS = 256, PLACES = 4096 };
 

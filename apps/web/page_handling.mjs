@@ -113,6 +113,8 @@ async function faults(tab, tools, expect) {
         ["listen B\nconfig A mss 64\n", 2, "after the first event", "before the first event"],
         ["listen B\n# \u00e4\n", 2, "above 7f", "ASCII"],
         ["repeat 2 emit A\n", 1, "version 2", "tcpkit 2"],
+        ["tcpkit 2\nconfig A runs 2\n", 2, "version 3", "tcpkit 3"],
+        ["tcpkit 3\nconfig A runs 4097\n", 2, "“4097” isn't from 1 to 4096", "config SIDE runs N"],
         ["config A mss 100\nconfig A mss 63\nlisten B\n", 2, "the mss isn't from 64 to 1460", "mss of side A"],
         ["config B send 9\nconfig B recv 0\n", 2, "a capacity isn't from 1 to 1048576", "side B"],
         ["config B shift 15\n", 1, "the shift isn't from 0 to 14", "side B"],

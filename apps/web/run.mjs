@@ -296,7 +296,7 @@ function arrived_of(segment) {
 export function places_of(script) {
     const lines = script.split("\n"), at = [null];
     lines.forEach((line, number) => {
-        if (line !== "" && !line.startsWith("#") && !line.startsWith("config ") && line !== "tcpkit 2") {
+        if (line !== "" && !line.startsWith("#") && !line.startsWith("config ") && !/^tcpkit [23]$/.test(line)) {
             at.push(number);
         }
     });

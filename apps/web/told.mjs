@@ -8,7 +8,7 @@ const REFUSALS = {
     12: ["the side is open already", "one connect or listen a side"],
     13: ["a close came before", "send before the close"],
     14: ["the connection has ended", "one connection a side"],
-    15: ["the direction has carried its limit, in version 1 2,147,483,632 bytes", "config SIDE limit in version 2"],
+    15: ["the direction has carried its limit, in version 1 2,147,483,632 bytes", "config SIDE limit in version 2 or 3"],
     16: ["the side listens, and no peer is known", "deliver the peer's SYN first"],
     31: ["SIDE hasn't emitted segment K", "emit first; K counts from 0"],
     32: ["XOR is 0", "1 to 255"],
@@ -52,6 +52,8 @@ export const FORMS = [
     ["config", "config life N", "how many positions a segment lives, 2 to 2147483648"],
     ["config", "config SIDE limit N", "the most bytes of the side's stream"],
     ["repeat", "repeat N EVENT", "N turns of an event, 1 to 1048576; K grows by 1 each turn"],
+    ["tcpkit", "tcpkit 3", "the first line of a script of version 3, which has these and the line below"],
+    ["config", "config SIDE runs N", "the most runs that the side keeps out of order, 1 to 4096"],
 ];
 
 export function refusal_of(event) {
@@ -250,7 +252,7 @@ export function too_long_fault(count) {
 // Why a line has no form. What can be seen without reading it as a line is said first; else its forms are shown.
 function cause_of(lines, at) {
     const line = lines[at] ?? "", word = line.split(" ", 1)[0];
-    const is_late = lines.slice(0, at).some(one => one !== "" && !/^(#|config |tcpkit 2$)/.test(one));
+    const is_late = lines.slice(0, at).some(one => one !== "" && !/^(#|config |tcpkit [23]$)/.test(one));
     const forms = FORMS.filter(form => form[0] === word).map(form => form[1]);
     if (/[^\x00-\x7f]/.test(line)) {
         return { cause: "a byte above 7f is in it", cure: "ASCII letters, also in comments" };
@@ -259,8 +261,11 @@ function cause_of(lines, at) {
         return { cause: "a stray or doubled space, a tab, or a CR",
             cure: "one space between words, none before or after" };
     }
-    if (lines[0] !== "tcpkit 2" && /^(repeat|config life|config [AB] limit) /.test(line)) {
+    if (!/^tcpkit [23]$/.test(lines[0]) && /^(repeat|config life|config [AB] limit) /.test(line)) {
         return { cause: "a line of version 2", cure: "tcpkit 2 as the first line of the script" };
+    }
+    if (lines[0] !== "tcpkit 3" && /^config [AB] runs /.test(line)) {
+        return { cause: "a line of version 3", cure: "tcpkit 3 as the first line of the script" };
     }
     if (word === "config" && is_late) {
         return { cause: "a config line after the first event", cure: "move it before the first event" };

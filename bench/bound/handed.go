@@ -56,23 +56,21 @@ func burst(one, other *tcpcore.End, text, read []byte, segments int) int {
 
 var there, back tcpcore.Batch
 
+// What answered the burst before arrives with the turn that sends the next one, as in a program's loop.
 func turn(one, other *tcpcore.End, text, read []byte, segments int) int {
 	there.Reset()
-	back.Reset()
-	if len(text) > segments {
-		one.Send(text)
-		must(one.EmitAll(&there))
-	} else {
-		for k := 0; k < segments; k++ {
+	if len(text) == segments {
+		for ; len(text) > 1; text = text[1:] {
 			one.Send(text[:1])
 			must(one.EmitAll(&there))
 		}
 	}
-	must(other.Turn(a, b, &there, &back))
-	must(one.ArriveAll(b, a, &back))
-	count, err := other.Receive(read)
+	_, err := one.Exchange(b, a, &back, &there, text, nil)
 	must(err)
-	return count
+	back.Reset()
+	exchanged, err := other.Exchange(a, b, &there, &back, nil, read)
+	must(err)
+	return exchanged.Got
 }
 
 func main() {

@@ -50,20 +50,23 @@ python_over() {
     TCPCORE_PREBUILT=$2 /usr/bin/python3 -m pip install --quiet --no-index --no-deps --no-build-isolation --root-user-action=ignore \
         --target "$site" ./python
     mkdir -p out/alone/tests out/alone/examples
-    cp ../tcpcore/tests/{calls,batches}.py out/alone/tests
-    PYTHONPATH=$site timeout 300 /usr/bin/python3 out/alone/tests/calls.py
+    cp ../tcpcore/tests/{calls,batches,connections,simulations,streams}.py out/alone/tests
+    local name
+    for name in calls connections simulations streams; do
+        PYTHONPATH=$site timeout 300 /usr/bin/python3 "out/alone/tests/$name.py"
+    done
     PYTHONPATH=$site timeout 300 /usr/bin/python3 out/alone/tests/batches.py module
     said=$(cd / && PYTHONPATH=$site /usr/bin/python3 -c 'import tcpcore; print(tcpcore.build())')
     [[ $said == "$3" ]] || { echo "bindings: Python's package over $1 says '$said'"; exit 1; }
     # The examples by themselves, as a user has them who has installed the package: they find it, and print what they print in the
     # repository.
     local example
-    for example in hello two_ends lossy_link; do
+    for example in hello two_ends lossy_link own_link udp_file; do
         cp "../tcpcore/examples/$example.py" out/alone/examples
         (cd out/alone/examples && env -i PATH="$PATH" PYTHONPATH="$site" timeout 300 /usr/bin/python3 "$example.py") >out/printed
         diff out/printed "../tcpcore/tests/expected/$example"
     done
-    passed=$((passed + 3))
+    passed=$((passed + 6))
 }
 if has python3-pip /usr/bin/python3 -m pip --version && has python3-setuptools /usr/bin/python3 -c 'import setuptools' &&
     has python3-wheel /usr/bin/python3 -c 'import wheel' && has python3-dev python_header; then

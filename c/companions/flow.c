@@ -57,6 +57,32 @@ static void repeated(struct flow *flow, tcpcore_end *end, const uint8_t *segment
     answers_begin(&flow->answers, now);
 }
 
+/* The first block that a segment reports (RFC 2018, 3), its edges side by side; 0 where there is none. */
+static uint64_t first_block(const uint8_t *segment, size_t length)
+{
+    enum { END = 0, NONE = 1, BLOCKS = 5, LEAST = 2, EDGES = 8 };
+    size_t header = length >= SEGMENT_HEADER && header_of(segment) <= length ? header_of(segment) : 0;
+    for (size_t at = SEGMENT_HEADER; at + LEAST + EDGES <= header; at += segment[at] == NONE ? 1 : segment[at + 1]) {
+        if (segment[at] == BLOCKS && segment[at + 1] >= LEAST + EDGES)
+            return (uint64_t)read32(segment + at + LEAST) << 32 | read32(segment + at + LEAST + 4);
+        if (segment[at] == END || (segment[at] != NONE && segment[at + 1] < LEAST))
+            break;
+    }
+    return 0;
+}
+
+/* Whether a segment without text or FIN, which the end has taken, reports another first block than the last one did (RFC 6675, 2: a
+   duplicate acknowledgement is one whose blocks bring news, and the newest block comes first). A peer whose room for runs is full answers
+   what it can't keep by blocks that it has reported before. New text for each of these would be lost, too. */
+static int reports_news(struct flow *flow, const struct tcpcore_arrive_report *report, const uint8_t *segment, size_t length)
+{
+    uint64_t block = first_block(segment, length);
+    int is_news = block != 0 && block != flow->block;
+    if (block != 0)
+        flow->block = block;
+    return is_news && report->brought == TCPCORE_BROUGHT_NOTHING;
+}
+
 uint32_t flow_arrive(struct flow *flow, tcpcore_end *end, tcpcore_addr src, tcpcore_addr dst, const void *bytes,
                      size_t length, uint64_t now)
 {
@@ -72,7 +98,7 @@ uint32_t flow_arrive(struct flow *flow, tcpcore_end *end, tcpcore_addr src, tcpc
         return answer;
     struct tcpcore_status after = status_of(end);
     int is_answered = answers_arrived(&flow->answers, segment, length, report.at_once, now);
-    int reports_blocks = report.brought == TCPCORE_BROUGHT_NOTHING && length > SEGMENT_HEADER;
+    int reports_blocks = answer == TCPCORE_DONE && reports_news(flow, &report, segment, length);
     keep_alive_heard(&flow->keep_alive, now);
     timers_arrived_with_report(&flow->timers, end, &report, now);
     if (answer == TCPCORE_DROPPED && is_answered)

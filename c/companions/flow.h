@@ -48,6 +48,7 @@ struct flow {
     struct answers answers;
     uint64_t send_capacity, recv_capacity; /* the capacities of the end */
     uint64_t sent_at; /* when text was last emitted */
+    uint64_t block;   /* the first block that the peer reported last, its edges side by side */
     uint64_t resent;  /* segments that were sent again */
     uint64_t resets;  /* resets that were withheld from the end */
     uint32_t options; /* option bytes of the last segment after the handshake: they reduce its payload */

@@ -42,8 +42,8 @@ struct loss_recovery_sender {
 void loss_recovery_init(struct loss_recovery *recovery);
 
 /*
- * A segment has come: behind timers_arrived_with_report. `status` is the end's behind it, and `reports_blocks` says that it has nothing
- * but options. The congestion window takes what it acknowledges.
+ * A segment has come: behind timers_arrived_with_report. `status` is the end's behind it, and `reports_blocks` says that it reports
+ * another first block than the last one did, and has neither text nor FIN. The congestion window takes what it acknowledges.
  */
 void loss_recovery_arrived(struct loss_recovery *recovery, const struct loss_recovery_sender *sender,
                            const struct tcpcore_arrive_report *report, const struct tcpcore_status *status, int reports_blocks);

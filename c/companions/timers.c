@@ -128,7 +128,8 @@ static void sample(struct timers *timers, uint64_t milliseconds)
     timers->rto = timeout(timers);
 }
 
-/* The peer has acknowledged what it hadn't: the retransmission timer starts anew (RFC 6298, 5.3). */
+/* The peer has acknowledged what it hadn't: the retransmission timer starts anew (RFC 6298, 5.3). So does reordering: what was missing has
+   come, and what is missing now hasn't been waited for. */
 static void progress(struct timers *timers, uint64_t una, uint64_t now)
 {
     int ends_handshake = timers->snd_una == 0;
@@ -140,7 +141,7 @@ static void progress(struct timers *timers, uint64_t una, uint64_t now)
         sample(timers, now - timers->timed_at);
         timers->timed_at = TIMERS_NEVER;
     }
-    timers->deadline[TCPCORE_TIMER_RETRANSMIT] = TIMERS_NEVER;
+    timers->deadline[TCPCORE_TIMER_RETRANSMIT] = timers->deadline[TCPCORE_TIMER_REORDER] = TIMERS_NEVER;
     begin_anew(timers, now);
 }
 

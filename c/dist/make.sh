@@ -16,7 +16,7 @@ place=out/$name
 when=$(git -C "$top" log -1 --format=%ct)
 
 library() {
-    cp Makefile README.md "$core/"{tcpcore.c,tcpcore.h,tcpcore_old_names.h,layout.h,tcpcore.map} "$top/release/tcp.html" "$place"
+    cp Makefile README.md "$core/"{tcpcore.c,older_ends.c,tcpcore.h,tcpcore_old_names.h,layout.h,tcpcore.map} "$top/release/tcp.html" "$place"
     # Beside the layer of the machine code, which has the name that it has in c/tcpcore.
     cp "$file" "$place/tcpcore_portable.c"
     cp -r "$core/examples" "$core/tests" "$place"
@@ -48,6 +48,7 @@ bindings() {
     done
     cp "$top/c/bindings/python/"{pyproject.toml,setup.py,batch.c} "$place/python"
     cp "$core/tcpcore.py" "$place/python/tcpcore/__init__.py"
+    cp "$core/"{datagrams,simulator}.py "$place/python/tcpcore"
     touch "$place/python/tcpcore/py.typed"
     cp "$top/c/bindings/cpp/"{tcpcore.hpp,test.cpp} "$place/cpp"
 }
@@ -63,6 +64,7 @@ debian() {
         echo "libtcpcore.so.$abi libtcpcore$abi #MINVER#"
         awk '/^TCPCORE_[0-9]+ \{$/ { node = $1; print " " node "@" node " 0." substr(node, 9) }
              /^ *tcpcore_[a-z_]*;$/ { sub(";", "", $1); print " " $1 "@" node " 0." substr(node, 9) }' "$core/tcpcore.map"
+        sed -n 's/^__asm__("\.symver [a-z_]*, \(tcpcore_[a-z_]*@TCPCORE_\([0-9]*\)\)");$/ \1 0.\2/p' "$core/older_ends.c"
     } >"$place/debian/libtcpcore$abi.symbols"
 }
 

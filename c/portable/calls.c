@@ -12,12 +12,13 @@ enum {
     AT_OTHER = AT_FOUND + 8,
     AT_RECORD = AT_OTHER + 8,
     RECORD = 104,
-    FRAME = AT_RECORD + RECORD
+    AT_RULES = AT_RECORD + RECORD,
+    FRAME = AT_RULES + 80
 };
 
 /* crates/tcp_c: the mark of a handle that holds an end, and how many bytes of the block it takes from its address on. */
 #define MARK_OF_LIVE UINT64_C(0x744350526174746c)
-#define END_SIZE 704
+#define END_SIZE 416
 #define MARK UINT32_C(0x706f7274)
 
 struct call {
@@ -26,7 +27,7 @@ struct call {
 };
 
 /* How many bytes each field of a record has, in turn. */
-static const u8 OF_CONFIG[] = {1, 1, 1, 1, 2, 2, 4, 4, 8, 8, 8, 1, 1, 1, 0};
+static const u8 OF_CONFIG[] = {1, 1, 1, 1, 2, 2, 4, 4, 8, 8, 8, 1, 1, 1, 1, 2, 2, 0};
 static const u8 OF_STATUS[] = {4, 4, 8, 8, 8, 8, 8, 8, 8, 8, 4, 1, 1, 1, 1, 4, 4, 8, 4, 4, 0};
 static const u8 OF_ARRIVE_REPORT[] = {4, 4, 8, 4, 4, 4, 0};
 static const u8 OF_TRANSMIT[] = {1, 1, 1, 1, 4, 8, 8, 8, 0};
@@ -66,25 +67,29 @@ STEP void begin(struct call *call)
     memset(call->frame + AT_HANDLE, 0, 2 * sizeof(u64));
 }
 
-/* With the end that is in the handle, if there is one. */
-STEP void begin_with(struct call *call, const struct handle *handle)
+/* With what is in the handle, if that has this mark; the module's handles of its kind have the mark `live`. */
+STEP void begin_as(struct call *call, const struct handle *handle, u32 mark, u64 live, u32 size)
 {
     begin(call);
-    if (handle->at >> 32 != MARK)
+    if (handle->at >> 32 != mark)
         return;
     u32 at = (u32)handle->at;
-    see(call, IN_BLOCK, (const void *)(uintptr_t)handle->mark, (at & PLACE) + END_SIZE);
-    put64(call->frame + AT_HANDLE, MARK_OF_LIVE);
+    see(call, IN_BLOCK, (const void *)(uintptr_t)handle->mark, (at & PLACE) + size);
+    put64(call->frame + AT_HANDLE, live);
     put64(call->frame + AT_HANDLE + 8, at);
 }
 
 /* The handle as the call has left it. */
-STEP void end_with(const struct call *call, struct handle *handle)
+STEP void end_as(const struct call *call, struct handle *handle, u32 mark, u64 live)
 {
-    int is_live = get64(call->frame + AT_HANDLE) == MARK_OF_LIVE;
+    int is_live = get64(call->frame + AT_HANDLE) == live;
     handle->mark = is_live ? (uintptr_t)call->machine.w2c_memory.read[IN_BLOCK].data : 0;
-    handle->at = is_live ? (u64)MARK << 32 | get32(call->frame + AT_HANDLE + 8) : 0;
+    handle->at = is_live ? (u64)mark << 32 | get32(call->frame + AT_HANDLE + 8) : 0;
 }
+
+/* Of an end. */
+STEP void begin_with(struct call *call, const struct handle *handle) { begin_as(call, handle, MARK, MARK_OF_LIVE, END_SIZE); }
+STEP void end_with(const struct call *call, struct handle *handle) { end_as(call, handle, MARK, MARK_OF_LIVE); }
 
 /* An address is bytes, which lie the same on any machine. */
 STEP void put_addr(struct call *call, u32 at, const tcpcore_addr *addr) { memcpy(call->frame + at, addr, sizeof *addr); }

@@ -207,7 +207,7 @@ def main():
     table = f"/* The module's constants, and where they lie. */\nenum {{ TABLE_AT = {at} }};\n#define TABLE_SIZE {size}\n"
     table += f"static const unsigned char TABLE[] = {{\n{constants}\n}};\n\n" if size > 0 else "\n"
     module = "/* THE MODULE: crates/tcp_c and those below it, function by function, as wasm2c has written them. */\n"
-    parts = [QUIET, table, (HERE / "memory.c").read_text(), own, module, declared, body, LOUD, (HERE / "calls.c").read_text()]
+    parts = [QUIET, table, (HERE / "memory.c").read_text(), own, module, declared, body, LOUD, *((HERE / name).read_text() for name in ("calls.c", "connection_calls.c"))]
     text = "".join([head_of("tcpcore_portable.c", "as wasm2c has translated them from WebAssembly"), IN_C, layer(), *parts])
     pathlib.Path(sys.argv[2]).write_text(text)
     print(f"{sys.argv[2]}: {len(text.splitlines())} lines, {declared.count(';')} functions, {stack} bytes of the module's stack,"

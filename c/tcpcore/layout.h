@@ -22,6 +22,7 @@ FIELD(tcpcore_config, limit, 32, 8);
 FIELD(tcpcore_config, window_shift, 40, 1);
 FIELD(tcpcore_config, scales, 41, 1);
 FIELD(tcpcore_config, sack, 42, 1);
+FIELD(tcpcore_config, runs, 44, 2);
 _Static_assert(sizeof(tcpcore_config) == 48, "the size of tcpcore_config");
 FIELD(struct tcpcore_status, phase, 0, 4);
 FIELD(struct tcpcore_status, ending, 4, 4);
@@ -134,6 +135,26 @@ FIELD(struct parts, first_length, 16, 8);
 FIELD(struct parts, second, 24, 8);
 FIELD(struct parts, second_length, 32, 8);
 _Static_assert(sizeof(struct parts) == 40, "the size of struct parts");
+FIELD(struct tcpcore_connection_rules, first, 0, 8);
+FIELD(struct tcpcore_connection_rules, least, 8, 8);
+FIELD(struct tcpcore_connection_rules, greatest, 16, 8);
+FIELD(struct tcpcore_connection_rules, granularity, 24, 8);
+FIELD(struct tcpcore_connection_rules, after_syn, 32, 8);
+FIELD(struct tcpcore_connection_rules, time_wait, 40, 8);
+FIELD(struct tcpcore_connection_rules, handshake, 48, 8);
+FIELD(struct tcpcore_connection_rules, user, 56, 8);
+FIELD(struct tcpcore_connection_rules, fin_wait_2, 64, 8);
+FIELD(struct tcpcore_connection_rules, suspect_after, 72, 4);
+/* The library writes nothing behind these. */
+FIELD(struct tcpcore_connection_rules, reserved, 76, 52);
+_Static_assert(sizeof(struct tcpcore_connection_rules) == 128, "the size of struct tcpcore_connection_rules");
+FIELD(struct tcpcore_connection_segment, length, 0, 8);
+FIELD(struct tcpcore_connection_segment, position, 8, 8);
+FIELD(struct tcpcore_connection_segment, count, 16, 8);
+FIELD(struct tcpcore_connection_segment, to, 24, 4);
+/* The library writes nothing behind these. */
+FIELD(struct tcpcore_connection_segment, reserved, 28, 36);
+_Static_assert(sizeof(struct tcpcore_connection_segment) == 64, "the size of struct tcpcore_connection_segment");
 
 #undef FIELD
 

@@ -46,12 +46,13 @@ KINDS = {
 
 
 class Struct(NamedTuple):
-    """A record's struct: its type in C, its bytes in every version of the interface (0: no more than its fields take), and whether
-    records alone have it, which tcpcore.c translates."""
+    """A record's struct: its type in C, its bytes in every version of the interface (0: no more than its fields take), whether
+    records alone have it, which tcpcore.c translates, and whether the languages' bindings have it."""
 
     c: str
     size: int = 0
     inner: bool = False
+    bound: bool = True
 
 
 STRUCTS = {
@@ -64,6 +65,8 @@ STRUCTS = {
     "CTimeWait": Struct("struct tcpcore_time_wait"),
     "CLent": Struct("struct lent", inner=True),
     "CParts": Struct("struct parts", inner=True),
+    "CConnectionRules": Struct("struct tcpcore_connection_rules", 128, bound=False),
+    "CConnectionSegment": Struct("struct tcpcore_connection_segment", 64, bound=False),
 }
 LAYOUT_HEAD = """\
 /*
@@ -252,6 +255,8 @@ def made() -> dict[pathlib.Path, str]:
         typedef = not struct.c.startswith("struct ")
         begins, ends = (f"typedef struct {struct.c} {{", f"}} {struct.c};") if typedef else (f"{struct.c} {{", "};")
         header = put(header, begins, ends, in_header(name, fields))
+        if not struct.bound:
+            continue
         python = put(python, f"class {short}Struct(ctypes.Structure):\n    _fields_ = [", "    ]", in_python(name, fields))
         rust = put(rust, f"pub struct {short} {{", "}", in_rust(name, fields))
         compared += places(name, fields)

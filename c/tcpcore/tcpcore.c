@@ -27,6 +27,7 @@ struct handle {
 
 _Static_assert(sizeof(struct handle) == OWNER * sizeof(uint64_t), "the handle is the struct's first words");
 _Static_assert(sizeof(tcpcore_end) == (OWNER + 1) * sizeof(uint64_t), "the handle and the struct's own address");
+_Static_assert(sizeof(tcpcore_connection) == sizeof(tcpcore_end), "a connection's struct is as an end's");
 
 /* Memory as the library takes it: it begins at a multiple of UNIT, and its size is one. */
 struct block {
@@ -79,25 +80,52 @@ uint32_t tcp_c_time_wait_emit(struct tcpcore_time_wait *, uint8_t *, size_t, tcp
 uint32_t tcp_c_time_wait_pending(const struct tcpcore_time_wait *, uint32_t *);
 uint32_t tcp_c_time_wait_abort(struct tcpcore_time_wait *);
 uint32_t tcp_c_time_wait_status(const struct tcpcore_time_wait *, uint32_t *, uint32_t *);
+uint32_t tcp_c_connection_connect(struct handle *, struct block, const tcpcore_config *, const struct tcpcore_connection_rules *,
+                                  const tcpcore_addr *, uint16_t, uint64_t);
+uint32_t tcp_c_connection_listen(struct handle *, struct block, const tcpcore_config *, const struct tcpcore_connection_rules *, uint64_t);
+size_t tcp_c_connection_room(const tcpcore_config *);
+uint32_t tcp_c_connection_free(struct handle *);
+uint32_t tcp_c_connection_poll_at(struct handle *, uint64_t *);
+uint32_t tcp_c_connection_timeout(struct handle *, uint64_t, uint32_t *);
+uint32_t tcp_c_connection_arrive(struct handle *, uint64_t, const tcpcore_addr *, const tcpcore_addr *, const uint8_t *, size_t,
+                                 struct tcpcore_arrive_report *);
+uint32_t tcp_c_connection_emit(struct handle *, uint64_t, uint64_t, uint8_t *, size_t, struct tcpcore_connection_segment *);
+uint32_t tcp_c_connection_send(struct handle *, uint64_t, const uint8_t *, size_t, size_t *);
+uint32_t tcp_c_connection_receive(struct handle *, uint64_t, uint8_t *, size_t, size_t *);
+uint32_t tcp_c_connection_peek(struct handle *, struct lent *);
+uint32_t tcp_c_connection_consume(struct handle *, uint64_t, size_t, size_t *);
+uint32_t tcp_c_connection_acknowledge(struct handle *, uint64_t);
+uint32_t tcp_c_connection_close(struct handle *, uint64_t);
+uint32_t tcp_c_connection_abort(struct handle *, uint64_t);
+uint32_t tcp_c_connection_status(struct handle *, struct tcpcore_status *);
 
 STEP struct handle *handle(tcpcore_end *end) { return (struct handle *)end->opaque; }
 
+STEP struct handle *handle_in(tcpcore_connection *connection) { return (struct handle *)connection->opaque; }
+
 /* For a call that changes no end: the library takes the end out of its handle and puts it back, where it was. */
-STEP struct handle copy_of(const tcpcore_end *end)
+STEP struct handle copy_in(const uint64_t *words)
 {
     struct handle copy;
-    memcpy(&copy, end->opaque, sizeof copy);
+    memcpy(&copy, words, sizeof copy);
     return copy;
 }
 
-/* Whether the struct may be used where it lies: all zero, or with its own address. The library tests the mark. */
-STEP uint32_t refusal(const tcpcore_end *end)
+STEP struct handle copy_of(const tcpcore_end *end) { return copy_in(end->opaque); }
+
+/* Whether the struct of these words may be used where it lies: all zero, or with its own address. The library tests the mark. */
+STEP uint32_t refusal_at(const uint64_t *words)
 {
-    if (!end)
-        return TCPCORE_NULL;
-    if (end->opaque[OWNER] == (uintptr_t)end)
+    if (words[OWNER] == (uintptr_t)words)
         return TCPCORE_DONE;
-    return (end->opaque[0] | end->opaque[1] | end->opaque[OWNER]) == 0 ? TCPCORE_DONE : TCPCORE_COPIED;
+    return (words[0] | words[1] | words[OWNER]) == 0 ? TCPCORE_DONE : TCPCORE_COPIED;
+}
+
+STEP uint32_t refusal(const tcpcore_end *end) { return end ? refusal_at(end->opaque) : TCPCORE_NULL; }
+
+STEP uint32_t connection_refusal(const tcpcore_connection *connection)
+{
+    return connection ? refusal_at(connection->opaque) : TCPCORE_NULL;
 }
 
 /* Whether two stretches of memory have a byte in common. */
@@ -120,6 +148,8 @@ struct object {
 };
 
 STEP struct object end_at(const tcpcore_end *end) { return (struct object){end, sizeof *end}; }
+
+STEP struct object connection_at(const tcpcore_connection *connection) { return (struct object){connection, sizeof *connection}; }
 
 STEP struct object time_wait_at(const struct tcpcore_time_wait *time_wait) { return (struct object){time_wait, sizeof *time_wait}; }
 
@@ -153,6 +183,12 @@ STEP uint32_t refusal_with(const tcpcore_end *end, const void *bytes, size_t len
 {
     uint32_t answer = refusal_beside(end_at(end), bytes, length, place);
     return answer != TCPCORE_DONE ? answer : refusal(end);
+}
+
+STEP uint32_t connection_refusal_with(const tcpcore_connection *connection, const void *bytes, size_t length, struct place place)
+{
+    uint32_t answer = refusal_beside(connection_at(connection), bytes, length, place);
+    return answer != TCPCORE_DONE ? answer : connection_refusal(connection);
 }
 
 STEP uint32_t refusal_with_two(const tcpcore_end *end, const void *bytes, size_t length, struct place one, struct place other)
@@ -297,6 +333,15 @@ STEP tcpcore_piece piece_of(uint64_t at, uint64_t length)
     return (tcpcore_piece){length > 0 ? (const void *)(uintptr_t)at : NULL, (size_t)length};
 }
 
+/* What the library has lent. */
+STEP struct tcpcore_lent lent_of(const struct lent *reported)
+{
+    struct tcpcore_lent lent = {.ends = reported->ends};
+    lent.first = piece_of(reported->first, reported->first_length);
+    lent.second = piece_of(reported->second, reported->second_length);
+    return lent;
+}
+
 uint32_t tcpcore_peek(const tcpcore_end *end, struct tcpcore_lent *lent)
 {
     struct tcpcore_lent found = {.ends = 0};
@@ -306,9 +351,7 @@ uint32_t tcpcore_peek(const tcpcore_end *end, struct tcpcore_lent *lent)
         struct handle copy = copy_of(end);
         struct lent reported = {.ends = 0};
         answer = tcp_c_peek(&copy, &reported);
-        found.first = piece_of(reported.first, reported.first_length);
-        found.second = piece_of(reported.second, reported.second_length);
-        found.ends = reported.ends;
+        found = lent_of(&reported);
     }
     put(refused, place, end_at(end), NULL, 0, &found);
     return answer;
@@ -662,6 +705,192 @@ uint32_t tcpcore_time_wait_status(const struct tcpcore_time_wait *time_wait, uin
     return answer;
 }
 
+/* Why no connection is made; the config and the rules may lie in the block. */
+static uint32_t refusal_to_make(const tcpcore_connection *connection, const tcpcore_config *config,
+                                const struct tcpcore_connection_rules *rules, const void *block, size_t length)
+{
+    if (!config || !rules)
+        return TCPCORE_NULL;
+    uint32_t answer = connection_refusal_with(connection, block, length, (struct place){NOWHERE, 0});
+    return answer == TCPCORE_DONE && connection->opaque[OWNER] == 0 ? refusal_of(config) : answer;
+}
+
+/* One that was made is known by its address. */
+STEP uint32_t made(tcpcore_connection *connection, uint32_t answer)
+{
+    if (answer == TCPCORE_DONE)
+        connection->opaque[OWNER] = (uintptr_t)connection;
+    return answer;
+}
+
+uint32_t tcpcore_connection_connect(tcpcore_connection *connection, const tcpcore_config *config,
+                                    const struct tcpcore_connection_rules *rules, tcpcore_addr addr, uint16_t port, uint64_t now,
+                                    void *block, size_t length)
+{
+    uint32_t answer = refusal_to_make(connection, config, rules, block, length);
+    if (answer != TCPCORE_DONE)
+        return answer;
+    tcpcore_config config_here = *config;
+    struct tcpcore_connection_rules rules_here = *rules;
+    return made(connection, tcp_c_connection_connect(handle_in(connection), units_of(block, length), &config_here, &rules_here, &addr,
+                                                     port, now));
+}
+
+uint32_t tcpcore_connection_listen(tcpcore_connection *connection, const tcpcore_config *config,
+                                   const struct tcpcore_connection_rules *rules, uint64_t now, void *block, size_t length)
+{
+    uint32_t answer = refusal_to_make(connection, config, rules, block, length);
+    if (answer != TCPCORE_DONE)
+        return answer;
+    tcpcore_config config_here = *config;
+    struct tcpcore_connection_rules rules_here = *rules;
+    return made(connection, tcp_c_connection_listen(handle_in(connection), units_of(block, length), &config_here, &rules_here, now));
+}
+
+size_t tcpcore_connection_room(const tcpcore_config *config)
+{
+    size_t room = config ? tcp_c_connection_room(config) : 0;
+    return room > 0 ? room + UNIT - 1 : 0;
+}
+
+uint32_t tcpcore_connection_free(tcpcore_connection *connection)
+{
+    uint32_t answer = connection_refusal(connection);
+    if (answer != TCPCORE_DONE)
+        return answer;
+    answer = tcp_c_connection_free(handle_in(connection));
+    if (answer == TCPCORE_DONE)
+        memset(connection, 0, sizeof *connection);
+    return answer;
+}
+
+uint32_t tcpcore_connection_poll_at(const tcpcore_connection *connection, uint64_t *at)
+{
+    uint64_t found = 0;
+    struct place place = {at, sizeof *at};
+    uint32_t refused = connection_refusal_with(connection, NULL, 0, place), answer = refused;
+    if (refused == TCPCORE_DONE) {
+        struct handle copy = copy_in(connection->opaque);
+        answer = tcp_c_connection_poll_at(&copy, &found);
+    }
+    put(refused, place, connection_at(connection), NULL, 0, &found);
+    return answer;
+}
+
+uint32_t tcpcore_connection_timeout(tcpcore_connection *connection, uint64_t now, uint32_t *timer)
+{
+    uint32_t found = 0;
+    struct place place = {timer, sizeof *timer};
+    uint32_t refused = connection_refusal_with(connection, NULL, 0, place), answer = refused;
+    if (refused == TCPCORE_DONE)
+        answer = tcp_c_connection_timeout(handle_in(connection), now, &found);
+    put(refused, place, connection_at(connection), NULL, 0, &found);
+    return answer;
+}
+
+uint32_t tcpcore_connection_arrive(tcpcore_connection *connection, uint64_t now, tcpcore_addr src, tcpcore_addr dst, const void *bytes,
+                                   size_t length, struct tcpcore_arrive_report *report)
+{
+    struct tcpcore_arrive_report found = {0};
+    struct place place = {report, sizeof *report};
+    uint32_t refused = connection_refusal_with(connection, bytes, length, place), answer = refused;
+    if (refused == TCPCORE_DONE)
+        answer = tcp_c_connection_arrive(handle_in(connection), now, &src, &dst, front(bytes), length, &found);
+    put(refused, place, connection_at(connection), bytes, length, &found);
+    return answer;
+}
+
+uint32_t tcpcore_connection_emit(tcpcore_connection *connection, uint64_t now, uint64_t window, void *out, size_t room,
+                                 struct tcpcore_connection_segment *segment)
+{
+    struct tcpcore_connection_segment found = {0};
+    struct place place = {segment, sizeof *segment};
+    uint32_t refused = connection_refusal_with(connection, out, room, place), answer = refused;
+    if (refused == TCPCORE_DONE)
+        answer = tcp_c_connection_emit(handle_in(connection), now, window, start(out), room, &found);
+    put(refused, place, connection_at(connection), out, room, &found);
+    return answer;
+}
+
+uint32_t tcpcore_connection_send(tcpcore_connection *connection, uint64_t now, const void *text, size_t length, size_t *taken)
+{
+    size_t found = 0;
+    struct place place = {taken, sizeof *taken};
+    uint32_t refused = connection_refusal_with(connection, text, length, place), answer = refused;
+    if (refused == TCPCORE_DONE)
+        answer = tcp_c_connection_send(handle_in(connection), now, front(text), length, &found);
+    put(refused, place, connection_at(connection), text, length, &found);
+    return answer;
+}
+
+uint32_t tcpcore_connection_receive(tcpcore_connection *connection, uint64_t now, void *out, size_t room, size_t *count)
+{
+    size_t found = 0;
+    struct place place = {count, sizeof *count};
+    uint32_t refused = connection_refusal_with(connection, out, room, place), answer = refused;
+    if (refused == TCPCORE_DONE)
+        answer = tcp_c_connection_receive(handle_in(connection), now, start(out), room, &found);
+    put(refused, place, connection_at(connection), out, room, &found);
+    return answer;
+}
+
+uint32_t tcpcore_connection_peek(const tcpcore_connection *connection, struct tcpcore_lent *lent)
+{
+    struct tcpcore_lent found = {.ends = 0};
+    struct place place = {lent, sizeof *lent};
+    uint32_t refused = connection_refusal_with(connection, NULL, 0, place), answer = refused;
+    if (refused == TCPCORE_DONE) {
+        struct handle copy = copy_in(connection->opaque);
+        struct lent reported = {.ends = 0};
+        answer = tcp_c_connection_peek(&copy, &reported);
+        found = lent_of(&reported);
+    }
+    put(refused, place, connection_at(connection), NULL, 0, &found);
+    return answer;
+}
+
+uint32_t tcpcore_connection_consume(tcpcore_connection *connection, uint64_t now, size_t count, size_t *taken)
+{
+    size_t found = 0;
+    struct place place = {taken, sizeof *taken};
+    uint32_t refused = connection_refusal_with(connection, NULL, 0, place), answer = refused;
+    if (refused == TCPCORE_DONE)
+        answer = tcp_c_connection_consume(handle_in(connection), now, count, &found);
+    put(refused, place, connection_at(connection), NULL, 0, &found);
+    return answer;
+}
+
+uint32_t tcpcore_connection_acknowledge(tcpcore_connection *connection, uint64_t now)
+{
+    uint32_t answer = connection_refusal(connection);
+    return answer != TCPCORE_DONE ? answer : tcp_c_connection_acknowledge(handle_in(connection), now);
+}
+
+uint32_t tcpcore_connection_close(tcpcore_connection *connection, uint64_t now)
+{
+    uint32_t answer = connection_refusal(connection);
+    return answer != TCPCORE_DONE ? answer : tcp_c_connection_close(handle_in(connection), now);
+}
+
+uint32_t tcpcore_connection_abort(tcpcore_connection *connection, uint64_t now)
+{
+    uint32_t answer = connection_refusal(connection);
+    return answer != TCPCORE_DONE ? answer : tcp_c_connection_abort(handle_in(connection), now);
+}
+
+uint32_t tcpcore_connection_status(const tcpcore_connection *connection, struct tcpcore_status *status)
+{
+    struct tcpcore_status found = {0};
+    struct place place = {status, sizeof *status};
+    uint32_t refused = connection_refusal_with(connection, NULL, 0, place), answer = refused;
+    if (refused == TCPCORE_DONE) {
+        struct handle copy = copy_in(connection->opaque);
+        answer = tcp_c_connection_status(&copy, &found);
+    }
+    put(refused, place, connection_at(connection), NULL, 0, &found);
+    return answer;
+}
+
 /* The texts, by their answers. */
 static const char *const TEXTS[] = {
     [TCPCORE_DONE] = "done",
@@ -684,6 +913,8 @@ static const char *const TEXTS[] = {
     [TCPCORE_BAD_LIMIT] = "the limit isn't from 1 to 2^62 bytes",
     [TCPCORE_BAD_ADDR] = "the address is 0.0.0.0",
     [TCPCORE_BAD_PORT] = "the port is 0",
+    [TCPCORE_BAD_RUNS] = "the number of runs is above 4,096",
+    [TCPCORE_BAD_RULES] = "no timeout can be made from the rules",
     [TCPCORE_NO_END] = "no end is in the struct",
     [TCPCORE_IN_USE] = "the struct holds an end already",
     [TCPCORE_ROOM] = "too little room for a segment",
@@ -700,6 +931,8 @@ static const char *const TEXTS[] = {
     [TCPCORE_DROPPED] = "the segment was passed over",
     [TCPCORE_NOT_MINE] = "the segment is another connection's",
     [TCPCORE_NOT_TIME_WAIT] = "not in TIME-WAIT, or bytes are unread",
+    [TCPCORE_EMIT_FIRST] = "a timer has expired: what is due goes out first",
+    [TCPCORE_WITHHELD] = "a reset that counts as lost",
 };
 
 const char *tcpcore_strerror(uint32_t answer)

@@ -1,7 +1,12 @@
-"""libtcpcore.so for Python, over ctypes: class End is one end of one TCP connection. tcpcore.h says what each call does.
+"""libtcpcore.so for Python, over ctypes: a Connection is one end of one TCP connection with its timers, and an End is the same without
+them, whose times the caller keeps. tcpcore.h says what each call does.
+
+Beside it are the modules tcpcore.datagrams, a Connection over UDP for asyncio, and tcpcore.simulator, two of them and a link between them.
 
 Addresses are 4 bytes, a text ("10.0.0.1") or an ipaddress.IPv4Address; text and segments are bytes, or anything that has a
 buffer of bytes (bytearray, memoryview). A number that doesn't fit its field is a ValueError, before any call.
+
+Times are seconds, as those of time.monotonic() and of asyncio's loop.time().
 
 An end is used by one thread at a time: ctypes lets other threads run during a call, and two calls of one end at once break it. Where
 threads share an end, a lock (threading.Lock) is held around each call. Ends have nothing in common.
@@ -16,19 +21,30 @@ import ctypes
 import enum
 import importlib.util
 import ipaddress
+import operator
 import os
-from typing import Any, Callable, Iterable, NamedTuple, NoReturn, Optional, Union
+from collections import deque
+from typing import Any, Callable, Iterable, NamedTuple, NoReturn, Optional, TypeVar, Union
 
-VERSION = 10
+VERSION = 11
 EMIT_ROOM = 1520
 TRAIN_ROOM = 65_515
 RESET_ROOM = 20
 TIME_WAIT_ROOM = 20
 STRUCT_ROOM = 32
 LIMIT = 2_147_483_632
+# Of a connection: no limit, and no window.
+NEVER = (1 << 64) - 1
+# The latest time in microseconds, 71 years: up to here a float of seconds tells them apart.
+LATEST = 1 << 51
+RUNS = 128
+MAX_RUNS = 4_096
 
 Address = Union[bytes, bytearray, str, ipaddress.IPv4Address]
 Buffer = Union[bytes, bytearray, memoryview]
+
+# The other modules of the package lie beside this file, where it isn't installed, too.
+__path__ = [os.path.dirname(os.path.realpath(__file__))]
 
 
 class Answer(enum.IntEnum):
@@ -36,9 +52,9 @@ class Answer(enum.IntEnum):
 
     DONE, TOO_SHORT, TOO_LONG, BAD_CHECKSUM, BAD_OFFSET, BAD_OPTION, BAD_PADDING = range(7)
     NOT_OPEN, ALREADY_OPEN, CLOSING, ENDED, STREAM_FULL, NOT_CONNECTED = range(11, 17)
-    BAD_CAPACITY, NO_MEMORY, BAD_MSS, BAD_SHIFT, BAD_LIMIT, BAD_ADDR, BAD_PORT = range(21, 28)
+    BAD_CAPACITY, NO_MEMORY, BAD_MSS, BAD_SHIFT, BAD_LIMIT, BAD_ADDR, BAD_PORT, BAD_RUNS, BAD_RULES = range(21, 30)
     NO_END, IN_USE, ROOM, NO_TIMER, NULL, LENGTH, COPIED, OVERLAP, NO_TIME_WAIT = range(31, 40)
-    NOTHING, END_OF_STREAM, NOT_DUE, NO_RULE, DROPPED, NOT_MINE, NOT_TIME_WAIT = range(51, 58)
+    NOTHING, END_OF_STREAM, NOT_DUE, NO_RULE, DROPPED, NOT_MINE, NOT_TIME_WAIT, EMIT_FIRST, WITHHELD = range(51, 60)
 
     def __str__(self) -> str:
         return str(int(self))
@@ -53,9 +69,9 @@ class Answer(enum.IntEnum):
 
 DONE, TOO_SHORT, TOO_LONG, BAD_CHECKSUM, BAD_OFFSET, BAD_OPTION, BAD_PADDING = list(Answer)[:7]
 NOT_OPEN, ALREADY_OPEN, CLOSING, ENDED, STREAM_FULL, NOT_CONNECTED = list(Answer)[7:13]
-BAD_CAPACITY, NO_MEMORY, BAD_MSS, BAD_SHIFT, BAD_LIMIT, BAD_ADDR, BAD_PORT = list(Answer)[13:20]
-NO_END, IN_USE, ROOM, NO_TIMER, NULL, LENGTH, COPIED, OVERLAP, NO_TIME_WAIT = list(Answer)[20:29]
-NOTHING, END_OF_STREAM, NOT_DUE, NO_RULE, DROPPED, NOT_MINE, NOT_TIME_WAIT = list(Answer)[29:]
+BAD_CAPACITY, NO_MEMORY, BAD_MSS, BAD_SHIFT, BAD_LIMIT, BAD_ADDR, BAD_PORT, BAD_RUNS, BAD_RULES = list(Answer)[13:22]
+NO_END, IN_USE, ROOM, NO_TIMER, NULL, LENGTH, COPIED, OVERLAP, NO_TIME_WAIT = list(Answer)[22:31]
+NOTHING, END_OF_STREAM, NOT_DUE, NO_RULE, DROPPED, NOT_MINE, NOT_TIME_WAIT, EMIT_FIRST, WITHHELD = list(Answer)[31:]
 
 
 class Phase(str, enum.Enum):
@@ -96,11 +112,13 @@ class Ending(str, enum.Enum):
 
 
 class Timer(enum.IntEnum):
-    """The timers. Bit 1 << t of `timers()` is timer t's."""
+    """The timers. Bit 1 << t of `timers()` is timer t's. USER is of a connection alone: the user timeout (RFC 9293, 3.8.3), or the limit of
+    FIN-WAIT-2."""
 
     RETRANSMIT = 0
     REORDER = 1
     TIME_WAIT = 2
+    USER = 3
 
     def __str__(self) -> str:
         return str(int(self))
@@ -180,6 +198,16 @@ class Transmit(NamedTuple):
     text_count: int
 
 
+class Emission(NamedTuple):
+    """What `transmit` of a connection reports of a segment: struct tcpcore_connection_segment has each field's meaning. Its `count` is `numbers`
+    here, since a tuple has a method of that name."""
+
+    to: bytes
+    length: int
+    position: int
+    numbers: int
+
+
 class Train(NamedTuple):
     """What `emit_train` reports of segments that it wrote as one: struct tcpcore_train has each field's meaning."""
 
@@ -200,7 +228,8 @@ class Config(NamedTuple):
     """What an end is made from: address, port and `isn`, the initial sequence number, which is chosen as RFC 9293, 3.4.1 says and has no
     default; all else may be left out, and is best given by name. `window_shift` is None where windows aren't scaled: `least_shift` has the one to take for
     a receive capacity above 65,535, since with a greater one the window is 0 while fewer than 2^shift bytes are free. `limit` is the most
-    bytes that it sends."""
+    bytes that it sends; `runs` is how many runs of bytes are kept out of order, and how many of the peer's are remembered, 1 to MAX_RUNS:
+    0 is RUNS, the library's default."""
 
     addr: Address
     port: int
@@ -211,6 +240,28 @@ class Config(NamedTuple):
     window_shift: Optional[int] = None
     sack: bool = True
     limit: int = LIMIT
+    runs: int = 0
+
+
+class Rules(NamedTuple):
+    """How a connection makes its retransmission timeout (RFC 6298, 2 and 5), and how long it waits (RFC 9293, 3.8.3), in seconds; the
+    defaults are the standards'. None is no limit. struct tcpcore_connection_rules has each field's meaning.
+
+    `first`, `least` and `greatest` are the timeout before any round trip was measured and its bounds, `granularity` is the clock's, and
+    `after_syn` is the timeout with which data begin where the SYN was sent again. `time_wait` is how long TIME-WAIT is. `handshake` is how
+    long a SYN may be without an answer, `user` how long all else may be, and `fin_wait_2` how long FIN-WAIT-2 may last. No end is given up
+    before `suspect_after` timeouts in a row."""
+
+    first: float = 1.0
+    least: float = 1.0
+    greatest: float = 60.0
+    granularity: float = 0.001
+    after_syn: float = 3.0
+    time_wait: float = 240.0
+    handshake: Optional[float] = 180.0
+    user: Optional[float] = 300.0
+    fin_wait_2: Optional[float] = None
+    suspect_after: int = 3
 
 
 def least_shift(recv_capacity: int) -> Optional[int]:
@@ -256,7 +307,9 @@ class ConfigStruct(ctypes.Structure):
         ("window_shift", ctypes.c_uint8),
         ("scales", ctypes.c_uint8),
         ("sack", ctypes.c_uint8),
-        ("unnamed_43", ctypes.c_uint8 * 5),
+        ("unnamed_43", ctypes.c_uint8 * 1),
+        ("runs", ctypes.c_uint16),
+        ("unnamed_46", ctypes.c_uint8 * 2),
     ]
 
 
@@ -319,6 +372,32 @@ class TrainStruct(ctypes.Structure):
     ]
 
 
+class ConnectionRulesStruct(ctypes.Structure):
+    _fields_ = [
+        ("first", ctypes.c_uint64),
+        ("least", ctypes.c_uint64),
+        ("greatest", ctypes.c_uint64),
+        ("granularity", ctypes.c_uint64),
+        ("after_syn", ctypes.c_uint64),
+        ("time_wait", ctypes.c_uint64),
+        ("handshake", ctypes.c_uint64),
+        ("user", ctypes.c_uint64),
+        ("fin_wait_2", ctypes.c_uint64),
+        ("suspect_after", ctypes.c_uint32),
+        ("reserved", ctypes.c_uint32 * 13),
+    ]
+
+
+class ConnectionSegmentStruct(ctypes.Structure):
+    _fields_ = [
+        ("length", ctypes.c_uint64),
+        ("position", ctypes.c_uint64),
+        ("count", ctypes.c_uint64),
+        ("to", AddrStruct),
+        ("reserved", ctypes.c_uint32 * 9),
+    ]
+
+
 class PieceStruct(ctypes.Structure):
     _fields_ = [("at", ctypes.c_void_p), ("length", ctypes.c_size_t)]
 
@@ -350,6 +429,7 @@ class TimeWaitStruct(ctypes.Structure):
 
 END, SIZE, OUT = ctypes.POINTER(EndStruct), ctypes.c_size_t, ctypes.POINTER(ctypes.c_size_t)
 RECORD, WORD = ctypes.POINTER(TimeWaitStruct), ctypes.POINTER(ctypes.c_uint32)
+CONFIG, RULES, TIME = ctypes.POINTER(ConfigStruct), ctypes.POINTER(ConnectionRulesStruct), ctypes.c_uint64
 CALLS = {
     "new": [END, ctypes.POINTER(ConfigStruct), ctypes.c_char_p, SIZE],
     "new_at": [ctypes.POINTER(END), ctypes.POINTER(ConfigStruct), ctypes.c_char_p, SIZE],
@@ -389,11 +469,27 @@ CALLS = {
     "time_wait_pending": [RECORD, WORD],
     "time_wait_abort": [RECORD],
     "time_wait_status": [RECORD, WORD, WORD],
+    "connection_connect": [END, CONFIG, RULES, AddrStruct, ctypes.c_uint16, TIME, ctypes.c_char_p, SIZE],
+    "connection_listen": [END, CONFIG, RULES, TIME, ctypes.c_char_p, SIZE],
+    "connection_room": [CONFIG],
+    "connection_free": [END],
+    "connection_poll_at": [END, ctypes.POINTER(TIME)],
+    "connection_timeout": [END, TIME, WORD],
+    "connection_arrive": [END, TIME, AddrStruct, AddrStruct, ctypes.c_char_p, SIZE, ctypes.POINTER(ArriveReportStruct)],
+    "connection_emit": [END, TIME, ctypes.c_uint64, ctypes.c_char_p, SIZE, ctypes.POINTER(ConnectionSegmentStruct)],
+    "connection_send": [END, TIME, ctypes.c_char_p, SIZE, OUT],
+    "connection_receive": [END, TIME, ctypes.c_char_p, SIZE, OUT],
+    "connection_peek": [END, ctypes.POINTER(LentStruct)],
+    "connection_consume": [END, TIME, SIZE, OUT],
+    "connection_acknowledge": [END, TIME],
+    "connection_close": [END, TIME],
+    "connection_abort": [END, TIME],
+    "connection_status": [END, ctypes.POINTER(StatusStruct)],
     "strerror": [ctypes.c_uint32],
     "version": [],
     "build": [],
 }
-RESULTS = {"room": SIZE, "strerror": ctypes.c_char_p, "build": ctypes.c_char_p}
+RESULTS = {"room": SIZE, "connection_room": SIZE, "strerror": ctypes.c_char_p, "build": ctypes.c_char_p}
 
 
 def arrive_report_of(told: ArriveReportStruct) -> ArriveReport:
@@ -421,6 +517,8 @@ def found_by(answer: int) -> bool:
 
 def packed(addr: Address) -> bytes:
     """The 4 bytes of an address."""
+    if isinstance(addr, int):
+        raise TypeError(f"an address is wanted, and not the number {addr}")
     found = ipaddress.IPv4Address(addr).packed if isinstance(addr, (str, ipaddress.IPv4Address)) else bytes(addr)
     if len(found) != 4:
         raise ValueError(f"an IPv4 address has 4 bytes, not {len(found)}")
@@ -434,9 +532,17 @@ def address(addr: Address) -> AddrStruct:
 
 def number(name: str, value: int, bits: int) -> int:
     """The value, which has to fit a field of so many bits."""
+    value = operator.index(value)
     if not 0 <= value < 1 << bits:
         raise ValueError(f"{name} is {value}, and isn't from 0 to {(1 << bits) - 1}")
     return value
+
+
+def microseconds(time: float) -> int:
+    """A time in seconds as the library has it, to the nearest microsecond, so that a time that `poll_at` has told is itself again."""
+    if not 0 <= time <= LATEST / 1e6:
+        raise ValueError(f"the time is {time}, and isn't from 0 to {LATEST / 1e6} seconds")
+    return round(time * 1e6)
 
 
 def octets(data: Buffer) -> bytes:
@@ -576,41 +682,44 @@ class TimeWait:
         return PHASES[phase.value], ENDINGS[ending.value]
 
 
-class End:
-    """One end. A call that is refused is raised as `Refused`, so also each that follows `free`, with NO_END. It is freed behind `with`, or
-    when nothing refers to it. It can't be copied. `room` is the most bytes that `receive` hands over at once, at least 1. One thread at a
-    time uses it."""
+def config_struct(config: Config) -> ConfigStruct:
+    """The C struct of a config."""
+    shift = config.window_shift
+    return ConfigStruct(
+        addr=address(config.addr),
+        port=number("the port", config.port, 16),
+        mss=number("the MSS", config.mss, 16),
+        isn=number("the initial sequence number", config.isn, 32),
+        send_capacity=number("the send capacity", config.send_capacity, 64),
+        recv_capacity=number("the receive capacity", config.recv_capacity, 64),
+        limit=number("the limit", config.limit, 64),
+        window_shift=number("the window shift", shift or 0, 8),
+        scales=shift is not None,
+        sack=bool(config.sack),
+        runs=number("the number of runs", config.runs, 16),
+    )
 
-    def __init__(self, config: Config, room: int = 1 << 16) -> None:
-        shift = config.window_shift
+
+HeldType = TypeVar("HeldType", bound="Held")
+
+
+class Held:
+    """What an End and a Connection have in common: the C struct and its memory, which are this object's until `free`, behind `with`, or until
+    nothing refers to it."""
+
+    noun = "an end"
+    calls: dict[str, Callable[..., Any]]
+    # The struct, or a pointer to it.
+    end: Any
+
+    def prepare(self, calls: dict[str, Callable[..., Any]], room: int) -> None:
+        """The library's calls for this kind, and places for what they write."""
         if room < 1:
             raise ValueError(f"the room is {room}, and receive would have no byte to hand over")
-        told = ConfigStruct(
-            addr=address(config.addr),
-            port=number("the port", config.port, 16),
-            mss=number("the MSS", config.mss, 16),
-            isn=number("the initial sequence number", config.isn, 32),
-            send_capacity=number("the send capacity", config.send_capacity, 64),
-            recv_capacity=number("the receive capacity", config.recv_capacity, 64),
-            limit=number("the limit", config.limit, 64),
-            window_shift=number("the window shift", shift or 0, 8),
-            scales=shift is not None,
-            sack=bool(config.sack),
-        )
-        self.calls = library()
-        self.count, self.due, self.to = ctypes.c_size_t(), ctypes.c_uint32(), AddrStruct()
-        self.told = StatusStruct()
+        self.calls = calls
+        self.count, self.due, self.told = ctypes.c_size_t(), ctypes.c_uint32(), StatusStruct()
         self.segment = ctypes.create_string_buffer(EMIT_ROOM)
         self.text, self.room = ctypes.create_string_buffer(room), room
-        # All of the end lies in it, as long as this object keeps it.
-        size = self.calls["room"](told) + STRUCT_ROOM
-        self.memory = ctypes.create_string_buffer(size)
-        self.end = END()
-        answer = self.calls["new_at"](self.end, told, self.memory, size)
-        if answer != DONE:
-            raise Refused(answer)
-        # For the module _batch: where the struct and the room for text lie, which stay there as long as this object.
-        self.batch, self.at, self.text_at = batch, ctypes.addressof(self.end.contents), ctypes.addressof(self.text)
 
     def ask(self, name: str, *args: Any) -> None:
         """A call that is done or refused."""
@@ -622,27 +731,19 @@ class End:
         """Whether a call found something to do; else nothing is due, or no rule applies. Anything else is refused."""
         return found_by(self.calls[name](self.end, *args))
 
-    def takes(self, name: str, src: Address, dst: Address, data: Buffer, *args: Any) -> Answer:
-        """What became of a segment. Without an end it is refused."""
-        source, destination, data = address(src), address(dst), octets(data)
-        answer = Answer(self.calls[name](self.end, source, destination, data, len(data), *args))
-        if answer in REFUSALS:
-            raise Refused(answer)
-        return answer
-
     def free(self) -> None:
         self.ask("free")
 
     def __copy__(self) -> NoReturn:
-        raise TypeError("an end can't be copied")
+        raise TypeError(f"{self.noun} can't be copied")
 
     def __deepcopy__(self, memo: object) -> NoReturn:
-        raise TypeError("an end can't be copied")
+        raise TypeError(f"{self.noun} can't be copied")
 
     def __reduce__(self) -> NoReturn:
-        raise TypeError("an end can't be stored")
+        raise TypeError(f"{self.noun} can't be stored")
 
-    def __enter__(self) -> End:
+    def __enter__(self: HeldType) -> HeldType:
         return self
 
     def __exit__(self, *fault: object) -> None:
@@ -653,6 +754,61 @@ class End:
         # Without a library, or with a Config that isn't one, there is no struct or no call.
         if "end" in self.__dict__:
             self.calls["free"](self.end)
+
+    def read(self, *now: int) -> Optional[bytes]:
+        """What `receive` hands over."""
+        answer = self.calls["receive"](self.end, *now, self.text, self.room, self.count)
+        if answer in (NOTHING, END_OF_STREAM):
+            return b"" if answer == END_OF_STREAM else None
+        if answer != DONE:
+            raise Refused(answer)
+        return ctypes.string_at(self.text, self.count.value)
+
+    def peek(self) -> Optional[Lent]:
+        """A copy of all that is unread, which stays so; b"" at the end of the stream, None where there is nothing yet."""
+        lent = LentStruct()
+        answer = self.calls["peek"](self.end, lent)
+        if answer in (NOTHING, END_OF_STREAM):
+            return Lent(b"", True) if answer == END_OF_STREAM else None
+        if answer != DONE:
+            raise Refused(answer)
+        text = b"".join(ctypes.string_at(piece.at, piece.length) for piece in (lent.first, lent.second) if piece.length > 0)
+        return Lent(text, lent.ends == 1)
+
+    def status(self) -> Status:
+        self.ask("status", self.told)
+        told = {name: getattr(self.told, name) for name in Status._fields}
+        return Status(**told | {"phase": PHASES[told["phase"]], "ending": ENDINGS[told["ending"]]})
+
+
+class End(Held):
+    """One end. A call that is refused is raised as `Refused`, so also each that follows `free`, with NO_END. It is freed behind `with`, or
+    when nothing refers to it. It can't be copied. `room` is the most bytes that `receive` hands over at once, at least 1. One thread at a
+    time uses it."""
+
+    noun = "an end"
+
+    def __init__(self, config: Config, room: int = 1 << 16) -> None:
+        told = config_struct(config)
+        self.prepare(library(), room)
+        self.to = AddrStruct()
+        # All of the end lies in it, as long as this object keeps it.
+        size = self.calls["room"](told) + STRUCT_ROOM
+        self.memory = ctypes.create_string_buffer(size)
+        self.end = END()
+        answer = self.calls["new_at"](self.end, told, self.memory, size)
+        if answer != DONE:
+            raise Refused(answer)
+        # For the module _batch: where the struct and the room for text lie, which stay there as long as this object.
+        self.batch, self.at, self.text_at = batch, ctypes.addressof(self.end.contents), ctypes.addressof(self.text)
+
+    def takes(self, name: str, src: Address, dst: Address, data: Buffer, *args: Any) -> Answer:
+        """What became of a segment. Without an end it is refused."""
+        source, destination, data = address(src), address(dst), octets(data)
+        answer = Answer(self.calls[name](self.end, source, destination, data, len(data), *args))
+        if answer in REFUSALS:
+            raise Refused(answer)
+        return answer
 
     def connect(self, addr: Address, port: int) -> None:
         self.ask("connect", address(addr), number("the port", port, 16))
@@ -673,23 +829,7 @@ class End:
         if self.batch is not None:
             text: Optional[bytes] = self.batch.receive(self.at, self.text_at, self.room)
             return text
-        answer = self.calls["receive"](self.end, self.text, self.room, self.count)
-        if answer in (NOTHING, END_OF_STREAM):
-            return b"" if answer == END_OF_STREAM else None
-        if answer != DONE:
-            raise Refused(answer)
-        return ctypes.string_at(self.text, self.count.value)
-
-    def peek(self) -> Optional[Lent]:
-        """A copy of all that is unread, which stays so; b"" at the end of the stream, None where there is nothing yet."""
-        lent = LentStruct()
-        answer = self.calls["peek"](self.end, lent)
-        if answer in (NOTHING, END_OF_STREAM):
-            return Lent(b"", True) if answer == END_OF_STREAM else None
-        if answer != DONE:
-            raise Refused(answer)
-        text = b"".join(ctypes.string_at(piece.at, piece.length) for piece in (lent.first, lent.second) if piece.length > 0)
-        return Lent(text, lent.ends == 1)
+        return self.read()
 
     def consume(self, count: int) -> int:
         """Takes the first unread bytes away, at most so many: how many they were."""
@@ -836,11 +976,6 @@ class End:
             raise Refused(answer)
         return bytes(self.to.byte), port.value
 
-    def status(self) -> Status:
-        self.ask("status", self.told)
-        told = {name: getattr(self.told, name) for name in Status._fields}
-        return Status(**told | {"phase": PHASES[told["phase"]], "ending": ENDINGS[told["ending"]]})
-
     def time_wait(self) -> Optional[TimeWait]:
         """What can take this end's place in TIME-WAIT, once nothing is unread, or None before."""
         struct = TimeWaitStruct()
@@ -850,3 +985,158 @@ class End:
         if answer != DONE:
             raise Refused(answer)
         return TimeWait(bytes(struct))
+
+
+def rules_struct(rules: Rules) -> ConnectionRulesStruct:
+    """The C struct of the rules of a connection."""
+
+    def limit(time: Optional[float]) -> int:
+        return NEVER if time is None else microseconds(time)
+
+    return ConnectionRulesStruct(
+        first=microseconds(rules.first),
+        least=microseconds(rules.least),
+        greatest=microseconds(rules.greatest),
+        granularity=microseconds(rules.granularity),
+        after_syn=microseconds(rules.after_syn),
+        time_wait=microseconds(rules.time_wait),
+        handshake=limit(rules.handshake),
+        user=limit(rules.user),
+        fin_wait_2=limit(rules.fin_wait_2),
+        suspect_after=number("the number of timeouts", rules.suspect_after, 32),
+    )
+
+
+class Connection(Held):
+    """One end with its timers: the retransmission timeout by measured round trips (RFC 6298), losses that the peer's blocks show (RFC 2018),
+    TIME-WAIT and the user timeout (RFC 9293, 3.8.3). It has no clock: each call is told `now`, in seconds from any beginning, such as
+    time.monotonic(); a time that goes back counts as the latest before it.
+
+    A program does this until the phase is CLOSED, and then emits once more:
+
+        send(connection.emit_all(now))
+        while connection.timeout(now) is not None:
+            send(connection.emit_all(now))
+        # Wait for a segment, or until connection.poll_at(), and look at the clock.
+        connection.arrive(now, source, destination, segment)  # of each segment that came
+        data = connection.receive(now)  # and whatever else the user wants
+
+    It is freed once its phase is CLOSED and nothing is due. A call that is refused is raised as `Refused`, so also each that follows `free`.
+    Threads, `room` and freeing are as of an End.
+
+    It has no congestion control (RFC 5681): a program whose path may be congested sets `window`, and `emit` then holds back what ends more than
+    so many numbers past SND.UNA, unless nothing before it is in flight. None, the default, leaves the peer's window alone in force."""
+
+    noun = "a connection"
+    window: Optional[int] = None
+
+    def __init__(
+        self, now: float, config: Config, peer: Optional[tuple[Address, int]] = None, rules: Rules = Rules(), room: int = 1 << 16
+    ) -> None:
+        """Opens a connection to the peer's address and port, or waits for one where that is None: as `connect` and `listen`."""
+        told, ruled, at, calls = config_struct(config), rules_struct(rules), microseconds(now), library()
+        to = None if peer is None else (address(peer[0]), number("the port", peer[1], 16))
+        self.prepare({name[11:]: call for name, call in calls.items() if name.startswith("connection_")}, room)
+        self.at, self.expired = ctypes.c_uint64(), ctypes.c_uint32()
+        self.emitted, self.reported = ConnectionSegmentStruct(), ArriveReportStruct()
+        # What an arrival had to have emitted before it, for the next emissions.
+        self.first: deque[tuple[Emission, bytes]] = deque()
+        # All of the end lies in it, as long as this object keeps it.
+        size = self.calls["room"](told)
+        self.memory = ctypes.create_string_buffer(size)
+        self.end = EndStruct()
+        if to is None:
+            self.ask("listen", told, ruled, at, self.memory, size)
+        else:
+            self.ask("connect", told, ruled, *to, at, self.memory, size)
+
+    @classmethod
+    def connect(
+        cls, now: float, config: Config, addr: Address, port: int, rules: Rules = Rules(), room: int = 1 << 16
+    ) -> Connection:
+        """A connection that is opened to this address and port at `now` (RFC 9293, 3.10.1): its SYN is due."""
+        return cls(now, config, (addr, port), rules, room)
+
+    @classmethod
+    def listen(cls, now: float, config: Config, rules: Rules = Rules(), room: int = 1 << 16) -> Connection:
+        """A connection that waits for one peer from `now` on (RFC 9293, 3.10.1)."""
+        return cls(now, config, None, rules, room)
+
+    def poll_at(self) -> Optional[float]:
+        """When `timeout` has to be called, if nothing else happens before: None where no timer runs. It may have passed: then it is now."""
+        self.ask("poll_at", self.at)
+        return None if self.at.value == NEVER else self.at.value / 1e6
+
+    def timeout(self, now: float) -> Optional[Timer]:
+        """The timer that has expired, whose rule is applied (RFC 9293, 3.10.8), or None. Emit all that is due behind it: no other timer expires
+        before. Behind Timer.USER the connection is aborted."""
+        return Timer(self.expired.value) if self.finds("timeout", microseconds(now), self.expired) else None
+
+    def arrive(self, now: float, src: Address, dst: Address, data: Buffer) -> Answer:
+        """What became of a segment that has come from `src` to `dst`. Where a timer has expired and what was due then isn't emitted yet, that
+        is emitted first, and the next calls of `emit` hand it over."""
+        source, destination, data, time = address(src), address(dst), octets(data), microseconds(now)
+        answer = self.calls["arrive"](self.end, time, source, destination, data, len(data), self.reported)
+        if answer == EMIT_FIRST:
+            self.first.extend(iter(lambda: self.written(time), None))
+            answer = self.calls["arrive"](self.end, time, source, destination, data, len(data), self.reported)
+        if answer in REFUSALS:
+            raise Refused(answer)
+        return Answer(answer)
+
+    def arrive_with_report(self, now: float, src: Address, dst: Address, data: Buffer) -> tuple[Answer, ArriveReport]:
+        """The same, and what the segment is to the end."""
+        return self.arrive(now, src, dst, data), arrive_report_of(self.reported)
+
+    def written(self, time: int) -> Optional[tuple[Emission, bytes]]:
+        """A segment that the library writes."""
+        window = NEVER if self.window is None else number("the window", self.window, 64)
+        if not self.finds("emit", time, window, self.segment, EMIT_ROOM, self.emitted):
+            return None
+        told = self.emitted
+        emission = Emission(bytes(told.to.byte), told.length, told.position, told.count)
+        return emission, ctypes.string_at(self.segment, told.length)
+
+    def transmit(self, now: float) -> Optional[tuple[Emission, bytes]]:
+        """What the segment is that is due, and its bytes, or None."""
+        time = microseconds(now)
+        if not self.first:
+            return self.written(time)
+        # It is refused where the end was freed.
+        self.ask("poll_at", self.at)
+        return self.first.popleft()
+
+    def emit(self, now: float) -> Optional[tuple[bytes, bytes]]:
+        """The address and the bytes of a segment that is due, or None."""
+        found = self.transmit(now)
+        return None if found is None else (found[0].to, found[1])
+
+    def emit_all(self, now: float) -> list[tuple[bytes, bytes]]:
+        """`emit` until nothing is due: the addresses and the bytes of the segments."""
+        return list(iter(lambda: self.emit(now), None))
+
+    def send(self, now: float, text: Buffer) -> int:
+        """How many bytes were taken. Where it takes fewer, offer the others once `released` of the status has grown."""
+        text = octets(text)
+        self.ask("send", microseconds(now), text, len(text), self.count)
+        return self.count.value
+
+    def receive(self, now: float) -> Optional[bytes]:
+        """Bytes, b"" at the end of the stream, None where there is nothing yet."""
+        return self.read(microseconds(now))
+
+    def consume(self, now: float, count: int) -> int:
+        """Takes the first unread bytes away, at most so many: how many they were."""
+        self.ask("consume", microseconds(now), number("the count", count, 8 * ctypes.sizeof(ctypes.c_size_t)), self.count)
+        return self.count.value
+
+    def acknowledge(self, now: float) -> None:
+        """Makes an acknowledgement due, which tells the peer of the window behind what was read."""
+        self.ask("acknowledge", microseconds(now))
+
+    def close(self, now: float) -> None:
+        """This side has no more to send."""
+        self.ask("close", microseconds(now))
+
+    def abort(self, now: float) -> None:
+        self.ask("abort", microseconds(now))

@@ -20,7 +20,7 @@ warnings="-std=c11 -g -Wall -Wextra -Wpedantic -Wcast-qual -Wconversion -Wshadow
 sanitizers="-O1 -fsanitize=address,undefined -fno-sanitize-recover=all"
 # The header's calls that are the library's; four are the layer's alone.
 calls=$(grep -o '^[a-z].* \**tcpcore_[a-z_]*(' tcpcore.h | sed -n 's/.*tcpcore_\([a-z_]*\)($/\1/p' | grep -vxE 'strerror|version|build|new_at' | sort)
-tests="examples/two_ends examples/hello tests/misuse tests/misuse_time_wait tests/room tests/fields tests/answers tests/cautions tests/time_wait tests/old_names tests/reports tests/misuse_lending tests/lending tests/train tests/pacing tests/placed tests/defaults"
+tests="examples/two_ends examples/hello tests/misuse tests/misuse_time_wait tests/room tests/runs tests/fields tests/answers tests/cautions tests/time_wait tests/old_names tests/reports tests/misuse_lending tests/lending tests/train tests/pacing tests/placed tests/defaults tests/connection tests/connection_link"
 passed=0
 
 pass() { passed=$((passed + 1)); }
@@ -48,10 +48,11 @@ runs() {
 
 # What the disassembly tells of the stack, beside what tests/stack has just measured.
 depth() {
-    local compiler=$1 objdump=$2 level=$3 bound
+    local compiler=$1 objdump=$2 level=$3 bound making
     bound=$(sed -n 's/^#define TCPCORE_STACK //p' tcpcore.h)
+    making=$(sed -n 's/^#define TCPCORE_CONNECTION_STACK //p' tcpcore.h)
     "$compiler" $warnings "$level" -c tcpcore.c -o "out/layer.$compiler.o"
-    python3 tests/depth.py "$objdump" "$bound" "$(tail -n 1 out/errors)" "out/layer.$compiler.o" "$library"
+    python3 tests/depth.py "$objdump" "$bound" "$making" "$(tail -n 1 out/errors)" "out/layer.$compiler.o" "$library"
     pass
 }
 
@@ -94,7 +95,8 @@ check_with() {
     "$compiler" $warnings -O2 -shared -fPIC tcpcore.c "$library" -Wl,--exclude-libs,ALL -Wl,-z,defs \
         -o "$shared"
     same "exported names" "$(exports -D "$shared")" "$(printf 'tcpcore_%s\n' $calls strerror version build new_at | sort)"
-    for source in examples/two_ends examples/hello examples/lossy_link tests/fields tests/answers tests/lifetime tests/calls tests/batches; do
+    for source in examples/two_ends examples/hello examples/lossy_link examples/own_link examples/udp_file tests/fields tests/answers tests/lifetime \
+        tests/calls tests/batches tests/connections tests/simulations tests/streams; do
         prints "${source#*/}" env LIBTCPCORE="$shared" PYTHONPATH="$PWD" python3 "$source.py"
     done
     if has "$package" "$compiler" $sanitizers -I. tests/misuse.c tcpcore.c "$library" -o out/sanitized; then

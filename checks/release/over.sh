@@ -22,7 +22,7 @@ over_core() {
         passed=$((passed + 1))
     done
     gcc -shared -Wl,-z,defs "$work/tcpcore.o" -o "$work/libtcpcore.so"
-    for source in examples/two_ends examples/hello tests/fields tests/answers tests/calls; do
+    for source in examples/two_ends examples/hello tests/fields tests/answers tests/calls tests/connections tests/simulations; do
         name=${source#*/}
         LIBTCPCORE=$work/libtcpcore.so PYTHONPATH=c/tcpcore python3 "c/tcpcore/$source.py" | cmp - "c/tcpcore/tests/expected/$name" ||
             { echo "over: $source.py failed"; exit 1; }

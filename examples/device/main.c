@@ -14,8 +14,9 @@
 
 #include <string.h>
 
-/* A slot takes 1.4 KB beside its two buffers, and one slot is always free: five clients at once. */
-enum { PORT = 80, MSS = 1460, SEND = 2 * MSS, RECEIVE = MSS, SLOTS = 6, BATCH = 8, PATIENCE = 20000 };
+/* Buffers of one and of two full segments hold two runs of bytes at most; of a peer whose segments are small they could hold more, some of
+   which then come again. A slot takes 1.2 KB beside its two buffers, and one slot is always free: five clients at once. */
+enum { PORT = 80, MSS = 1460, SEND = 2 * MSS, RECEIVE = MSS, RUNS = 4, SLOTS = 6, BATCH = 8, PATIENCE = 20000 };
 
 /* The page: what is the same for all in flash, and what isn't, with places for numbers, for each slot in RAM. */
 #define LENGTH "HTTP/1.0 200 OK\r\nContent-Type: text/plain\r\nContent-Length:           "
@@ -41,7 +42,7 @@ static struct {
     struct demux demux;
     struct table_slot slots[SLOTS];
     char head[SLOTS][sizeof HEAD];
-    uint8_t memory[SLOTS * TCPCORE_MEMORY(SEND, RECEIVE)];
+    uint8_t memory[SLOTS * TCPCORE_MEMORY_RUNS(SEND, RECEIVE, RUNS)];
     uint8_t frame[FRAME_MOST];
 } server;
 
@@ -152,6 +153,7 @@ static int set_up(void)
     config.end.mss = MSS;
     config.end.send_capacity = SEND;
     config.end.recv_capacity = RECEIVE;
+    config.end.runs = RUNS;
     board_start(server.net.ethernet);
     return demux_init(&server.demux, &config, server.slots, SLOTS);
 }

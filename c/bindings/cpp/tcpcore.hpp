@@ -1,11 +1,14 @@
-// tcpcore.hpp: tcpcore.h for C++17. An end owns its memory, can be moved, and is freed with its object. What a call refuses is thrown; so is
-// each call of an end that was moved from. One thread at a time uses an end: where threads share one, they hold a lock around each call.
+// tcpcore.hpp: tcpcore.h for C++17. A connection keeps its own times, an end leaves them to its caller. Both own their memory, can be
+// moved, and are freed with their object. What a call refuses is thrown; so is each call of an object that was moved from. One thread at a
+// time uses an object: where threads share one, they hold a lock around each call.
 #ifndef TCPCORE_HPP
 #define TCPCORE_HPP
 
 #include "tcpcore.h"
 
+#include <chrono>
 #include <memory>
+#include <new>
 #include <optional>
 #include <stdexcept>
 #include <string_view>
@@ -34,6 +37,35 @@ inline tcpcore_config default_config(tcpcore_addr addr, std::uint16_t port, std:
 // the window is 0 while fewer than 2^shift bytes are free.
 constexpr std::uint8_t least_shift(std::uint64_t receive) { return TCPCORE_LEAST_SHIFT(receive); }
 
+// The rules of the standards: TCPCORE_CONNECTION_RULES_DEFAULT.
+inline struct tcpcore_connection_rules default_rules() { return TCPCORE_CONNECTION_RULES_DEFAULT; }
+
+namespace detail {
+
+// Throws what a call refused.
+inline void done(std::uint32_t answer) { if (answer != TCPCORE_DONE) throw refused(answer); }
+// Whether a call found something: nothing is due, or no rule applies, where it didn't.
+inline bool found(std::uint32_t answer)
+{
+    if (answer != TCPCORE_NOT_DUE && answer != TCPCORE_NO_RULE) done(answer);
+    return answer == TCPCORE_DONE;
+}
+// What became of a segment, where there is something to take it.
+inline std::uint32_t taken_by(std::uint32_t answer)
+{
+    if (answer >= TCPCORE_NO_END && answer < TCPCORE_NOTHING) throw refused(answer);
+    return answer;
+}
+// What was read, where the stream hasn't ended.
+template <typename Read> std::optional<Read> read_by(std::uint32_t answer, const Read &read)
+{
+    if (answer == TCPCORE_END_OF_STREAM) return std::nullopt;
+    if (answer != TCPCORE_NOTHING) done(answer);
+    return read;
+}
+
+}
+
 class end {
     // The C struct lies in its block; the object that holds both may move. One that was moved from can only be assigned or destroyed.
     // The end is freed before its block.
@@ -43,19 +75,9 @@ class end {
     };
     std::unique_ptr<tcpcore_end, owner> held;
 
-    static void done(std::uint32_t answer) { if (answer != TCPCORE_DONE) throw refused(answer); }
-    // Whether a call found something: nothing is due, or no rule applies, where it didn't.
-    static bool found(std::uint32_t answer)
-    {
-        if (answer != TCPCORE_NOT_DUE && answer != TCPCORE_NO_RULE) done(answer);
-        return answer == TCPCORE_DONE;
-    }
-    // What became of a segment, where there is an end to take it.
-    static std::uint32_t taken_by(std::uint32_t answer)
-    {
-        if (answer >= TCPCORE_NO_END && answer < TCPCORE_NOTHING) throw refused(answer);
-        return answer;
-    }
+    static void done(std::uint32_t answer) { detail::done(answer); }
+    static bool found(std::uint32_t answer) { return detail::found(answer); }
+    static std::uint32_t taken_by(std::uint32_t answer) { return detail::taken_by(answer); }
 
 public:
     explicit end(const tcpcore_config &config)
@@ -84,18 +106,14 @@ public:
     {
         std::size_t count;
         std::uint32_t answer = tcpcore_receive(raw(), out, room, &count);
-        if (answer == TCPCORE_END_OF_STREAM) return std::nullopt;
-        if (answer != TCPCORE_NOTHING) done(answer);
-        return count;
+        return detail::read_by(answer, count);
     }
     // The unread bytes where they lie, until the next call that changes the end; nothing at the end of the stream.
     std::optional<struct tcpcore_lent> peek() const
     {
         struct tcpcore_lent lent;
         std::uint32_t answer = tcpcore_peek(raw(), &lent);
-        if (answer == TCPCORE_END_OF_STREAM) return std::nullopt;
-        if (answer != TCPCORE_NOTHING) done(answer);
-        return lent;
+        return detail::read_by(answer, lent);
     }
     // How many of them were taken away.
     std::size_t consume(std::size_t count)
@@ -165,6 +183,132 @@ public:
     }
     // For the calls of tcpcore.h that aren't here.
     tcpcore_end *raw() const { return held.get(); }
+};
+
+// A connection: an end with its clock, which tcpcore.h describes under CONNECTIONS. It reads no clock: each call is given the time, and a
+// time before that of an earlier call counts as that.
+//
+//     1. emit until nothing is due, and send each segment. In CLOSED the connection is over then.
+//     2. Wait for a segment, or until poll_at.
+//     3. arrive for each one that came, and then timeout.
+//     4. send, receive and close as the user wants. Go on with 1.
+class connection {
+    // As of an end. A connection's struct lies at the front of its block.
+    struct owner {
+        std::unique_ptr<unsigned char[]> block;
+        void operator()(tcpcore_connection *raw) const { tcpcore_connection_free(raw); }
+    };
+    std::unique_ptr<tcpcore_connection, owner> held;
+
+    static constexpr std::size_t front = sizeof(tcpcore_connection);
+
+    // Makes one by `open`, which is given its struct and the block for the rest.
+    template <typename Open> connection(const tcpcore_config &config, Open open)
+    {
+        std::size_t room = tcpcore_connection_room(&config);
+        std::unique_ptr<unsigned char[]> block(new unsigned char[front + room]);
+        auto *made = new (block.get()) tcpcore_connection TCPCORE_CONNECTION_INIT;
+        detail::done(open(made, block.get() + front, room));
+        held = {made, owner{std::move(block)}};
+    }
+
+public:
+    // A time, of std::chrono::steady_clock, or of another clock that the caller has: all times of a connection have one beginning.
+    using time = std::chrono::steady_clock::time_point;
+
+private:
+    static std::uint64_t micros(time at)
+    {
+        auto count = std::chrono::duration_cast<std::chrono::microseconds>(at.time_since_epoch()).count();
+        return count < 0 ? 0 : static_cast<std::uint64_t>(count);
+    }
+
+public:
+    // Opens a connection to this address and port: the SYN is due.
+    static connection connect(const tcpcore_config &config, const struct tcpcore_connection_rules &rules, tcpcore_addr addr,
+                              std::uint16_t port, time now)
+    {
+        return {config, [&](tcpcore_connection *made, void *block, std::size_t room) {
+            return tcpcore_connection_connect(made, &config, &rules, addr, port, micros(now), block, room);
+        }};
+    }
+    // Waits for one peer.
+    static connection listen(const tcpcore_config &config, const struct tcpcore_connection_rules &rules, time now)
+    {
+        return {config, [&](tcpcore_connection *made, void *block, std::size_t room) {
+            return tcpcore_connection_listen(made, &config, &rules, micros(now), block, room);
+        }};
+    }
+
+    // What became of the segment, DONE, DROPPED, NOT_MINE, WITHHELD, or why it is none, and a report. EMIT_FIRST: a timer has expired, and
+    // what was due then has to go out first: emit until nothing is due, and hand the segment in again. Who calls arrive before timeout, or
+    // emits all that is due behind it, never meets that.
+    [[nodiscard]] std::pair<std::uint32_t, struct tcpcore_arrive_report> arrive(time now, tcpcore_addr src, tcpcore_addr dst,
+                                                                               const void *segment, std::size_t length)
+    {
+        struct tcpcore_arrive_report reported;
+        std::uint32_t answer = tcpcore_connection_arrive(raw(), micros(now), src, dst, segment, length, &reported);
+        return {detail::taken_by(answer), reported};
+    }
+    // Writes the segment that is due, if one is: its length is 0 where none was. What ends more than `window` numbers past SND.UNA waits,
+    // unless nothing before it is in flight.
+    struct tcpcore_connection_segment emit(time now, unsigned char (&out)[TCPCORE_EMIT_ROOM], std::uint64_t window = UINT64_MAX)
+    {
+        struct tcpcore_connection_segment reported;
+        return detail::found(tcpcore_connection_emit(raw(), micros(now), window, out, sizeof out, &reported)), reported;
+    }
+    // When timeout has to be called, if nothing else happens before; nothing where no timer runs.
+    std::optional<time> poll_at() const
+    {
+        std::uint64_t at;
+        detail::done(tcpcore_connection_poll_at(raw(), &at));
+        if (at == TCPCORE_NEVER) return std::nullopt;
+        auto last = std::chrono::duration_cast<std::chrono::microseconds>(time::max().time_since_epoch()).count();
+        return time(std::chrono::microseconds(at < static_cast<std::uint64_t>(last) ? static_cast<decltype(last)>(at) : last));
+    }
+    // It is `now`: the timer that has expired, if one has, whose rule was applied. Then emit until nothing is due.
+    std::optional<std::uint32_t> timeout(time now)
+    {
+        std::uint32_t timer;
+        if (!detail::found(tcpcore_connection_timeout(raw(), micros(now), &timer))) return std::nullopt;
+        return timer;
+    }
+
+    // As of an end.
+    std::size_t send(time now, const void *text, std::size_t length)
+    {
+        std::size_t taken;
+        return detail::done(tcpcore_connection_send(raw(), micros(now), text, length, &taken)), taken;
+    }
+    std::optional<std::size_t> receive(time now, void *out, std::size_t room)
+    {
+        std::size_t count;
+        std::uint32_t answer = tcpcore_connection_receive(raw(), micros(now), out, room, &count);
+        return detail::read_by(answer, count);
+    }
+    std::optional<struct tcpcore_lent> peek() const
+    {
+        struct tcpcore_lent lent;
+        std::uint32_t answer = tcpcore_connection_peek(raw(), &lent);
+        return detail::read_by(answer, lent);
+    }
+    std::size_t consume(time now, std::size_t count)
+    {
+        std::size_t taken;
+        return detail::done(tcpcore_connection_consume(raw(), micros(now), count, &taken)), taken;
+    }
+    void acknowledge(time now) { detail::done(tcpcore_connection_acknowledge(raw(), micros(now))); }
+    void close(time now) { detail::done(tcpcore_connection_close(raw(), micros(now))); }
+    void abort(time now) { detail::done(tcpcore_connection_abort(raw(), micros(now))); }
+    struct tcpcore_status status() const
+    {
+        struct tcpcore_status reported;
+        return detail::done(tcpcore_connection_status(raw(), &reported)), reported;
+    }
+    // Whether it is in CLOSED: `ending` of status says how it ended. A reset that is due still goes out by emit.
+    bool is_closed() const { return status().phase == TCPCORE_PHASE_CLOSED; }
+    // For the calls of tcpcore.h that aren't here.
+    tcpcore_connection *raw() const { return held.get(); }
 };
 
 }

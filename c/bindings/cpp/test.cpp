@@ -1,6 +1,8 @@
-// Ends in C++: text both ways with losses, moves, and what is thrown.
+// Ends and connections in C++: text both ways with losses, moves, and what is thrown.
 #include "tcpcore.hpp"
 
+#include <algorithm>
+#include <chrono>
 #include <cstdio>
 #include <cstdlib>
 #include <cstring>
@@ -213,6 +215,166 @@ static void defaults()
     static_assert(tcpcore::least_shift(65535) == 0 && tcpcore::least_shift(65536) == 1 && tcpcore::least_shift(1048576) == 5);
 }
 
+// What is on the way between two connections.
+struct on_the_way {
+    tcpcore::connection::time at;
+    int side;
+    std::vector<unsigned char> bytes;
+};
+
+// A connection's user sends its text, closes, and reads.
+struct user {
+    std::string left, got;
+    bool is_closed, has_ended;
+
+    void act(tcpcore::connection &it, tcpcore::connection::time now)
+    {
+        left.erase(0, it.send(now, left.data(), left.size()));
+        if (left.empty())
+            it.close(now), is_closed = true;
+    }
+    void read(tcpcore::connection &it, tcpcore::connection::time now)
+    {
+        char out[3000];
+        std::optional<std::size_t> count;
+        while ((count = it.receive(now, out, sizeof out)) && *count > 0)
+            got.append(out, *count);
+        has_ended |= !count;
+    }
+};
+
+// Two connections with their users, and a link that takes 20 ms and loses each seventh segment.
+struct lossy_pair {
+    const tcpcore_addr addrs[2] = {A, B};
+    tcpcore::connection::time now;
+    tcpcore::connection ends[2];
+    user users[2] = {{std::string(50001, 'x'), "", false, false}, {std::string(40001, 'y'), "", false, false}};
+    std::vector<on_the_way> link;
+    unsigned count = 0, expired[4] = {0, 0, 0, 0};
+
+    explicit lossy_pair(tcpcore::connection::time start)
+        : now(start), ends{tcpcore::connection::connect(config(A, 7), tcpcore::default_rules(), B, 7, start),
+                           tcpcore::connection::listen(config(B, 7), tcpcore::default_rules(), start)}
+    {
+    }
+
+    void emit(int side)
+    {
+        unsigned char out[TCPCORE_EMIT_ROOM];
+        while (std::size_t length = ends[side].emit(now, out).length)
+            if (count++ % 7 != 0)
+                link.push_back({now + std::chrono::milliseconds(20), 1 - side, {out, out + length}});
+    }
+
+    // When anything happens next, if anything does.
+    std::optional<tcpcore::connection::time> next() const
+    {
+        std::optional<tcpcore::connection::time> found;
+        for (const on_the_way &it : link)
+            found = found ? std::min(*found, it.at) : it.at;
+        for (const tcpcore::connection &it : ends)
+            if (auto at = it.poll_at())
+                found = found ? std::min(*found, *at) : *at;
+        return found;
+    }
+
+    void take()
+    {
+        std::vector<on_the_way> left;
+        for (on_the_way &it : link) {
+            if (it.at > now) {
+                left.push_back(std::move(it));
+                continue;
+            }
+            std::uint32_t answer = ends[it.side].arrive(now, addrs[1 - it.side], addrs[it.side], it.bytes.data(), it.bytes.size()).first;
+            CHECK(answer == TCPCORE_DONE || answer == TCPCORE_DROPPED || answer == TCPCORE_WITHHELD);
+        }
+        link = std::move(left);
+    }
+
+    void use(int side)
+    {
+        if (std::optional<std::uint32_t> timer = ends[side].timeout(now))
+            expired[*timer]++;
+        if (ends[side].status().mss > 0 && !users[side].is_closed)
+            users[side].act(ends[side], now);
+        if (!users[side].has_ended)
+            users[side].read(ends[side], now);
+    }
+};
+
+// Text both ways at the connections' own times alone. RFC 6298, 2.1: the SYN, which is lost, goes out again after a second; RFC 9293,
+// 3.4.2: TIME-WAIT takes four minutes.
+static void over_a_lossy_link()
+{
+    using namespace std::chrono_literals;
+    const tcpcore::connection::time start(1000s);
+    lossy_pair pair(start);
+    pair.emit(0);
+    CHECK(pair.count == 1 && pair.next() == start + 1s);
+    while (auto next = pair.next()) {
+        pair.now = std::max(pair.now, *next);
+        pair.take();
+        for (int side = 0; side < 2; side++) {
+            pair.use(side);
+            pair.emit(side);
+        }
+    }
+    CHECK(pair.users[0].got == std::string(40001, 'y') && pair.users[1].got == std::string(50001, 'x'));
+    for (int side = 0; side < 2; side++)
+        CHECK(pair.users[side].has_ended && pair.ends[side].status().ending == TCPCORE_ENDING_ORDERLY && pair.ends[side].is_closed());
+    CHECK(pair.expired[TCPCORE_TIMER_RETRANSMIT] > 0 && pair.expired[TCPCORE_TIMER_TIME_WAIT] > 0);
+    CHECK(pair.expired[TCPCORE_TIMER_USER] == 0);
+    CHECK(pair.now >= start + 240s);
+}
+
+// What a call of a connection refuses; what is due goes out first; a window.
+static void a_connection_refuses()
+{
+    using namespace std::chrono_literals;
+    tcpcore::connection::time now(5s);
+    struct tcpcore_connection_rules rules = tcpcore::default_rules(), bad = rules;
+    bad.least = 0;
+    auto answer_of = [](auto call) -> std::uint32_t {
+        try { call(); } catch (const tcpcore::refused &found) { return found.answer; }
+        return TCPCORE_DONE;
+    };
+    tcpcore_config small = config(A, 7);
+    small.mss = 1;
+    CHECK(answer_of([&] { tcpcore::connection::connect(config(A, 7), bad, B, 7, now); }) == TCPCORE_BAD_RULES);
+    CHECK(answer_of([&] { tcpcore::connection::listen(small, rules, now); }) == TCPCORE_BAD_MSS);
+    tcpcore::connection a = tcpcore::connection::connect(config(A, 7), rules, B, 7, now);
+    tcpcore::connection b = tcpcore::connection::listen(config(B, 7), rules, now);
+    CHECK(!b.poll_at() && answer_of([&] { b.send(now, "x", 1); }) == TCPCORE_NOT_CONNECTED);
+    unsigned char out[TCPCORE_EMIT_ROOM], ack[TCPCORE_EMIT_ROOM];
+    for (int turn = 0; turn < 2; turn++) {
+        while (std::size_t length = a.emit(now, out).length) CHECK(b.arrive(now, A, B, out, length).first == TCPCORE_DONE);
+        while (std::size_t length = b.emit(now, out).length) CHECK(a.arrive(now, B, A, out, length).first == TCPCORE_DONE);
+    }
+    std::string text(2500, 'y');
+    CHECK(a.send(now, text.data(), text.size()) == 2500);
+    struct tcpcore_connection_segment first = a.emit(now, out, 1000);
+    CHECK(first.position == 1 && first.count == 1000 && first.length == 1020 && a.emit(now, ack, 1999).length == 0);
+    CHECK(b.arrive(now, A, B, out, first.length).first == TCPCORE_DONE);
+    std::size_t length = b.emit(now, ack).length;
+    CHECK(length == 20 && b.peek()->first.length == 1000 && b.consume(now, 400) == 400);
+    now = *a.poll_at();
+    CHECK(!a.timeout(now - 1us) && a.timeout(now) == TCPCORE_TIMER_RETRANSMIT);
+    CHECK(a.arrive(now, B, A, ack, length).first == TCPCORE_EMIT_FIRST);
+    while (a.emit(now, out).length > 0) continue;
+    CHECK(a.arrive(now, B, A, ack, length).first == TCPCORE_DONE && a.status().snd_una == 1001);
+    b.acknowledge(now);
+    CHECK(b.emit(now, out).length == 20);
+    a.abort(now);
+    CHECK(a.is_closed() && a.emit(now, out).length == 20 && !a.poll_at() && answer_of([&] { a.close(now); }) == TCPCORE_ENDED);
+    // The reset isn't at RCV.NXT: an acknowledgement answers it, and to that the reset comes that is (RFC 9293, 3.10.7.4 and 3.10.7.1).
+    CHECK(b.arrive(now, A, B, out, 20).second.rule == TCPCORE_RULE_RESET_ELSEWHERE && b.emit(now, ack).length == 20);
+    CHECK(a.arrive(now, B, A, ack, 20).second.rule == TCPCORE_RULE_STRAY && a.emit(now, out).length == 20);
+    CHECK(b.arrive(now, A, B, out, 20).first == TCPCORE_DONE && b.status().ending == TCPCORE_ENDING_RESET);
+    tcpcore::connection moved = std::move(a);
+    CHECK(moved.is_closed() && answer_of([&] { a.status(); }) == TCPCORE_NULL);
+}
+
 int main()
 {
     std::vector<tcpcore::end> ends;
@@ -249,6 +411,14 @@ int main()
         CHECK(found.answer == TCPCORE_BAD_MSS && std::string(found.what()) == tcpcore_strerror(TCPCORE_BAD_MSS));
     }
     try {
+        tcpcore_config bad = config(A, 1);
+        bad.runs = TCPCORE_MAX_RUNS + 1;
+        tcpcore::end refused(bad);
+        CHECK(false);
+    } catch (const tcpcore::refused &found) {
+        CHECK(found.answer == TCPCORE_BAD_RUNS);
+    }
+    try {
         a.listen();
         CHECK(false);
     } catch (const tcpcore::refused &found) {
@@ -259,6 +429,8 @@ int main()
     train();
     moved_from();
     defaults();
+    over_a_lossy_link();
+    a_connection_refuses();
     CHECK(tcpcore::build().find("machine code") != std::string_view::npos || tcpcore::build().find("portable C") == 0);
     a = tcpcore::end(config(A, 9));
     CHECK(a.status().phase == TCPCORE_PHASE_CLOSED);

@@ -87,6 +87,50 @@ func (end *End) Turn(src, dst Addr, in, out *Batch) error {
 	return end.turn(src, dst, in, out, in.count == 0)
 }
 
+// Exchanged is what the user's calls within an Exchange did: how many bytes of the text were accepted, as Send tells, and how many were
+// read, as Receive does; Ended at the end of the stream, where Receive returns io.EOF.
+type Exchanged struct {
+	Sent, Got int
+	Ended     bool
+}
+
+// Exchange is a whole turn of an end in one call of C: Arrive for each segment of `in`, with Emit until nothing is due behind each one that
+// has to be answered at once (RFC 5681, 4.2); then Receive into `read` and Send of `text`, each only where it isn't empty; and then Emit
+// until nothing is due, so that the acknowledgement tells of the window behind the read, and goes out with the text. What is emitted is
+// appended to `out`, another Batch than `in`. The error is the first of: that there is no end, as after Free, then nothing was done; what
+// Receive tells; and what Send tells.
+func (end *End) Exchange(src, dst Addr, in, out *Batch, text, read []byte) (Exchanged, error) {
+	var exchanged Exchanged
+	if in == out {
+		return exchanged, Refused(C.TCPCORE_OVERLAP)
+	}
+	var refused error
+	for next, goesOn := C.size_t(0), false; ; goesOn = true {
+		out.grow(EmitRoom)
+		made := C.batch_exchange(end.raw, src.c(), dst.c(), bytesOf(in.bytes), recordsOf(in.records), next, C.size_t(in.count), is(goesOn),
+			bytesOf(text), C.size_t(len(text)), bytesOf(read), C.size_t(len(read)), bytesOf(out.bytes), C.size_t(len(out.bytes)),
+			recordsOf(out.records), C.size_t(len(out.records)), C.size_t(out.used), C.size_t(out.count))
+		out.used, out.count, next = int(made.told.used), int(made.told.count), made.told.next
+		if made.is_made == 1 {
+			exchanged.Sent, exchanged.Got = exchanged.Sent+int(made.sent.count), exchanged.Got+int(made.got.count)
+			exchanged.Ended = exchanged.Ended || made.got.answer == C.TCPCORE_END_OF_STREAM
+			if made.got.answer < C.TCPCORE_NOTHING && refused == nil {
+				refused = done(made.got.answer)
+			}
+			if refused == nil {
+				refused = done(made.sent.answer)
+			}
+			text, read = nil, nil
+		}
+		if made.told.is_full == 0 {
+			if err := done(made.told.answer); err != nil {
+				return exchanged, err
+			}
+			return exchanged, refused
+		}
+	}
+}
+
 var none Batch
 
 // turn calls C, and again where `out` has to grow before more can be emitted.

@@ -32,6 +32,13 @@ struct batch_count {
     uint32_t answer;
 };
 
+/* The same of an exchange, with the answers of its calls and what they moved; the calls of the user were made where `is_made`. */
+struct batch_exchanged {
+    struct batch_told told;
+    struct batch_count sent, got;
+    uint32_t is_made;
+};
+
 struct batch_emitted {
     size_t length;
     tcpcore_addr to;
@@ -59,17 +66,17 @@ static inline uint32_t batch_emit(tcpcore_end *end, struct batch *out, uint32_t 
 /* Whether an answer says that the call wasn't made. */
 static inline int batch_is_refused(uint32_t answer) { return answer >= TCPCORE_NO_END && answer < TCPCORE_NOTHING; }
 
-/* Hands in the segments from `next` on. With `out` it emits behind each that has to be answered at once, and behind the last one; before
-   the first one, too, where a turn that stopped goes on. */
-static inline struct batch_told batch_turn(tcpcore_end *end, tcpcore_addr src, tcpcore_addr dst, const unsigned char *bytes,
-                                           struct batch_record *records, size_t next, size_t count, int emits, int goes_on,
-                                           unsigned char *out_bytes, size_t out_room, struct batch_record *out_records, size_t out_most,
-                                           size_t out_used, size_t out_count)
+/* When a turn emits: never, behind each segment that has to be answered at once, or behind the last one, too. */
+enum { BATCH_NEVER, BATCH_AT_ONCE, BATCH_AT_ONCE_AND_LAST };
+
+/* Hands in the segments from `next` on, and emits as `emits` says; before the first one, too, where a turn that stopped goes on. */
+static inline struct batch_told batch_arrive(tcpcore_end *end, tcpcore_addr src, tcpcore_addr dst, const unsigned char *bytes,
+                                             struct batch_record *records, size_t next, size_t count, int emits, int goes_on,
+                                             struct batch *out)
 {
-    struct batch out = {out_bytes, out_records, out_room, out_most, out_used, out_count};
     uint32_t answer = TCPCORE_DONE, is_full = 0;
     if (goes_on)
-        answer = batch_emit(end, &out, &is_full);
+        answer = batch_emit(end, out, &is_full);
     while (next < count && answer == TCPCORE_DONE && !is_full) {
         struct batch_record *record = &records[next];
         record->answer = tcpcore_arrive_with_at_once(end, src, dst, bytes + record->at, record->length, &record->at_once);
@@ -78,11 +85,21 @@ static inline struct batch_told batch_turn(tcpcore_end *end, tcpcore_addr src, t
             break;
         }
         next++;
-        if (emits && (record->at_once || next == count))
-            answer = batch_emit(end, &out, &is_full);
+        int is_last = next == count && emits == BATCH_AT_ONCE_AND_LAST;
+        if (is_last || (record->at_once && emits != BATCH_NEVER))
+            answer = batch_emit(end, out, &is_full);
     }
-    struct batch_told told = {answer, is_full, next, out.used, out.count};
+    struct batch_told told = {answer, is_full, next, out->used, out->count};
     return told;
+}
+
+static inline struct batch_told batch_turn(tcpcore_end *end, tcpcore_addr src, tcpcore_addr dst, const unsigned char *bytes,
+                                           struct batch_record *records, size_t next, size_t count, int emits, int goes_on,
+                                           unsigned char *out_bytes, size_t out_room, struct batch_record *out_records, size_t out_most,
+                                           size_t out_used, size_t out_count)
+{
+    struct batch out = {out_bytes, out_records, out_room, out_most, out_used, out_count};
+    return batch_arrive(end, src, dst, bytes, records, next, count, emits ? BATCH_AT_ONCE_AND_LAST : BATCH_NEVER, goes_on, &out);
 }
 
 static inline struct batch_count batch_send(tcpcore_end *end, const unsigned char *text, size_t length)
@@ -97,6 +114,30 @@ static inline struct batch_count batch_receive(tcpcore_end *end, unsigned char *
     struct batch_count told = {0, 0};
     told.answer = tcpcore_receive(end, out, room, &told.count);
     return told;
+}
+
+/* A turn with the calls of the user between what arrives and what is emitted last: `read` takes what came, and `text` is sent. None is
+   made where its length is 0. */
+static inline struct batch_exchanged batch_exchange(tcpcore_end *end, tcpcore_addr src, tcpcore_addr dst, const unsigned char *bytes,
+                                                    struct batch_record *records, size_t next, size_t count, int goes_on,
+                                                    const unsigned char *text, size_t length, unsigned char *read, size_t room,
+                                                    unsigned char *out_bytes, size_t out_room, struct batch_record *out_records,
+                                                    size_t out_most, size_t out_used, size_t out_count)
+{
+    struct batch out = {out_bytes, out_records, out_room, out_most, out_used, out_count};
+    struct batch_exchanged exchanged = {{0, 0, 0, 0, 0}, {0, TCPCORE_DONE}, {0, TCPCORE_DONE}, 0};
+    exchanged.told = batch_arrive(end, src, dst, bytes, records, next, count, BATCH_AT_ONCE, goes_on, &out);
+    if (exchanged.told.answer != TCPCORE_DONE || exchanged.told.is_full)
+        return exchanged;
+    if (room > 0)
+        exchanged.got = batch_receive(end, read, room);
+    if (length > 0)
+        exchanged.sent = batch_send(end, text, length);
+    exchanged.is_made = 1;
+    exchanged.told.answer = batch_emit(end, &out, &exchanged.told.is_full);
+    exchanged.told.used = out.used;
+    exchanged.told.count = out.count;
+    return exchanged;
 }
 
 static inline struct batch_emitted batch_emit_one(tcpcore_end *end, unsigned char *out)

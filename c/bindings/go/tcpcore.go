@@ -80,8 +80,16 @@ func (addr Addr) c() (found C.tcpcore_addr) {
 	return
 }
 
+// Runs is how many runs of bytes an end keeps out of order, and how many of the peer's it remembers, where its Config has 0; MaxRuns is the
+// greatest number.
+const (
+	Runs    = C.TCPCORE_RUNS
+	MaxRuns = C.TCPCORE_MAX_RUNS
+)
+
 // Config is what an end is made from; Shift below 0 says that windows aren't scaled. Limit 0 is the greatest under which no old segment
-// is taken for another.
+// is taken for another. Runs is from 1 to MaxRuns, and 0 is Runs of this package: a path that reorders makes about one run for each five
+// segments that it carries in the time of its jitter, and each takes 16 bytes.
 type Config struct {
 	Addr                       Addr
 	Port, MSS                  uint16
@@ -90,6 +98,7 @@ type Config struct {
 	Shift                      int8
 	Sack                       bool
 	Limit                      uint64
+	Runs                       uint16
 }
 
 // DefaultConfig has this address, port and initial sequence number, which is chosen as RFC 9293, 3.4.1 says; with an MSS of 1,460, 65,535
@@ -116,7 +125,7 @@ type End struct {
 // New makes an end: CLOSED, empty, nothing due.
 func New(config Config) (*End, error) {
 	c := C.tcpcore_config{addr: config.Addr.c(), port: C.uint16_t(config.Port), mss: C.uint16_t(config.MSS), isn: C.uint32_t(config.ISN),
-		send_capacity: C.uint64_t(config.SendCapacity), recv_capacity: C.uint64_t(config.RecvCapacity), limit: C.uint64_t(config.Limit)}
+		send_capacity: C.uint64_t(config.SendCapacity), recv_capacity: C.uint64_t(config.RecvCapacity), limit: C.uint64_t(config.Limit), runs: C.uint16_t(config.Runs)}
 	if config.Limit == 0 {
 		c.limit = 2147483632
 	}

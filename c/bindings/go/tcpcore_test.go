@@ -285,7 +285,8 @@ func TestRefusals(t *testing.T) {
 	if err == nil || err.Error() != "the maximum segment size isn't from 64 to 1,460 bytes" {
 		t.Fatal(err)
 	}
-	for config, wanted := range map[Config]Refused{{Port: 1, MSS: 1}: 26, {Addr: a, MSS: 1}: 27} {
+	for config, wanted := range map[Config]Refused{{Port: 1, MSS: 1}: 26, {Addr: a, MSS: 1}: 27,
+		{Addr: a, Port: 1, MSS: 64, SendCapacity: 1, RecvCapacity: 1, Shift: -1, Runs: MaxRuns + 1}: 28} {
 		if _, err := New(config); !errors.Is(err, wanted) {
 			t.Fatal(err)
 		}
@@ -366,6 +367,54 @@ func TestDefaults(t *testing.T) {
 		if found := LeastShift(capacity); found != shift {
 			t.Fatal(capacity, found)
 		}
+	}
+}
+
+// TestRuns: an end keeps as many runs of bytes out of order as its Config says, and not one more; 0 stands for Runs.
+func TestRuns(t *testing.T) {
+	for _, runs := range []uint16{0, 1, 4, 16, 300, MaxRuns} {
+		most := int(runs)
+		if runs == 0 {
+			most = Runs
+		}
+		config := DefaultConfig(a, 7, 1)
+		config.MSS, config.SendCapacity, config.RecvCapacity, config.Shift, config.Runs = 64, 1<<20, 1<<20, LeastShift(1<<20), runs
+		from, err := New(config)
+		if err != nil {
+			t.Fatal(err)
+		}
+		config.Addr = b
+		to, err := New(config)
+		if err != nil || to.Listen() != nil || from.Connect(b, 7) != nil {
+			t.Fatal(err)
+		}
+		var room [EmitRoom]byte
+		carry := func(one *End, src Addr, other *End) {
+			dst, length := one.Emit(&room)
+			other.Arrive(src, dst, room[:length])
+		}
+		carry(from, a, to)
+		carry(to, b, from)
+		carry(from, a, to)
+		if taken, err := from.Send(make([]byte, 2*(most+1)*64)); taken != 2*(most+1)*64 || err != nil {
+			t.Fatal(taken, err)
+		}
+		kept := 0
+		for i := 0; i < 2*(most+1); i++ {
+			sent := from.Transmit(&room)
+			if i%2 == 0 {
+				continue
+			}
+			if report, err := to.ArriveWithReport(a, b, room[:sent.Length]); err == nil && report.Brought == Held {
+				kept++
+			}
+			carry(to, b, from)
+		}
+		if kept != most {
+			t.Fatal(kept, most)
+		}
+		from.Free()
+		to.Free()
 	}
 }
 

@@ -28,7 +28,9 @@ def package():
         return "tcpcore"
     folder = HERE / "out/tcpcore"
     folder.mkdir(parents=True, exist_ok=True)
-    shutil.copy(HERE.parents[1] / "tcpcore/tcpcore.py", folder / "__init__.py")
+    core = HERE.parents[1] / "tcpcore"
+    for text, name in (("tcpcore.py", "__init__.py"), ("datagrams.py", "datagrams.py"), ("simulator.py", "simulator.py")):
+        shutil.copy(core / text, folder / name)
     (folder / "py.typed").touch()
     return "out/tcpcore"
 

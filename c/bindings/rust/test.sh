@@ -1,7 +1,7 @@
 #!/usr/bin/env bash
 # The Rust crate with Debian's rustc and cargo, without a network: layout, clippy, documents, tests with release/tcpcore.c, which has machine
 # code on this machine, and with the same in C, over the library (the first argument, or crates/tcp_c's own) and with the installed one,
-# without std, and the example over sockets. It installs what this machine lacks by apt-get; where that fails it fails, or, with LEAVE_OUT=1
+# without std, and the examples over sockets. It installs what this machine lacks by apt-get; where that fails it fails, or, with LEAVE_OUT=1
 # in the environment, says what it leaves out. Stops at the first failure.
 set -euo pipefail
 cd "$(dirname "$0")"
@@ -42,14 +42,15 @@ passes cargo fmt --check
 passes cargo clippy --offline --all-targets -- -D warnings
 RUSTDOCFLAGS="-D warnings" passes cargo doc --offline --no-deps
 rm -rf out/target/debug/build
-tests 29
+tests 47
 is_in_c() { nm out/target/debug/build/tcpcore-*/out/tcpcore.o | grep w2c_ >out/names; }
 if is_in_c; then echo "rust: the machine code of release/tcpcore.c isn't taken"; exit 1; fi
 rm -rf out/target/debug/build
-CFLAGS=-DTCPCORE_PORTABLE tests 29 --features unchecked
+CFLAGS=-DTCPCORE_PORTABLE tests 47 --features unchecked
 is_in_c || { echo "rust: the C of release/tcpcore.c isn't taken"; exit 1; }
 rm -rf out/target/debug/build
 passes cargo build --offline --no-default-features
+passes cargo build --offline --no-default-features --features alloc
 # A folder as the tarball has them: the layer, and this machine's code, under both names that a target may ask for.
 for machine in x86-64 x86-64-v2 aarch64; do
     mkdir -p "out/tarball/prebuilt/$machine"
@@ -57,14 +58,16 @@ for machine in x86-64 x86-64-v2 aarch64; do
 done
 cp ../../tcpcore/{tcpcore.c,tcpcore.h,tcpcore_old_names.h,layout.h} out/tarball
 rm -rf out/target/debug/build
-TCPCORE_PREBUILT=$PWD/out/tarball tests 29
+TCPCORE_PREBUILT=$PWD/out/tarball tests 47
 cat out/target/debug/build/tcpcore-*/output | grep -q static=tcp_c || { echo "rust: the machine code isn't linked"; exit 1; }
 make --silent -C ../../tcpcore OUT="$PWD/out/native" LIBRARY="$library"
 export TCPCORE_LIB_DIR=$PWD/out/native
-tests 29 --features native
-passes timeout 120 cargo run --quiet --offline --example udp ../../tcpcore/tcpcore.h
-grep -q ' bytes came as they were sent, in ' out/found
-cat out/found
+tests 47 --features native
+for example in udp connection; do
+    passes timeout 120 cargo run --quiet --offline --example "$example" ../../tcpcore/tcpcore.h
+    grep -q ' bytes came as they were sent, in ' out/found
+    cat out/found
+done
 # Debian has no Rust for bare metal: that the crate links there is told where rustc has the target.
 if rustc --print sysroot | xargs -I{} test -d {}/lib/rustlib/thumbv7m-none-eabi; then
     CC=arm-none-eabi-gcc AR=arm-none-eabi-ar CFLAGS="-mcpu=cortex-m3 -mthumb -Os" \

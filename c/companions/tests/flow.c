@@ -107,6 +107,24 @@ static void given(void)
     free_both();
 }
 
+/* RFC 6675, 2: a duplicate acknowledgement is one whose blocks bring news. A peer whose room for runs is full answers what it can't keep
+   by the blocks that it has reported before; for these nothing more may be given. */
+static void known_blocks(void)
+{
+    open_both(0);
+    CHECK(give(&a, 10 * MSS), 10 * MSS);
+    CHECK(emit(&a), 10);
+    CHECK(deliver(&a, &b, 1), TCPCORE_DONE);
+    CHECK(emit(&b), 1);
+    CHECK(deliver(&b, &a, 0), TCPCORE_DONE);
+    CHECK(a.flow.congestion.left, MSS);
+    for (int times = 0; times < 8; times++)
+        CHECK(deliver(&b, &a, 0), TCPCORE_DONE);
+    CHECK(a.flow.congestion.left, MSS);
+    CHECK(flow_room(&a.flow, 10 * MSS), 0);
+    free_both();
+}
+
 /* Segments are the peer's where these are smaller (RFC 9293, 3.7.1). */
 static void agreed(void)
 {
@@ -382,6 +400,7 @@ int main(void)
     delayed();
     broken();
     given();
+    known_blocks();
     agreed();
     after_timeout();
     reordered();

@@ -347,6 +347,35 @@ static void reordering(void)
     free_both();
 }
 
+/* An acknowledgement that moves SND.UNA shows that the path delivers: what is missing behind it is given a whole round trip from then
+   on, as the retransmission timeout starts anew (RFC 6298, 5.3). One that moves nothing, whatever its blocks report, gives no more. */
+static void reordering_starts_anew(void)
+{
+    make_both(&TIMERS_RULES, 65535);
+    open_both(40);
+    /* The first and the third of four are lost, and go out again after a round trip. The first one arrives. */
+    send_text(&a, 4000);
+    CHECK(carry(&a, &b, 10), 4);
+    CHECK(carry(&b, &a, ALL), 1);
+    CHECK(wait_for(&a), 40);
+    CHECK(carry(&a, &b, 1), 2);
+    now += 30;
+    CHECK(carry(&b, &a, ALL), 1);
+    CHECK(a.timers.snd_una, 2001);
+    CHECK(timers_wait(&a.timers, now), 40);
+    now += 15;
+    send_text(&a, 1000);
+    CHECK(carry(&a, &b, ALL), 1);
+    CHECK(carry(&b, &a, ALL), 1);
+    CHECK(a.timers.snd_una, 2001);
+    CHECK(wait_for(&a), 25);
+    CHECK(!!(a.found & TIMERS_LOST), 1);
+    CHECK(carry(&a, &b, ALL), 1);
+    CHECK(carry(&b, &a, ALL), 1);
+    CHECK(timers_wait(&a.timers, now), -1);
+    free_both();
+}
+
 /* RFC 9293, 3.4.2 and 3.10.7.4: 4 minutes, anew where the peer's FIN comes again. */
 static void time_wait(void)
 {
@@ -413,6 +442,7 @@ int main(void)
     answers_lost();
     shut_window();
     reordering();
+    reordering_starts_anew();
     time_wait();
     fin_wait_2();
     printf("timers: %d checks\n", checks);

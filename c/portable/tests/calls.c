@@ -15,7 +15,7 @@
 #define FIRST 0
 #endif
 
-enum { KEPT = 24, LONGEST = 65600, BLOCK = TCPCORE_MEMORY(70000, 70000), ANSWERS = 64, TEXT = 80000 };
+enum { KEPT = 24, LONGEST = 65600, MOST_RUNS = 300, BLOCK = TCPCORE_MEMORY_RUNS(70000, 70000, MOST_RUNS), ANSWERS = 64, TEXT = 80000 };
 
 /* A segment as it went out, or as the test made it. */
 struct kept {
@@ -94,6 +94,12 @@ static size_t some_capacity(void)
     return 1 + next(BOUNDS[next(4)]);
 }
 
+static uint16_t some_runs(void)
+{
+    static const uint16_t RUNS[] = {0, 1, 2, 5, 16, MOST_RUNS};
+    return next(60) ? RUNS[next(6)] : TCPCORE_MAX_RUNS + 1;
+}
+
 static tcpcore_config some_config(struct side *side)
 {
     static const uint32_t ISNS[] = {0, 77, UINT32_MAX, UINT32_MAX - 900, UINT32_C(1) << 31};
@@ -109,6 +115,7 @@ static tcpcore_config some_config(struct side *side)
     config.window_shift = (uint8_t)(next(60) ? next(15) : 15);
     config.scales = (uint8_t)(next(3) ? next(256) : 0);
     config.sack = (uint8_t)next(3);
+    config.runs = some_runs();
     return config;
 }
 

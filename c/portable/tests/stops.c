@@ -15,6 +15,8 @@
 #include <sys/time.h>
 
 enum { CAPACITY = 1024, SEGMENT = 700, BLOCK = TCPCORE_MEMORY(CAPACITY, CAPACITY), BESIDE = 4096, PAINT = 0x5a, TURNS = 20000 };
+/* Where the end begins in its block, behind buffers and tables, and what it takes there. */
+enum { BEHIND = 2 * CAPACITY + 2 * TCPCORE_UNITS(8 * TCPCORE_RUNS), END_SIZE = TCPCORE_MEMORY(CAPACITY, CAPACITY) - BEHIND - 15 };
 
 static struct {
     unsigned char before[BESIDE], block[BLOCK], between[BESIDE], out[TCPCORE_EMIT_ROOM], after[BESIDE];
@@ -82,9 +84,9 @@ int main(void)
         memset(&memory, PAINT, sizeof memory);
         if (tcpcore_new(&end, &config, memory.block, BLOCK) != TCPCORE_DONE || tcpcore_connect(&end, B, 2) != TCPCORE_DONE)
             return 1;
-        /* Some words of what the end keeps beside its buffers. */
+        /* Some words of what the end keeps behind its buffers and its tables. */
         for (uint32_t count = 1 + next(12); count > 0; count--)
-            for (uint32_t i = 0, at = 2 * CAPACITY + next(700); i < 8; i++)
+            for (uint32_t i = 0, at = BEHIND + next(END_SIZE - 8); i < 8; i++)
                 memory.block[at + i] = (unsigned char)(next(3) ? next(256) : 0);
         int how = sigsetjmp(back, 1);
         if (how == 0) {

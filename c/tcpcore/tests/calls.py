@@ -33,7 +33,7 @@ def raised(kind, call, *args):
 
 
 def ranges():
-    for field, value in (("port", 70000), ("port", -1), ("mss", 1 << 16), ("isn", 1 << 32), ("send_capacity", -1), ("window_shift", 256), ("limit", 1 << 64)):
+    for field, value in (("port", 70000), ("port", -1), ("mss", 1 << 16), ("isn", 1 << 32), ("send_capacity", -1), ("window_shift", 256), ("limit", 1 << 64), ("runs", 1 << 16)):
         check(" isn't from 0 to " in raised(ValueError, End, GOOD._replace(**{field: value})), True)
     check(raised(ValueError, End, GOOD._replace(addr=b"123")), "an IPv4 address has 4 bytes, not 3")
     check("10.0.0" in raised(ValueError, End, GOOD._replace(addr="10.0.0")), True)
@@ -43,10 +43,21 @@ def ranges():
     check(end.status().phase, Phase.CLOSED)
 
 
+def memory_of_runs():
+    def room(runs):
+        return tcpcore.library()["room"](tcpcore.ConfigStruct(send_capacity=1000, recv_capacity=1000, runs=runs))
+
+    check(room(0), room(tcpcore.RUNS))
+    # Each run takes 8 bytes in each of two tables.
+    check([room(runs) - room(2) for runs in (4, 16, tcpcore.MAX_RUNS)], [32, 224, 16 * (tcpcore.MAX_RUNS - 2)])
+    check(room(tcpcore.MAX_RUNS + 1), 0)
+
+
 def refusals():
     check(raised(Refused, End, GOOD._replace(addr="0.0.0.0", mss=1)), "the address is 0.0.0.0")
     check(raised(Refused, End, GOOD._replace(port=0, mss=1)), "the port is 0")
     check(raised(Refused, End, GOOD._replace(mss=1)), "the maximum segment size isn't from 64 to 1,460 bytes")
+    check(raised(Refused, End, GOOD._replace(runs=tcpcore.MAX_RUNS + 1)), "the number of runs is above 4,096")
     check(raised(Refused, End(GOOD).send, b"x"), "not open yet")
     try:
         End(GOOD).close()
@@ -222,7 +233,7 @@ def builds():
 
 
 def main():
-    for test in (ranges, refusals, copies, buffers, lending, trains, enums, freed, rooms, defaults, builds):
+    for test in (ranges, memory_of_runs, refusals, copies, buffers, lending, trains, enums, freed, rooms, defaults, builds):
         test()
     print(f"calls.py: {checks} checks")
 

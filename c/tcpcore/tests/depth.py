@@ -1,4 +1,4 @@
-"""The stack that a call of the library takes at most, by its disassembly: depth.py OBJDUMP BOUND MEASURED FILE..
+"""The stack that a call of the library takes at most, by its disassembly: depth.py OBJDUMP BOUND OF_MAKING MEASURED FILE..
 
 The files are the static library and the layer's object, for x86-64 or aarch64. A function's own bytes are read from
 what it does to the stack pointer, and the calls make a graph. That tells the depth only where nothing is called but by
@@ -7,7 +7,8 @@ address of a function may stand nowhere but in a call or a jump, and in the jump
 jumps through a register stays within its function.
 
 The deepest sum over the functions tcpcore_* is printed, without what memcpy, memmove and memset take. It has to be at
-most BOUND, and at least MEASURED less the frame of the test and what memset takes.
+most BOUND, and at least MEASURED less the frame of the test and what memset takes. That of the two calls that make a
+connection is printed apart, and has to be at most OF_MAKING.
 """
 
 import re
@@ -16,6 +17,8 @@ import sys
 
 # Not followed: functions that the program brings.
 OUTSIDE = {"memcpy", "memmove", "memset", "__stack_chk_fail"}
+# They carry a whole end from call to call.
+MAKERS = {"tcpcore_connection_connect", "tcpcore_connection_listen"}
 # What a measurement counts beside: the frame of the test, and what memset takes.
 BESIDE = 256
 HEAD = re.compile(r"^[0-9a-f]+ <(?P<name>.+)>:$")
@@ -146,7 +149,7 @@ def depth(functions, machine, name, above=()):
 
 
 def main():
-    objdump, bound, measured, files = sys.argv[1], int(sys.argv[2]), int(sys.argv[3]), sys.argv[4:]
+    objdump, bound, of_making, measured, files = sys.argv[1], *map(int, sys.argv[2:5]), sys.argv[5:]
     functions = {}
     for file in files:
         words = [[objdump, "-d", "-r", "--no-show-raw-insn", file], [objdump, "-r", "-w", file]]
@@ -154,7 +157,11 @@ def main():
         reader = Reader(told[0])
         functions.update(reader.functions)
         check_tables(told[1], reader.functions)
-    entries = [name for name in functions if name.startswith("tcpcore_")]
+    entries = [name for name in functions if name.startswith("tcpcore_") and name not in MAKERS]
+    made, making = max(depth(functions, reader.machine, name) for name in MAKERS)
+    print(f"depth: {made} bytes of {of_making}: {' > '.join(making)}")
+    if made > of_making:
+        raise Fault(f"the depth of what makes a connection has to be at most {of_making}")
     deepest, chain = max(depth(functions, reader.machine, name) for name in entries)
     print(f"depth: {deepest} bytes of {bound}, {measured} measured: {' > '.join(chain)}")
     if len(entries) < 13 or not measured - BESIDE <= deepest <= bound:

@@ -58,6 +58,7 @@ static void layout(void)
     FIELD(tcpcore_config, window_shift);
     FIELD(tcpcore_config, scales);
     FIELD(tcpcore_config, sack);
+    FIELD(tcpcore_config, runs);
     printf(" of %zu\ntcpcore_status:", sizeof(tcpcore_config));
     FIELD(struct tcpcore_status, phase);
     FIELD(struct tcpcore_status, ending);

@@ -48,6 +48,10 @@ same "what the program needs" "$(objdump -p dynamic | awk '$1 == "NEEDED" { prin
 prints env LD_LIBRARY_PATH="$there/usr/lib" ./dynamic
 "$OLDPWD/tests/older.sh" "usr/lib/$shared"
 passed=$((passed + 1))
+# Built with link-time optimization it has the older versions of its calls, too.
+make --silent -C "$OLDPWD" OUT="$there/lto" LIBRARY="$library" CFLAGS="-O2 -flto"
+"$OLDPWD/tests/older.sh" "lto/$shared"
+passed=$((passed + 1))
 # Moved elsewhere it is found by where its .pc file lies.
 mv usr moved
 cc two_ends.c $(PKG_CONFIG_PATH=$there/moved/lib/pkgconfig pkg-config --define-prefix --cflags --libs tcpcore) -o relocated

@@ -276,7 +276,19 @@ static void configs(void)
     CHECK(make(&end, &config), TCPCORE_BAD_LIMIT);
     config.limit = (UINT64_C(1) << 62) + 1;
     CHECK(make(&end, &config), TCPCORE_BAD_LIMIT);
+    config.runs = TCPCORE_MAX_RUNS + 1;
+    CHECK(make(&end, &config), TCPCORE_BAD_LIMIT);
     config.limit--;
+    CHECK(make(&end, &config), TCPCORE_BAD_RUNS);
+    CHECK(tcpcore_new(&end, &config, block, 0), TCPCORE_BAD_RUNS);
+    CHECK(tcpcore_room(&config), 0);
+    config.runs = UINT16_MAX;
+    CHECK(make(&end, &config), TCPCORE_BAD_RUNS);
+    CHECK(tcpcore_room(&config), 0);
+    CHECK(is_empty(&end), 1);
+    config.runs = TCPCORE_MAX_RUNS;
+    CHECK(make(&end, &config), TCPCORE_NO_MEMORY);
+    config.runs = 1;
     CHECK(make(&end, &config), TCPCORE_DONE);
     CHECK(tcpcore_free(&end), TCPCORE_DONE);
 }

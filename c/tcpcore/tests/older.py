@@ -1,6 +1,7 @@
 """What a header promises to programs that were built with an older one: python3 older.py OLDER.h HEADER.h prints each answer, bound, field
 and call of OLDER.h that HEADER.h has otherwise, and ends with 1 where there is one. TCPCORE_VERSION may grow, and so may bounds of the
-stack; fields may take the place of reserved words. The C compiler (CC, else cc) tells where fields lie.
+stack; fields may take the place of reserved words. TCPCORE_MEMORY may grow: the library gives older programs ends of 16 runs (older_ends.c), which
+have to fit into what it was. The C compiler (CC, else cc) tells where fields lie.
 """
 
 import os
@@ -10,6 +11,8 @@ import subprocess
 import sys
 import tempfile
 
+# Capacities of which the room of an end is compared.
+CAPACITIES = [(1, 1), (15, 17), (64, 1460), (65535, 65535), (1 << 20, 1 << 20)]
 MAY_GROW = {"TCPCORE_VERSION", "TCPCORE_STACK", "TCPCORE_PORTABLE_STACK"}
 # The fields that have another name since version 9.
 FIELDS = {
@@ -56,18 +59,11 @@ def numbers(text):
     """The enumerators and the macros that are numbers."""
     named = re.findall(r"\b(TCPCORE_\w+)\s*=\s*\d+", text)
     bounds = re.findall(r"^#define (TCPCORE_\w+) (?:\d+|UINT64_C\(\d+\))\s*$", text, re.M)
-    # Of the macro with arguments some values.
-    return [it for it in named + bounds if it not in MAY_GROW] + ["TCPCORE_MEMORY(1, 1)", "TCPCORE_MEMORY(257, 1048576)"]
+    return [it for it in named + bounds if it not in MAY_GROW]
 
 
-def values(header, older, fields_now):
-    """What the compiler makes of the older header's names with a header; `fields_now` has those of fields that have another name."""
-    lines = [f'    printf("{name} %llu\\n", (unsigned long long)({name}));' for name in numbers(older)]
-    for kind, field in fields(older):
-        now = fields_now.get((kind, field), field)
-        lines.append(f'    printf("{kind} {field} %zu %zu\\n", offsetof({kind}, {now}), sizeof(({kind} *)0)->{now});')
-    for kind in sorted({kind for kind, _ in fields(older)}):
-        lines.append(f'    printf("{kind} %zu\\n", sizeof({kind}));')
+def told_with(header, lines):
+    """What a program of these lines prints with a header, line by line."""
     with tempfile.TemporaryDirectory() as folder:
         place = pathlib.Path(folder)
         (place / "tcpcore.h").write_text(pathlib.Path(header).read_text())
@@ -78,6 +74,23 @@ def values(header, older, fields_now):
         return subprocess.run([place / "values"], check=True, capture_output=True, text=True).stdout.splitlines()
 
 
+def rooms(header, macro):
+    """What a macro of two capacities says."""
+    calls_of = [macro.replace("@1", str(send)).replace("@2", str(recv)) for send, recv in CAPACITIES]
+    return [int(line) for line in told_with(header, [f'    printf("%zu\\n", (size_t){call});' for call in calls_of])]
+
+
+def values(header, older, fields_now):
+    """What the compiler makes of the older header's names with a header; `fields_now` has those of fields that have another name."""
+    lines = [f'    printf("{name} %llu\\n", (unsigned long long)({name}));' for name in numbers(older)]
+    for kind, field in fields(older):
+        now = fields_now.get((kind, field), field)
+        lines.append(f'    printf("{kind} {field} %zu %zu\\n", offsetof({kind}, {now}), sizeof(({kind} *)0)->{now});')
+    for kind in sorted({kind for kind, _ in fields(older)}):
+        lines.append(f'    printf("{kind} %zu\\n", sizeof({kind}));')
+    return told_with(header, lines)
+
+
 def main():
     older, newer = (without_comments(pathlib.Path(name).read_text()) for name in sys.argv[1:3])
     if not calls(older) or not fields(older) or len(numbers(older)) < 10:
@@ -86,6 +99,10 @@ def main():
     newer_calls = calls(newer, old_names(sys.argv[2]))
     wrong = [f"{name} is {found!r}, and was {wanted!r}" for name, wanted in calls(older).items() if (found := newer_calls.get(name)) != wanted]
     wrong += [f"'{found}', and was '{wanted}'" for wanted, found in zip(before, now) if found != wanted]
+    # An end of 16 runs, which older programs get, fits into the blocks that they have.
+    for capacities, had, needs in zip(CAPACITIES, rooms(sys.argv[1], "TCPCORE_MEMORY(@1, @2)"), rooms(sys.argv[2], "TCPCORE_MEMORY_RUNS(@1, @2, 16)")):
+        if needs > had:
+            wrong.append(f"ends of {capacities} need {needs} bytes, and have {had}")
     for line in wrong:
         print(f"older.py: {line}")
     print(f"older.py: {len(calls(older))} calls and {len(before)} values looked at, {len(wrong)} of them are not as they were")

@@ -1,6 +1,6 @@
 /*
- * The test of tcpcore_room and TCPCORE_MEMORY: at each alignment they are enough, one byte less isn't, and no byte beside the
- * block is touched, by a transfer either.
+ * The test of tcpcore_room, TCPCORE_MEMORY and TCPCORE_MEMORY_RUNS: at each alignment they are enough, one byte less isn't, and no
+ * byte beside the block is touched, by a transfer either.
  */
 #include "carry.h"
 #include "tcpcore.h"
@@ -12,7 +12,7 @@
 enum { UNIT = 16, PAINT = 0xee };
 
 static const tcpcore_addr A = {{10, 0, 0, 1}}, B = {{10, 0, 0, 2}};
-static _Alignas(tcpcore_config) unsigned char memory[TCPCORE_MEMORY(1 << 20, 1 << 20) + 3 * UNIT];
+static _Alignas(tcpcore_config) unsigned char memory[TCPCORE_MEMORY_RUNS(1 << 20, 1 << 20, TCPCORE_MAX_RUNS) + 3 * UNIT];
 static unsigned char other[TCPCORE_MEMORY(1 << 20, 1 << 20)];
 
 #define NEED(found, wanted) need(#found, __LINE__, (unsigned long long)(found), (unsigned long long)(wanted))
@@ -70,14 +70,15 @@ static void fills(tcpcore_end *end, size_t send, size_t recv)
     NEED(tcpcore_free(&peer), TCPCORE_DONE);
 }
 
-/* A block `offset` bytes behind a multiple of UNIT. */
-static void tries(size_t send, size_t recv, size_t offset)
+/* A block `offset` bytes behind a multiple of UNIT, for an end with so many runs; 0 is TCPCORE_RUNS. */
+static void tries(size_t send, size_t recv, uint16_t runs, size_t offset)
 {
     tcpcore_end end = TCPCORE_END_INIT;
     tcpcore_config config = config_of(A, send, recv);
+    config.runs = runs;
     unsigned char *block = memory + UNIT + -(uintptr_t)memory % UNIT + offset;
     size_t room = tcpcore_room(&config), least = room - (offset == 0 ? UNIT - 1 : offset - 1);
-    NEED(room, TCPCORE_MEMORY(send, recv));
+    NEED(room, runs == 0 ? TCPCORE_MEMORY(send, recv) : TCPCORE_MEMORY_RUNS(send, recv, runs));
     memset(memory, PAINT, sizeof memory);
     NEED(tcpcore_new(&end, &config, block, least - 1), TCPCORE_NO_MEMORY);
     NEED(tcpcore_new(&end, &config, block, 0), TCPCORE_NO_MEMORY);
@@ -97,7 +98,14 @@ int main(void)
     static const size_t pairs[][2] = {{1, 1}, {1, 17}, {16, 15}, {4096, 1000}, {1 << 20, 1 << 20}};
     for (size_t at = 0; at < sizeof pairs / sizeof *pairs; at++)
         for (size_t offset = 0; offset < UNIT; offset += at == 4 ? 5 : 1)
-            tries(pairs[at][0], pairs[at][1], offset);
+            tries(pairs[at][0], pairs[at][1], 0, offset);
+    static const uint16_t RUNS[] = {1, 2, 3, 4, 16, 64, 300, 4095, TCPCORE_MAX_RUNS};
+    for (size_t at = 0; at < sizeof RUNS / sizeof *RUNS; at++)
+        for (size_t offset = 0; offset < UNIT; offset += 5)
+            tries(1000, 17, RUNS[at], offset);
+    /* An end with 16 runs takes no more than 704 bytes beside its buffers, and one with 4 less. */
+    NEED(TCPCORE_MEMORY_RUNS(0, 0, 16) <= 704 + UNIT - 1, 1);
+    NEED(TCPCORE_MEMORY_RUNS(0, 0, 4) < TCPCORE_MEMORY_RUNS(0, 0, 16), 1);
     /* The config may lie in the block. */
     tcpcore_end end = TCPCORE_END_INIT;
     tcpcore_config config = config_of(A, 1000, 1000);
@@ -105,6 +113,6 @@ int main(void)
     NEED(tcpcore_new(&end, (const tcpcore_config *)(void *)memory, memory, tcpcore_room(&config)), TCPCORE_DONE);
     NEED(tcpcore_connect(&end, B, 7), TCPCORE_DONE);
     NEED(tcpcore_free(&end), TCPCORE_DONE);
-    printf("room: TCPCORE_MEMORY is enough, and one byte less isn't\n");
+    printf("room: TCPCORE_MEMORY and TCPCORE_MEMORY_RUNS are enough, and one byte less isn't\n");
     return 0;
 }

@@ -32,11 +32,15 @@ pub enum Error {
     BadAddr,
     /// The port is 0.
     BadPort,
+    /// The number of runs is above [`MAX_RUNS`](crate::MAX_RUNS).
+    BadRuns,
+    /// No timeout can be made from the [`Rules`](crate::Rules) of a connection.
+    BadRules,
     /// Another answer, by its number in `tcpcore.h`. None is known that safe code comes to.
     Other(u32),
 }
 
-const ERRORS: [(u32, Error); 13] = [
+const ERRORS: [(u32, Error); 15] = [
     (11, Error::NotOpen),
     (12, Error::AlreadyOpen),
     (13, Error::Closing),
@@ -50,6 +54,8 @@ const ERRORS: [(u32, Error); 13] = [
     (25, Error::BadLimit),
     (26, Error::BadAddr),
     (27, Error::BadPort),
+    (28, Error::BadRuns),
+    (29, Error::BadRules),
 ];
 
 impl Error {
@@ -140,6 +146,9 @@ pub enum Arrival {
     Dropped,
     /// It is another connection's; nothing changed.
     NotMine,
+    /// It is a reset that counts as lost, and nothing changed: of a [`Connection`](crate::Connection) alone, in TIME-WAIT (RFC 1337, 3),
+    /// and in CLOSING and LAST-ACK while bytes are unread, which it would discard.
+    Withheld,
     /// It is none.
     Malformed(Malformed),
 }
@@ -150,11 +159,30 @@ impl Arrival {
         match answer {
             0 => Arrival::Taken,
             56 => Arrival::NotMine,
+            59 => Arrival::Withheld,
             1..=6 => Arrival::Malformed(MALFORMED[answer as usize - 1]),
             _ => Arrival::Dropped,
         }
     }
 }
+
+/// The number of EMIT_FIRST in `tcpcore.h`.
+pub(crate) const EMIT_FIRST: u32 = 58;
+
+/// A segment wasn't taken, and nothing changed: a timer has expired, and what was due then has to go out before anything arrives. Call
+/// [`Connection::poll_transmit`](crate::Connection::poll_transmit) until it has nothing, and hand the same segment in again. Its
+/// `Display` is the library's text.
+#[derive(Clone, Copy, Debug, PartialEq, Eq, Hash)]
+pub struct EmitFirst;
+
+impl fmt::Display for EmitFirst {
+    fn fmt(&self, f: &mut fmt::Formatter<'_>) -> fmt::Result {
+        f.write_str(text_of(EMIT_FIRST))
+    }
+}
+
+#[cfg(feature = "std")]
+impl std::error::Error for EmitFirst {}
 
 /// What [`End::receive`](crate::End::receive) hands over.
 #[derive(Clone, Copy, Debug, PartialEq, Eq, Hash)]
@@ -165,6 +193,17 @@ pub enum Received {
     Nothing,
     /// The peer closed, and all its bytes were handed over: nothing will come.
     EndOfStream,
+}
+
+impl Received {
+    pub(crate) fn of(answer: u32, count: usize) -> Result<Received, Error> {
+        match answer {
+            0 => Ok(Received::Bytes(count)),
+            51 => Ok(Received::Nothing),
+            52 => Ok(Received::EndOfStream),
+            answer => Err(Error::of(answer)),
+        }
+    }
 }
 
 /// The phases (RFC 9293, 3.3.2).
@@ -232,6 +271,25 @@ pub enum Timer {
     Reorder = 1,
     /// The TIME-WAIT timeout (RFC 9293, 3.10.8).
     TimeWait = 2,
+}
+
+/// A timer of a connection that has expired.
+#[derive(Clone, Copy, Debug, PartialEq, Eq, Hash)]
+pub enum Expired {
+    /// The retransmission timeout (RFC 9293, 3.8.1): what is in flight is due again.
+    Retransmit = 0,
+    /// What the peer's blocks passed over is taken for lost, and is due again.
+    Reorder = 1,
+    /// The TIME-WAIT timeout (RFC 9293, 3.10.8): the connection has ended in order.
+    TimeWait = 2,
+    /// The user timeout (RFC 9293, 3.8.3), that of a SYN, or the limit of FIN-WAIT-2: the connection is aborted.
+    User = 3,
+}
+
+impl Expired {
+    pub(crate) fn of(number: u32) -> Expired {
+        [Expired::Retransmit, Expired::Reorder, Expired::TimeWait, Expired::User][number as usize]
+    }
 }
 
 /// Which timers have to run.

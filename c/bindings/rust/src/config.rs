@@ -28,7 +28,9 @@ impl Config {
             window_shift: 0,
             scales: 0,
             sack: 1,
-            unnamed_43: [0; 5],
+            unnamed_43: [0; 1],
+            runs: 0,
+            unnamed_46: [0; 2],
         })
     }
 
@@ -95,7 +97,15 @@ impl Config {
         self
     }
 
-    /// How many bytes of a block are enough for an end with it; 0 where a capacity is out of its range.
+    /// The most runs of bytes that are kept out of order (RFC 9293, 3.10.7.4), and the most runs of the peer's blocks that are remembered
+    /// (RFC 2018, 5), 1 to [`MAX_RUNS`](crate::MAX_RUNS); 0 is [`RUNS`](crate::RUNS), as where nothing is said. A path that reorders makes
+    /// about one for each five segments that it carries in the time of its jitter; each takes 16 bytes.
+    pub const fn runs(mut self, runs: u16) -> Config {
+        self.0.runs = runs;
+        self
+    }
+
+    /// How many bytes of a block are enough for an end with it; 0 where a capacity or the number of runs is out of its range.
     pub fn room(&self) -> usize {
         // SAFETY: it is read alone.
         match unsafe { sys::tcpcore_room(&self.0) } {

@@ -25,7 +25,20 @@ pub struct Lent<'e> {
     pub ends: bool,
 }
 
-impl Lent<'_> {
+impl<'e> Lent<'e> {
+    /// Of an answer and what it lends.
+    ///
+    /// # Safety
+    /// As of [`bytes`].
+    pub(crate) unsafe fn of(answer: u32, told: &sys::Lent) -> Result<Lent<'e>, Error> {
+        match answer {
+            0 => Ok(unsafe { Lent { first: bytes(&told.first), second: bytes(&told.second), ends: told.ends == 1 } }),
+            51 => Ok(Lent::default()),
+            52 => Ok(Lent { ends: true, ..Lent::default() }),
+            answer => Err(Error::of(answer)),
+        }
+    }
+
     /// How many bytes are unread.
     pub fn len(&self) -> usize {
         self.first.len() + self.second.len()
@@ -103,14 +116,8 @@ impl End {
     /// As of [`End::receive`].
     pub fn peek(&self) -> Result<Lent<'_>, Error> {
         let mut told = sys::Lent::default();
-        // SAFETY: as of the calls of lib.rs.
-        match unsafe { sys::tcpcore_peek(&self.raw, &mut told) } {
-            // SAFETY: nothing changes the end while it is borrowed.
-            0 => Ok(unsafe { Lent { first: bytes(&told.first), second: bytes(&told.second), ends: told.ends == 1 } }),
-            51 => Ok(Lent::default()),
-            52 => Ok(Lent { ends: true, ..Lent::default() }),
-            answer => Err(Error::of(answer)),
-        }
+        // SAFETY: as of the calls of lib.rs; nothing changes the end while it is borrowed.
+        unsafe { Lent::of(sys::tcpcore_peek(&self.raw, &mut told), &told) }
     }
 
     /// Takes the first unread bytes away, at most so many, and answers how many: 0 where nothing is unread, whether or not more may come.

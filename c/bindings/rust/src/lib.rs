@@ -1,13 +1,14 @@
 //! One end of one TCP connection, as a value (RFC 9293; window scale of RFC 7323; selective acknowledgement of RFC 2018): a safe
 //! binding of a C library whose core is proved.
 //!
-//! An [`End`] has no socket, clock or thread. User calls, timers that have run out and segments that arrive go in; segments and the
-//! bytes for the user come out. `tcpcore.h` says more of each call, and what its caller has to do: emit until nothing is due,
-//! put each segment into an IPv4 packet, keep the times of [`End::timers`].
+//! A [`Connection`] keeps its own times: it is told what time it is, and says when it wants to be called again. An [`End`] leaves them to
+//! its caller. Neither has a socket, clock or thread. User calls and segments that arrive go in, segments and the bytes for the user come
+//! out. `tcpcore.h` says more of each call.
 //!
-//! A [`Placed`] end lies in a block of the caller's, `&mut [MaybeUninit<u8>]`, which it borrows: in a static, on the stack, or on the
-//! heap. With the feature `std` a [`Boxed`] one owns its block. Without it the crate is `no_std` and takes no memory. Both can be
-//! moved, and what they can do are the calls of [`End`].
+//! With the feature `alloc`, which `std` has in it, a [`Connection`] and a [`Boxed`] end may own their memory. Else they lie in a block of
+//! the caller's, `&mut [MaybeUninit<u8>]`, which they borrow ([`Connection::connect_in`], [`Placed`]): in a static, on the stack, or on the
+//! heap. Without either feature the crate takes no memory; without `std` it is `no_std`. All can be moved. What ends can do are the calls
+//! of [`End`], whose caller emits until nothing is due, puts each segment into an IPv4 packet, and keeps the times of [`End::timers`]:
 //!
 //! ```
 //! use tcpcore::{Boxed, Config, Received, EMIT_ROOM};
@@ -37,24 +38,33 @@
 #![cfg_attr(not(feature = "std"), no_std)]
 #![warn(missing_docs, unsafe_op_in_unsafe_fn)]
 
+#[cfg(feature = "alloc")]
+extern crate alloc;
+
 mod answers;
-#[cfg(feature = "std")]
+#[cfg(feature = "alloc")]
 mod boxed;
 mod config;
+mod connection;
 mod lending;
 mod placed;
 mod reports;
 mod sys;
+mod time;
 mod time_wait;
 mod trains;
 
-pub use answers::{Agreed, Arrival, Ending, Error, Malformed, Phase, Received, Status, Timer, Timers};
-#[cfg(feature = "std")]
+pub use answers::{Agreed, Arrival, EmitFirst, Ending, Error, Expired, Malformed, Phase, Received, Status, Timer, Timers};
+#[cfg(feature = "alloc")]
 pub use boxed::Boxed;
 pub use config::Config;
+pub use connection::{connection_memory, connection_memory_with_runs, Connection, Rules, Segment};
 pub use lending::{Lent, Parts, HEADER_ROOM};
-pub use placed::{memory, Placed};
+pub use placed::{memory, memory_with_runs, Placed};
 pub use reports::{ArriveReport, Brought, Kind, Rule, Transmit};
+#[cfg(feature = "std")]
+pub use time::Clock;
+pub use time::Time;
 pub use time_wait::TimeWait;
 pub use trains::{Train, TRAIN_ROOM};
 
@@ -71,6 +81,12 @@ pub const RESET_ROOM: usize = 20;
 
 /// A limit below which no segment, however old, is taken for another: 2^31 less 16 bytes.
 pub const LIMIT: u64 = 2_147_483_632;
+
+/// The number of runs of an end whose config says nothing of it: see [`Config::runs`].
+pub const RUNS: u16 = 128;
+
+/// The greatest number of runs.
+pub const MAX_RUNS: u16 = 4096;
 
 /// The version of the C interface that is linked, and the one that this crate is written for.
 pub fn versions() -> (u32, u32) {
@@ -133,12 +149,8 @@ impl End {
     /// [`Error::Ended`] behind a reset or an abort, [`Error::NotOpen`].
     pub fn receive(&mut self, out: &mut [u8]) -> Result<Received, Error> {
         let mut count = 0;
-        match unsafe { sys::tcpcore_receive(&mut self.raw, out.as_mut_ptr().cast(), out.len(), &mut count) } {
-            0 => Ok(Received::Bytes(count)),
-            51 => Ok(Received::Nothing),
-            52 => Ok(Received::EndOfStream),
-            answer => Err(Error::of(answer)),
-        }
+        let answer = unsafe { sys::tcpcore_receive(&mut self.raw, out.as_mut_ptr().cast(), out.len(), &mut count) };
+        Received::of(answer, count)
     }
 
     /// Makes an acknowledgement due, which tells the window as it is now: for a user who has read. In a phase in which the peer may

@@ -1,15 +1,31 @@
 //! An end in a block that it borrows.
 use crate::answers::done;
-use crate::{sys, Config, End, Error};
+use crate::{sys, Config, End, Error, RUNS};
 use core::marker::PhantomData;
 use core::mem::MaybeUninit;
 use core::ops::{Deref, DerefMut};
 use core::ptr::{self, NonNull};
 
-/// How many bytes of a block are enough for an end of these capacities, wherever the block begins.
+/// How many bytes of a block are enough for an end of these capacities with [`RUNS`] runs, wherever the block begins.
 pub const fn memory(send: usize, receive: usize) -> usize {
-    let units = (send + sys::UNIT - 1) / sys::UNIT + (receive + sys::UNIT - 1) / sys::UNIT;
-    units * sys::UNIT + sys::END_SIZE + sys::UNIT - 1 + sys::STRUCT_ROOM
+    memory_with_runs(send, receive, RUNS)
+}
+
+/// The same with a number of runs, 1 or more: see [`Config::runs`].
+///
+/// ```
+/// use tcpcore::{memory, memory_with_runs, Config, MAX_RUNS, RUNS};
+/// assert_eq!(memory_with_runs(1000, 1000, RUNS), memory(1000, 1000));
+/// assert_eq!(memory_with_runs(1000, 1000, MAX_RUNS), Config::new([10, 0, 0, 1], 80, 1).capacities(1000, 1000).runs(MAX_RUNS).room());
+/// ```
+pub const fn memory_with_runs(send: usize, receive: usize, runs: u16) -> usize {
+    let table = in_units(runs as usize * sys::RUN_SIZE);
+    in_units(send) + in_units(receive) + 2 * table + sys::END_SIZE + sys::UNIT - 1 + sys::STRUCT_ROOM
+}
+
+/// So many bytes in whole units.
+const fn in_units(size: usize) -> usize {
+    (size + sys::UNIT - 1) / sys::UNIT * sys::UNIT
 }
 
 /// An end in a block that it borrows. It can be moved, and is freed when it is dropped.
@@ -39,7 +55,7 @@ impl<'m> Placed<'m> {
     ///
     /// # Errors
     /// [`Error::BadAddr`], [`Error::BadPort`], [`Error::BadCapacity`], [`Error::BadMss`], [`Error::BadShift`], [`Error::BadLimit`],
-    /// [`Error::NoMemory`], the first that applies.
+    /// [`Error::BadRuns`], [`Error::NoMemory`], the first that applies.
     pub fn new(config: &Config, block: &'m mut [MaybeUninit<u8>]) -> Result<Placed<'m>, Error> {
         let mut raw = ptr::null_mut();
         // SAFETY: the block is borrowed for as long as the end lives.

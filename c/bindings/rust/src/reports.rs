@@ -122,7 +122,7 @@ pub struct ArriveReport {
 }
 
 impl ArriveReport {
-    fn of(answer: u32, told: &sys::ArriveReport) -> ArriveReport {
+    pub(crate) fn of(answer: u32, told: &sys::ArriveReport) -> ArriveReport {
         let place = (told.rule as usize).checked_sub(1);
         ArriveReport {
             arrival: Arrival::of(answer),

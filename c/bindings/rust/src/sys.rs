@@ -2,8 +2,10 @@
 use core::ffi::c_void;
 use core::ptr;
 
-pub(crate) const VERSION: u32 = 10;
-pub(crate) const END_SIZE: usize = 704;
+pub(crate) const VERSION: u32 = 11;
+pub(crate) const END_SIZE: usize = 416;
+pub(crate) const CONNECTION_SIZE: usize = 720;
+pub(crate) const RUN_SIZE: usize = 8;
 pub(crate) const UNIT: usize = 16;
 pub(crate) const STRUCT_ROOM: usize = 32;
 
@@ -32,7 +34,9 @@ pub struct Config {
     pub window_shift: u8,
     pub scales: u8,
     pub sack: u8,
-    pub unnamed_43: [u8; 5],
+    pub unnamed_43: [u8; 1],
+    pub runs: u16,
+    pub unnamed_46: [u8; 2],
 }
 
 #[repr(C)]
@@ -146,6 +150,37 @@ pub struct TimeWait {
     pub ending: u16,
 }
 
+#[repr(C)]
+pub struct Connection {
+    pub opaque: [u64; 3],
+}
+
+#[repr(C)]
+#[derive(Clone, Copy)]
+pub struct ConnectionRules {
+    pub first: u64,
+    pub least: u64,
+    pub greatest: u64,
+    pub granularity: u64,
+    pub after_syn: u64,
+    pub time_wait: u64,
+    pub handshake: u64,
+    pub user: u64,
+    pub fin_wait_2: u64,
+    pub suspect_after: u32,
+    pub reserved: [u32; 13],
+}
+
+#[repr(C)]
+#[derive(Clone, Copy, Default)]
+pub struct ConnectionSegment {
+    pub length: u64,
+    pub position: u64,
+    pub count: u64,
+    pub to: Addr,
+    pub reserved: [u32; 9],
+}
+
 extern "C" {
     pub fn tcpcore_new_at(end: *mut *mut End, config: *const Config, block: *mut c_void, length: usize) -> u32;
     pub fn tcpcore_room(config: *const Config) -> usize;
@@ -206,6 +241,53 @@ extern "C" {
     pub fn tcpcore_time_wait_pending(time_wait: *const TimeWait, due: *mut u32) -> u32;
     pub fn tcpcore_time_wait_abort(time_wait: *mut TimeWait) -> u32;
     pub fn tcpcore_time_wait_status(time_wait: *const TimeWait, phase: *mut u32, ending: *mut u32) -> u32;
+    pub fn tcpcore_connection_connect(
+        connection: *mut Connection,
+        config: *const Config,
+        rules: *const ConnectionRules,
+        addr: Addr,
+        port: u16,
+        now: u64,
+        block: *mut c_void,
+        length: usize,
+    ) -> u32;
+    pub fn tcpcore_connection_listen(
+        connection: *mut Connection,
+        config: *const Config,
+        rules: *const ConnectionRules,
+        now: u64,
+        block: *mut c_void,
+        length: usize,
+    ) -> u32;
+    pub fn tcpcore_connection_room(config: *const Config) -> usize;
+    pub fn tcpcore_connection_free(connection: *mut Connection) -> u32;
+    pub fn tcpcore_connection_poll_at(connection: *const Connection, at: *mut u64) -> u32;
+    pub fn tcpcore_connection_timeout(connection: *mut Connection, now: u64, timer: *mut u32) -> u32;
+    pub fn tcpcore_connection_arrive(
+        connection: *mut Connection,
+        now: u64,
+        src: Addr,
+        dst: Addr,
+        bytes: *const c_void,
+        length: usize,
+        report: *mut ArriveReport,
+    ) -> u32;
+    pub fn tcpcore_connection_emit(
+        connection: *mut Connection,
+        now: u64,
+        window: u64,
+        out: *mut c_void,
+        room: usize,
+        segment: *mut ConnectionSegment,
+    ) -> u32;
+    pub fn tcpcore_connection_send(connection: *mut Connection, now: u64, text: *const c_void, length: usize, taken: *mut usize) -> u32;
+    pub fn tcpcore_connection_receive(connection: *mut Connection, now: u64, out: *mut c_void, room: usize, count: *mut usize) -> u32;
+    pub fn tcpcore_connection_peek(connection: *const Connection, lent: *mut Lent) -> u32;
+    pub fn tcpcore_connection_consume(connection: *mut Connection, now: u64, count: usize, taken: *mut usize) -> u32;
+    pub fn tcpcore_connection_acknowledge(connection: *mut Connection, now: u64) -> u32;
+    pub fn tcpcore_connection_close(connection: *mut Connection, now: u64) -> u32;
+    pub fn tcpcore_connection_abort(connection: *mut Connection, now: u64) -> u32;
+    pub fn tcpcore_connection_status(connection: *const Connection, status: *mut Status) -> u32;
     pub fn tcpcore_strerror(answer: u32) -> *const u8;
     pub fn tcpcore_version() -> u32;
     pub fn tcpcore_build() -> *const u8;
@@ -262,7 +344,21 @@ mod tests {
     fn layouts() {
         let all = [
             places!(Addr, "struct tcpcore_addr", byte),
-            places!(Config, "struct tcpcore_config", addr, port, mss, isn, send_capacity, recv_capacity, limit, window_shift, scales, sack),
+            places!(
+                Config,
+                "struct tcpcore_config",
+                addr,
+                port,
+                mss,
+                isn,
+                send_capacity,
+                recv_capacity,
+                limit,
+                window_shift,
+                scales,
+                sack,
+                runs
+            ),
             places!(
                 Status,
                 "struct tcpcore_status",
@@ -315,14 +411,35 @@ mod tests {
             places!(Lent, "struct tcpcore_lent", first, second, ends, reserved),
             places!(Parts, "struct tcpcore_parts", to, header, first, second, reserved),
             places!(Train, "struct tcpcore_train", whole, header, each, segments, reserved),
+            places!(Connection, "struct tcpcore_connection", opaque),
+            places!(
+                ConnectionRules,
+                "struct tcpcore_connection_rules",
+                first,
+                least,
+                greatest,
+                granularity,
+                after_syn,
+                time_wait,
+                handshake,
+                user,
+                fin_wait_2,
+                suspect_after,
+                reserved
+            ),
+            places!(ConnectionSegment, "struct tcpcore_connection_segment", length, position, count, to, reserved),
         ];
         let (expressions, found): (Vec<_>, Vec<_>) = all.into_iter().unzip();
         let (expressions, found) = (expressions.concat(), found.concat());
         let constants = "TCPCORE_EMIT_ROOM, TCPCORE_TRAIN_ROOM, TCPCORE_HEADER_ROOM, TCPCORE_RESET_ROOM, TCPCORE_TIME_WAIT_ROOM, \
-                         TCPCORE_MEMORY(17, 1) + TCPCORE_STRUCT_ROOM, TCPCORE_LIMIT, TCPCORE_VERSION";
-        let memory = crate::memory(17, 1);
-        let rooms = [crate::EMIT_ROOM, crate::TRAIN_ROOM, crate::HEADER_ROOM, crate::RESET_ROOM, crate::RESET_ROOM, memory];
-        let constants_found = rooms.map(|it| it as u64);
+                         TCPCORE_MEMORY(17, 1) + TCPCORE_STRUCT_ROOM, TCPCORE_MEMORY_RUNS(1, 17, 3) + TCPCORE_STRUCT_ROOM, \
+                         TCPCORE_CONNECTION_MEMORY(17, 1) + TCPCORE_STRUCT_ROOM, \
+                         TCPCORE_CONNECTION_MEMORY_RUNS(1, 17, 3) + TCPCORE_STRUCT_ROOM, TCPCORE_RUNS, TCPCORE_MAX_RUNS, TCPCORE_LIMIT, TCPCORE_VERSION";
+        let memory = [crate::memory(17, 1), crate::memory_with_runs(1, 17, 3)];
+        let memory = memory.into_iter().chain([crate::connection_memory(17, 1), crate::connection_memory_with_runs(1, 17, 3)]);
+        let memory = memory.chain([crate::RUNS.into(), crate::MAX_RUNS.into()]);
+        let rooms = [crate::EMIT_ROOM, crate::TRAIN_ROOM, crate::HEADER_ROOM, crate::RESET_ROOM, crate::RESET_ROOM];
+        let constants_found = rooms.into_iter().chain(memory).map(|it| it as u64);
         let wanted: Vec<u64> = found.into_iter().map(|it| it as u64).chain(constants_found).chain([crate::LIMIT, VERSION.into()]).collect();
         assert_eq!(told("layouts", &format!("{}, {constants}", expressions.join(", "))), wanted);
     }

@@ -117,7 +117,8 @@ fn what_new_refuses() {
         (good.capacities(10, 1_048_577), Error::BadCapacity),
         (good.mss(63), Error::BadMss),
         (good.window_shift(Some(15)), Error::BadShift),
-        (good.limit(0), Error::BadLimit),
+        (good.limit(0).runs(4097), Error::BadLimit),
+        (good.runs(4097), Error::BadRuns),
         (Config::new([0, 0, 0, 0], 1, 1).capacities(0, 10), Error::BadAddr),
         (Config::new(A, 0, 1).capacities(0, 10), Error::BadPort),
     ];
@@ -131,6 +132,21 @@ fn what_new_refuses() {
         assert_eq!(Placed::new(&good, &mut block[..length]).err(), Some(Error::NoMemory), "{length}");
     }
     assert!(Placed::new(&good, &mut block).is_ok());
+}
+
+#[test]
+fn runs_take_room() {
+    let config = Config::new(A, 1, 1).capacities(10, 10);
+    for runs in [1, 4, 16, RUNS, 300, MAX_RUNS] {
+        let mut block = vec![MaybeUninit::uninit(); memory_with_runs(10, 10, runs)];
+        assert_eq!(config.runs(runs).room(), block.len());
+        assert!(Placed::new(&config.runs(runs), &mut block).is_ok());
+        // Behind the struct the block takes 30 bytes at most that begin or end no unit.
+        let less = block.len() - 31;
+        assert_eq!(Placed::new(&config.runs(runs), &mut block[..less]).err(), Some(Error::NoMemory));
+    }
+    assert_eq!(config.room(), config.runs(RUNS).room());
+    assert_eq!(config.runs(MAX_RUNS + 1).room(), 0);
 }
 
 #[test]

@@ -1,0 +1,425 @@
+//! Connections over a simulated link, driven by their own times alone; what is refused; calls in any order. The expected times are those
+//! of RFC 6298 and RFC 9293.
+use std::mem::MaybeUninit;
+use std::time::Duration;
+use tcpcore::*;
+
+const ADDRS: [Addr; 2] = [[10, 0, 0, 1], [10, 0, 0, 2]];
+const SECOND: Duration = Duration::from_secs(1);
+
+struct Any(u64);
+
+impl Any {
+    fn below(&mut self, bound: u64) -> u64 {
+        self.0 ^= self.0 << 13;
+        self.0 ^= self.0 >> 7;
+        self.0 ^= self.0 << 17;
+        (self.0 >> 16) % bound
+    }
+}
+
+fn seconds(count: u64) -> Time {
+    Time::ZERO + SECOND * count as u32
+}
+
+fn config(side: usize) -> Config {
+    Config::new(ADDRS[side], 1 + side as u16, 1000).capacities(20_000, 20_000)
+}
+
+/// The client and the server.
+fn pair(rules: &Rules, now: Time) -> [Connection<'static>; 2] {
+    let client = Connection::connect(&config(0), rules, (ADDRS[1], 2), now).unwrap();
+    [client, Connection::listen(&config(1), rules, now).unwrap()]
+}
+
+/// All that a connection emits.
+fn emitted(from: &mut Connection, now: Time) -> Vec<Vec<u8>> {
+    let (mut room, mut all) = ([0; EMIT_ROOM], vec![]);
+    while let Some(segment) = from.poll_transmit(now, &mut room) {
+        all.push(segment.bytes.to_vec());
+    }
+    all
+}
+
+/// Hands segments in to a side.
+fn hand_in(to: &mut Connection, side: usize, now: Time, segments: &[Vec<u8>]) -> Vec<Arrival> {
+    let mut take = |it: &Vec<u8>| to.handle_segment(now, ADDRS[1 - side], ADDRS[side], it).unwrap().arrival;
+    segments.iter().map(&mut take).collect()
+}
+
+/// Hands all that is due to the other side, until nothing is.
+fn exchange(ends: &mut [Connection; 2], now: Time) {
+    for _ in 0..100 {
+        for side in [0, 1] {
+            let segments = emitted(&mut ends[side], now);
+            hand_in(&mut ends[1 - side], 1 - side, now, &segments);
+        }
+    }
+}
+
+/// Two connections in ESTABLISHED.
+fn established(now: Time) -> [Connection<'static>; 2] {
+    let mut ends = pair(&Rules::new(), now);
+    exchange(&mut ends, now);
+    assert!(ends.iter().all(|it| it.status().phase == Phase::Established));
+    ends
+}
+
+/// A side's text from one place to another.
+fn text(side: usize, places: std::ops::Range<usize>) -> Vec<u8> {
+    places.map(|i| (i * 7 + (i >> 8) + side * 3) as u8).collect()
+}
+
+/// A link that delays each segment, by any time of some milliseconds more, and loses some of a hundred.
+struct Link {
+    any: Any,
+    jitter: u64,
+    loss: u64,
+    on_the_way: Vec<(Time, usize, Vec<u8>)>,
+    now: Time,
+    expired: Vec<(Time, usize, Expired)>,
+}
+
+impl Link {
+    fn emit(&mut self, ends: &mut [Connection; 2], side: usize) {
+        for bytes in emitted(&mut ends[side], self.now) {
+            let at = self.now + Duration::from_millis(20 + self.any.below(self.jitter + 1));
+            if self.any.below(100) >= self.loss {
+                self.on_the_way.push((at, 1 - side, bytes));
+            }
+        }
+    }
+
+    /// What has come is handed in, and both sides keep their times. Answers whether anything more will happen.
+    fn turn(&mut self, ends: &mut [Connection; 2]) -> bool {
+        for side in [0, 1] {
+            self.emit(ends, side);
+        }
+        let arrivals = self.on_the_way.iter().map(|it| it.0);
+        let next = match arrivals.chain(ends.iter().filter_map(|it| it.poll_timeout())).min() {
+            Some(next) => next,
+            None => return false,
+        };
+        self.now = self.now.max(next);
+        let (come, left) = std::mem::take(&mut self.on_the_way).into_iter().partition(|it| it.0 <= self.now);
+        self.on_the_way = left;
+        let come: Vec<(Time, usize, Vec<u8>)> = come;
+        for (_, side, bytes) in come {
+            hand_in(&mut ends[side], side, self.now, &[bytes]);
+        }
+        for side in [0, 1] {
+            self.expired.extend(ends[side].handle_timeout(self.now).map(|it| (self.now, side, it)));
+        }
+        true
+    }
+}
+
+/// A side's user sends its text, closes, and reads.
+struct User {
+    left: Vec<u8>,
+    got: Vec<u8>,
+    is_closed: bool,
+}
+
+impl User {
+    fn act(&mut self, it: &mut Connection, now: Time) {
+        let taken = it.send(now, &self.left).unwrap_or(0);
+        self.left.drain(..taken);
+        if self.left.is_empty() && !self.is_closed {
+            it.close(now).unwrap();
+            self.is_closed = true;
+        }
+        let mut out = [0; 3000];
+        while let Ok(Received::Bytes(count)) = it.receive(now, &mut out) {
+            self.got.extend(&out[..count]);
+        }
+    }
+}
+
+/// Carries a text each way to the end of both connections; answers the link as it was then.
+fn carries(jitter: u64, loss: u64) -> Link {
+    // Not whole windows: a FIN behind a full one finds it shut, and waits for a timer.
+    const LENGTH: usize = 125_000;
+    let now = seconds(1000);
+    let mut link = Link { any: Any(88_172_645_463_325_252), jitter, loss, on_the_way: vec![], now, expired: vec![] };
+    let mut ends = pair(&Rules::new(), now);
+    let mut users = [0, 1].map(|side| User { left: text(side, 0..LENGTH), got: vec![], is_closed: false });
+    while link.turn(&mut ends) {
+        for (user, end) in users.iter_mut().zip(&mut ends) {
+            if end.status().agreed.is_some() && !end.is_closed() {
+                user.act(end, link.now);
+            }
+        }
+    }
+    for side in [0, 1] {
+        assert!(users[side].got == text(1 - side, 0..LENGTH), "{} of {LENGTH} bytes", users[side].got.len());
+        assert_eq!((ends[side].status().ending, ends[side].is_closed()), (Ending::Orderly, true));
+    }
+    link
+}
+
+/// Nothing expires but TIME-WAIT, 4 minutes after the last segment, and all comes in the round trips that it takes: 125,000 bytes at
+/// 20,000 each 40 ms are 7 of them, beside the handshake and the FINs.
+#[test]
+fn a_good_link_needs_no_timer() {
+    let link = carries(0, 0);
+    assert!(link.expired.iter().all(|it| it.2 == Expired::TimeWait), "{:?}", link.expired);
+    let (last, ..) = link.expired[link.expired.len() - 1];
+    let transfer = last.saturating_duration_since(seconds(1000)) - 240 * SECOND;
+    assert!(transfer <= Duration::from_millis(9 * 40), "{transfer:?}");
+}
+
+#[test]
+fn a_lossy_link_that_reorders() {
+    let link = carries(15, 10);
+    assert!(link.expired.iter().any(|it| it.2 == Expired::Reorder));
+    assert!(link.expired.iter().any(|it| it.2 == Expired::Retransmit));
+}
+
+/// RFC 6298, 5.5: the timeout of a second is doubled each time, up to 60; RFC 9293, 3.8.3: a SYN is given up after 3 minutes.
+#[test]
+fn a_syn_that_nobody_answers() {
+    let start = seconds(50);
+    let mut client = Connection::connect(&config(0), &Rules::new(), (ADDRS[1], 2), start).unwrap();
+    let (mut now, mut sent, mut expired) = (start, vec![], vec![]);
+    loop {
+        sent.extend(emitted(&mut client, now).iter().map(|_| now.saturating_duration_since(start).as_secs()));
+        let at = match client.poll_timeout() {
+            Some(at) => at,
+            None => break,
+        };
+        assert_eq!(client.handle_timeout(Time::from_micros(at.as_micros() - 1)), None);
+        now = at;
+        expired.extend(client.handle_timeout(now));
+    }
+    assert_eq!(sent, [0, 1, 3, 7, 15, 31, 63, 123]);
+    assert_eq!(now, start + 180 * SECOND);
+    assert_eq!((expired.len(), expired[0], expired[7]), (8, Expired::Retransmit, Expired::User));
+    assert_eq!((client.is_closed(), client.status().ending), (true, Ending::Aborted));
+    assert_eq!(client.send(now, b"x"), Err(Error::Ended));
+}
+
+/// A longer least timeout, and FIN-WAIT-2 with a limit; both are off the standard's values.
+#[test]
+fn rules_of_the_callers() {
+    let rules = Rules::default().first(3 * SECOND).greatest(5 * SECOND).handshake(None).fin_wait_2(Some(60 * SECOND));
+    let mut ends = pair(&rules, Time::ZERO);
+    let mut now = Time::ZERO;
+    for at in [3, 8, 13, 1000] {
+        assert_eq!(emitted(&mut ends[0], now).len(), 1);
+        now = seconds(at);
+        assert_eq!(ends[0].handle_timeout(now), Some(Expired::Retransmit), "{at}");
+    }
+    exchange(&mut ends, now);
+    ends[0].close(now).unwrap();
+    exchange(&mut ends, now);
+    assert_eq!(ends[0].status().phase, Phase::FinWait2);
+    assert_eq!(ends[0].poll_timeout(), Some(now + 60 * SECOND));
+    assert_eq!(ends[0].handle_timeout(now + 60 * SECOND), Some(Expired::User));
+    assert_eq!(ends[0].status().ending, Ending::Aborted);
+}
+
+/// Between an expiry and its emissions nothing is taken.
+#[test]
+fn what_is_due_goes_out_first() {
+    let mut now = seconds(1);
+    let mut ends = established(now);
+    assert_eq!(ends[0].send(now, &[7; 3000]), Ok(3000));
+    assert_eq!(emitted(&mut ends[0], now).len(), 3);
+    ends[1].send(now, b"late").unwrap();
+    let late = emitted(&mut ends[1], now).remove(0);
+    now = ends[0].poll_timeout().unwrap();
+    assert_eq!(ends[0].handle_timeout(now), Some(Expired::Retransmit));
+    let before = ends[0].status();
+    let mut room = [0; EMIT_ROOM];
+    for _ in 0..3 {
+        assert_eq!(ends[0].handle_segment(now, ADDRS[1], ADDRS[0], &late), Err(EmitFirst));
+        assert_eq!(ends[0].status(), before);
+        assert_eq!(ends[0].handle_timeout(now + 100 * SECOND), None);
+        assert!(ends[0].poll_transmit(now, &mut room).is_some());
+    }
+    assert_eq!(ends[0].poll_transmit(now, &mut room), None);
+    assert_eq!(hand_in(&mut ends[0], 0, now, &[late]), [Arrival::Taken]);
+    let fault: Box<dyn std::error::Error> = Box::new(EmitFirst);
+    assert_eq!(fault.to_string(), "a timer has expired: what is due goes out first");
+}
+
+/// RFC 5681, 3.1: no more is in flight than the window; and what waits lets an acknowledgement go out alone.
+#[test]
+fn a_window_holds_back() {
+    let now = seconds(1);
+    let mut ends = established(now);
+    ends[0].send(now, &text(0, 0..4000)).unwrap();
+    let mut room = [0; EMIT_ROOM];
+    let first = ends[0].poll_transmit_within(now, 1460, &mut room).unwrap();
+    assert_eq!((first.to, first.position, first.count, first.bytes.len()), (ADDRS[1], 1, 1460, 1480));
+    assert_eq!(ends[0].poll_transmit_within(now, 2000, &mut room), None);
+    ends[1].send(now, b"x").unwrap();
+    let other = emitted(&mut ends[1], now);
+    hand_in(&mut ends[0], 0, now, &other);
+    let alone = ends[0].poll_transmit_within(now, 2000, &mut room).unwrap();
+    assert_eq!((alone.position, alone.count, alone.bytes.len()), (1461, 0, 20));
+    assert_eq!(ends[0].poll_transmit_within(now, 2920, &mut room).map(|it| (it.position, it.count)), Some((1461, 1460)));
+    assert_eq!(ends[0].poll_transmit(now, &mut room).map(|it| (it.position, it.count)), Some((2921, 1080)));
+    assert_eq!(ends[0].poll_transmit(now, &mut room), None);
+}
+
+/// A reset in TIME-WAIT counts as lost (RFC 1337, 3).
+#[test]
+fn resets_are_withheld() {
+    let now = seconds(1);
+    let mut ends = established(now);
+    ends[0].send(now, b"old").unwrap();
+    let old = emitted(&mut ends[0], now);
+    hand_in(&mut ends[1], 1, now, &old);
+    ends[0].close(now).unwrap();
+    exchange(&mut ends, now);
+    ends[1].close(now).unwrap();
+    exchange(&mut ends, now);
+    assert_eq!((ends[0].status().phase, ends[1].status().phase), (Phase::TimeWait, Phase::Closed));
+    hand_in(&mut ends[1], 1, now, &old);
+    let reset = emitted(&mut ends[1], now);
+    assert_eq!((reset.len(), reset[0][13] & 4), (1, 4));
+    assert_eq!(hand_in(&mut ends[0], 0, now, &reset), [Arrival::Withheld]);
+    assert_eq!((ends[0].status().phase, ends[0].poll_timeout()), (Phase::TimeWait, Some(now + 240 * SECOND)));
+}
+
+#[test]
+fn reading_where_the_bytes_lie() {
+    let now = seconds(1);
+    let mut ends = established(now);
+    assert!(ends[1].peek().unwrap().is_empty());
+    ends[0].send(now, b"a line\nand more").unwrap();
+    ends[0].close(now).unwrap();
+    exchange(&mut ends, now);
+    let lent = ends[1].peek().unwrap();
+    assert_eq!((lent.first, lent.ends), (&b"a line\nand more"[..], true));
+    assert_eq!(ends[1].consume(now, 7), Ok(7));
+    assert_eq!(ends[1].peek().unwrap().first, b"and more");
+    let mut out = [0; 16];
+    assert_eq!(ends[1].receive(now, &mut out), Ok(Received::Bytes(8)));
+    assert_eq!(ends[1].receive(now, &mut out), Ok(Received::EndOfStream));
+    // Of the two only the one that has closed still waits for bytes, and tells a window.
+    for (side, wanted) in [(0, 1), (1, 0)] {
+        ends[side].acknowledge(now);
+        assert_eq!(emitted(&mut ends[side], now).len(), wanted);
+    }
+}
+
+#[test]
+fn what_calls_refuse() {
+    let now = seconds(1);
+    let mut ends = pair(&Rules::new(), now);
+    assert_eq!(ends[1].send(now, b"x"), Err(Error::NotConnected));
+    exchange(&mut ends, now);
+    ends[0].close(now).unwrap();
+    assert_eq!((ends[0].close(now), ends[0].send(now, b"x")), (Err(Error::Closing), Err(Error::Closing)));
+    ends[0].abort(now).unwrap();
+    assert_eq!((ends[0].abort(now), ends[0].close(now)), (Err(Error::Ended), Err(Error::Ended)));
+    assert_eq!(ends[0].receive(now, &mut []), Err(Error::Ended));
+    // The reset goes out, and no timer runs.
+    let reset = emitted(&mut ends[0], now);
+    assert_eq!((reset.len(), ends[0].poll_timeout()), (1, None));
+    hand_in(&mut ends[1], 1, now, &reset);
+    assert_eq!((ends[1].is_closed(), ends[1].status().ending), (true, Ending::Reset));
+    assert_eq!(ends[1].handle_segment(now, ADDRS[0], ADDRS[1], &[0; 19]).unwrap().arrival, Arrival::Malformed(Malformed::TooShort));
+}
+
+#[test]
+fn what_making_refuses() {
+    let (good, rules) = (config(0), Rules::new());
+    let faults = [
+        (good.capacities(0, 10), rules, Error::BadCapacity),
+        (good.mss(63), rules, Error::BadMss),
+        (good.window_shift(Some(15)), rules, Error::BadShift),
+        (good.limit(0).runs(4097), rules, Error::BadLimit),
+        (good.runs(4097), rules, Error::BadRuns),
+        (Config::new([0; 4], 1, 1), rules, Error::BadAddr),
+        (Config::new(ADDRS[0], 0, 1), rules, Error::BadPort),
+        (good, rules.least(Duration::ZERO), Error::BadRules),
+        (good, rules.least(61 * SECOND), Error::BadRules),
+        (good.mss(63), rules.greatest(Duration::MAX), Error::BadRules),
+    ];
+    let mut block = vec![MaybeUninit::uninit(); connection_memory(20_000, 20_000)];
+    for (config, rules, wanted) in faults {
+        let (peer, now) = ((ADDRS[1], 2), Time::ZERO);
+        assert_eq!(Connection::connect(&config, &rules, peer, now).err(), Some(wanted));
+        assert_eq!(Connection::listen(&config, &rules, now).err(), Some(wanted));
+        assert_eq!(Connection::listen_in(&mut block, &config, &rules, now).err(), Some(wanted));
+        assert_eq!(Connection::connect_in(&mut [], &config, &rules, peer, now).err(), Some(wanted));
+    }
+    for length in (0..good.connection_room() - 31).step_by(17).chain(0..50) {
+        let made = Connection::listen_in(&mut block[..length], &good, &rules, Time::ZERO);
+        assert_eq!(made.err(), Some(Error::NoMemory), "{length}");
+    }
+    assert_eq!(good.runs(4097).connection_room(), 0);
+    assert_eq!((Error::BadRules.number(), Error::BadRules.to_string()), (29, "no timeout can be made from the rules".into()));
+}
+
+/// In blocks of the caller's, wherever they begin; and moved, to another thread, too.
+#[test]
+fn placed_connections_move() {
+    const ROOM: usize = connection_memory(4096, 4096);
+    let rules = Rules::new();
+    for offset in 0..17 {
+        let (mut one, mut two) = ([MaybeUninit::new(0xa5); ROOM + 17], [MaybeUninit::new(0x5a); ROOM + 17]);
+        let [here, there] = [0, 1].map(|side| config(side).capacities(4096, 4096));
+        let client = Connection::connect_in(&mut one[offset..offset + ROOM], &here, &rules, (ADDRS[1], 2), Time::ZERO).unwrap();
+        let server = Connection::listen_in(&mut two[17 - offset..], &there, &rules, Time::ZERO).unwrap();
+        let mut ends = [client, server];
+        exchange(&mut ends, Time::ZERO);
+        ends.reverse();
+        assert!(ends.iter().all(|it| it.status().phase == Phase::Established));
+    }
+    let moved = pair(&rules, Time::ZERO);
+    std::thread::spawn(move || assert!(!moved[0].is_closed())).join().unwrap();
+}
+
+/// Calls in any order, at times that go back or end, with segments that were damaged, come twice or from elsewhere: no call panics, and
+/// what is read is what the other side sent.
+#[test]
+fn any_calls_at_any_times() {
+    let (mut in_all, mut first) = (0, 0);
+    for seed in 1..40 {
+        let mut any = Any(seed * 7_919);
+        let mut ends = pair(&Rules::new().user(Some(SECOND)), Time::ZERO);
+        let (mut seen, mut room, mut out) = (vec![], [0; EMIT_ROOM], [0; 700]);
+        let (mut given, mut read) = ([0, 0], [0, 0]);
+        for _ in 0..3000 {
+            let side = any.below(2) as usize;
+            let now = match any.below(50) {
+                0 => Time::from_micros(u64::MAX - any.below(3)),
+                n => Time::from_micros(any.below(n * 1_000_000)),
+            };
+            match any.below(12) {
+                0..=3 => {
+                    seen.extend(ends[side].poll_transmit_within(now, any.below(30_000), &mut room).map(|it| (side, it.bytes.to_vec())))
+                }
+                4..=6 if !seen.is_empty() => {
+                    let (from, mut bytes) = seen[seen.len() - 1 - any.below(seen.len().min(8) as u64) as usize].clone();
+                    if any.below(4) == 0 {
+                        let at = any.below(bytes.len() as u64) as usize;
+                        bytes[at] ^= 1 << any.below(8);
+                    }
+                    let (src, dst) = if any.below(8) > 0 { (ADDRS[from], ADDRS[1 - from]) } else { (ADDRS[side], [0; 4]) };
+                    first += u32::from(ends[side].handle_segment(now, src, dst, &bytes).is_err());
+                }
+                7 => drop(ends[side].handle_timeout(now)),
+                8 => given[side] += ends[side].send(now, &text(side, given[side]..given[side] + 500)).unwrap_or(0),
+                9 => {
+                    if let Ok(Received::Bytes(count)) = ends[side].receive(now, &mut out) {
+                        assert_eq!(out[..count], text(1 - side, read[side]..read[side] + count));
+                        read[side] += count;
+                    }
+                    assert!(read[side] <= given[1 - side]);
+                }
+                10 => ends[side].acknowledge(now),
+                _ if any.below(200) == 0 => drop(ends[side].close(now)),
+                _ => assert!(ends[side].consume(now, 0).map_or(true, |taken| taken == 0)),
+            }
+        }
+        in_all += read[0] + read[1];
+    }
+    // The calls have met both.
+    assert!(in_all > 0 && first > 0);
+}

@@ -1,0 +1,178 @@
+
+/* Connections: their calls by the module's, as those of ends. */
+
+/* crates/tcp_c: the mark of a handle that holds a connection, and how many bytes of the block it takes from its address on. */
+#define MARK_OF_CONNECTION UINT64_C(0x764350526174746c)
+#define CONNECTION_SIZE 720
+#define CONNECTION_MARK UINT32_C(0x70636f6e)
+
+static const u8 OF_CONNECTION_RULES[] = {8, 8, 8, 8, 8, 8, 8, 8, 8, 4, 0};
+static const u8 OF_CONNECTION_SEGMENT[] = {8, 8, 8, 1, 1, 1, 1, 0};
+
+#define WITH_CONNECTION(handle) \
+    struct call call; \
+    begin_as(&call, handle, CONNECTION_MARK, MARK_OF_CONNECTION, CONNECTION_SIZE)
+#define END_OF_CONNECTION(handle) end_as(&call, handle, CONNECTION_MARK, MARK_OF_CONNECTION)
+#define ANSWER_OF_CONNECTION(handle, made) \
+    uint32_t answer = made; \
+    END_OF_CONNECTION(handle); \
+    return answer
+
+/* What a connection is made from. */
+STEP void put_making(struct call *call, struct block block, const tcpcore_config *config, const struct tcpcore_connection_rules *rules)
+{
+    if (get64(call->frame + AT_HANDLE) != MARK_OF_CONNECTION)
+        see(call, IN_BLOCK, block.at, block.size);
+    carry_record(call->frame + AT_RECORD, config, OF_CONFIG);
+    carry_record(call->frame + AT_RULES, rules, OF_CONNECTION_RULES);
+    put64(call->frame + AT_BLOCK, WINDOW(IN_BLOCK));
+    put64(call->frame + AT_BLOCK + 8, length_of(block.size) / UNIT * UNIT);
+}
+
+static uint32_t tcp_c_connection_connect(struct handle *handle, struct block block, const tcpcore_config *config,
+                                         const struct tcpcore_connection_rules *rules, const tcpcore_addr *addr, uint16_t port,
+                                         uint64_t now)
+{
+    WITH_CONNECTION(handle);
+    put_making(&call, block, config, rules);
+    put_addr(&call, AT_DST, addr);
+    ANSWER_OF_CONNECTION(handle, w2c_tcp_c_connection_connect(M, AT_HANDLE, AT_BLOCK, AT_RECORD, AT_RULES, AT_DST, port, now));
+}
+
+static uint32_t tcp_c_connection_listen(struct handle *handle, struct block block, const tcpcore_config *config,
+                                        const struct tcpcore_connection_rules *rules, uint64_t now)
+{
+    WITH_CONNECTION(handle);
+    put_making(&call, block, config, rules);
+    ANSWER_OF_CONNECTION(handle, w2c_tcp_c_connection_listen(M, AT_HANDLE, AT_BLOCK, AT_RECORD, AT_RULES, now));
+}
+
+static size_t tcp_c_connection_room(const tcpcore_config *config)
+{
+    struct call call;
+    begin(&call);
+    carry_record(call.frame + AT_RECORD, config, OF_CONFIG);
+    return (size_t)w2c_tcp_c_connection_room(M, AT_RECORD);
+}
+
+static uint32_t tcp_c_connection_free(struct handle *handle)
+{
+    WITH_CONNECTION(handle);
+    ANSWER_OF_CONNECTION(handle, w2c_tcp_c_connection_free(M, AT_HANDLE));
+}
+
+static uint32_t tcp_c_connection_poll_at(struct handle *handle, uint64_t *at)
+{
+    WITH_CONNECTION(handle);
+    put64(call.frame + AT_FOUND, 0);
+    uint32_t answer = w2c_tcp_c_connection_poll_at(M, AT_HANDLE, AT_FOUND);
+    *at = get64(call.frame + AT_FOUND);
+    END_OF_CONNECTION(handle);
+    return answer;
+}
+
+static uint32_t tcp_c_connection_timeout(struct handle *handle, uint64_t now, uint32_t *timer)
+{
+    WITH_CONNECTION(handle);
+    put32(call.frame + AT_FOUND, 0);
+    uint32_t answer = w2c_tcp_c_connection_timeout(M, AT_HANDLE, now, AT_FOUND);
+    *timer = get32(call.frame + AT_FOUND);
+    END_OF_CONNECTION(handle);
+    return answer;
+}
+
+static uint32_t tcp_c_connection_arrive(struct handle *handle, uint64_t now, const tcpcore_addr *src, const tcpcore_addr *dst,
+                                        const uint8_t *bytes, size_t length, struct tcpcore_arrive_report *taken)
+{
+    WITH_CONNECTION(handle);
+    put_segment(&call, src, dst, bytes, length);
+    carry_record(call.frame + AT_RECORD, taken, OF_ARRIVE_REPORT);
+    uint32_t answer = w2c_tcp_c_connection_arrive(M, AT_HANDLE, now, AT_SRC, AT_DST, WINDOW(IN_READ), length_of(length), AT_RECORD);
+    carry_record(taken, call.frame + AT_RECORD, OF_ARRIVE_REPORT);
+    END_OF_CONNECTION(handle);
+    return answer;
+}
+
+static uint32_t tcp_c_connection_emit(struct handle *handle, uint64_t now, uint64_t window, uint8_t *out, size_t room,
+                                      struct tcpcore_connection_segment *segment)
+{
+    WITH_CONNECTION(handle);
+    see(&call, IN_WRITTEN, out, room);
+    carry_record(call.frame + AT_RECORD, segment, OF_CONNECTION_SEGMENT);
+    uint32_t answer = w2c_tcp_c_connection_emit(M, AT_HANDLE, now, window, WINDOW(IN_WRITTEN), length_of(room), AT_RECORD);
+    carry_record(segment, call.frame + AT_RECORD, OF_CONNECTION_SEGMENT);
+    END_OF_CONNECTION(handle);
+    return answer;
+}
+
+static uint32_t tcp_c_connection_send(struct handle *handle, uint64_t now, const uint8_t *text, size_t length, size_t *taken)
+{
+    WITH_CONNECTION(handle);
+    see(&call, IN_READ, text, length);
+    put64(call.frame + AT_FOUND, 0);
+    uint32_t answer = w2c_tcp_c_connection_send(M, AT_HANDLE, now, WINDOW(IN_READ), length_of(length), AT_FOUND);
+    *taken = (size_t)get64(call.frame + AT_FOUND);
+    END_OF_CONNECTION(handle);
+    return answer;
+}
+
+static uint32_t tcp_c_connection_receive(struct handle *handle, uint64_t now, uint8_t *out, size_t room, size_t *count)
+{
+    WITH_CONNECTION(handle);
+    see(&call, IN_WRITTEN, out, room);
+    put64(call.frame + AT_FOUND, 0);
+    uint32_t answer = w2c_tcp_c_connection_receive(M, AT_HANDLE, now, WINDOW(IN_WRITTEN), length_of(room), AT_FOUND);
+    *count = (size_t)get64(call.frame + AT_FOUND);
+    END_OF_CONNECTION(handle);
+    return answer;
+}
+
+static uint32_t tcp_c_connection_peek(struct handle *handle, struct lent *lent)
+{
+    WITH_CONNECTION(handle);
+    carry_record(call.frame + AT_RECORD, lent, OF_LENT);
+    uint32_t answer = w2c_tcp_c_connection_peek(M, AT_HANDLE, AT_RECORD);
+    carry_record(lent, call.frame + AT_RECORD, OF_LENT);
+    lent->first = lent_at(&call, lent->first);
+    lent->second = lent_at(&call, lent->second);
+    END_OF_CONNECTION(handle);
+    return answer;
+}
+
+static uint32_t tcp_c_connection_consume(struct handle *handle, uint64_t now, size_t count, size_t *taken)
+{
+    WITH_CONNECTION(handle);
+    put64(call.frame + AT_FOUND, 0);
+    uint32_t answer = w2c_tcp_c_connection_consume(M, AT_HANDLE, now, count, AT_FOUND);
+    *taken = (size_t)get64(call.frame + AT_FOUND);
+    END_OF_CONNECTION(handle);
+    return answer;
+}
+
+static uint32_t tcp_c_connection_acknowledge(struct handle *handle, uint64_t now)
+{
+    WITH_CONNECTION(handle);
+    ANSWER_OF_CONNECTION(handle, w2c_tcp_c_connection_acknowledge(M, AT_HANDLE, now));
+}
+
+static uint32_t tcp_c_connection_close(struct handle *handle, uint64_t now)
+{
+    WITH_CONNECTION(handle);
+    ANSWER_OF_CONNECTION(handle, w2c_tcp_c_connection_close(M, AT_HANDLE, now));
+}
+
+static uint32_t tcp_c_connection_abort(struct handle *handle, uint64_t now)
+{
+    WITH_CONNECTION(handle);
+    ANSWER_OF_CONNECTION(handle, w2c_tcp_c_connection_abort(M, AT_HANDLE, now));
+}
+
+static uint32_t tcp_c_connection_status(struct handle *handle, struct tcpcore_status *status)
+{
+    WITH_CONNECTION(handle);
+    carry_record(call.frame + AT_RECORD, status, OF_STATUS);
+    uint32_t answer = w2c_tcp_c_connection_status(M, AT_HANDLE, AT_RECORD);
+    carry_record(status, call.frame + AT_RECORD, OF_STATUS);
+    END_OF_CONNECTION(handle);
+    return answer;
+}

@@ -1,0 +1,293 @@
+"""What tcpcore.Connection does: it sends what an End sends, its timers expire when RFC 6298 and RFC 9293 say, no order of calls goes wrong, and
+wrong calls are refused or raise, without a fault. python3 connections.py"""
+
+import copy
+import os
+import pickle
+import random
+import sys
+
+sys.path.insert(0, os.path.dirname(os.path.dirname(os.path.realpath(__file__))))
+import tcpcore  # noqa: E402
+from tcpcore import Answer, Brought, Config, Connection, Emission, End, Ending, Lent, Phase, Refused, Rule, Rules, Timer  # noqa: E402
+
+A, B = bytes([10, 0, 0, 1]), bytes([10, 0, 0, 2])
+CONFIGS = Config(A, 1, 1000, mss=1000), Config(B, 2, 5000, mss=1000)
+checks = 0
+
+
+def check(found, wanted):
+    global checks
+    checks += 1
+    if found != wanted:
+        sys.exit(f"connections.py: check {checks}: {found!r:.500}, not {wanted!r:.500}")
+
+
+def raised(kind, call, *args, **words):
+    """The text of the fault of this kind that the call raises."""
+    try:
+        call(*args, **words)
+    except kind as fault:
+        return str(fault)
+    return "nothing"
+
+
+def carry(now, source, src, target):
+    """Delivers all that is due: the answers."""
+    return [target.arrive(now, src, to, segment) for to, segment in source.emit_all(now)]
+
+
+def pair(now=0.0, rules=Rules()):
+    """Two connections that are open."""
+    b = Connection.listen(now, CONFIGS[1], rules)
+    a = Connection.connect(now, CONFIGS[0], B, 2, rules)
+    check(carry(now, a, A, b) + carry(now, b, B, a) + carry(now, a, A, b), [Answer.DONE] * 3)
+    check((a.status().phase, b.status().phase), (Phase.ESTABLISHED, Phase.ESTABLISHED))
+    return a, b
+
+
+class Timed:
+    """An End with a Connection's calls; none of its timers expires."""
+
+    def __init__(self, config, peer=None):
+        self.end = End(config)
+        self.end.listen() if peer is None else self.end.connect(*peer)
+
+    def __getattr__(self, name):
+        call = getattr(self.end, name)
+        return call if name in ("status", "peek") else lambda now, *args: call(*args)
+
+
+def as_end():
+    """Where no timer expires the segments, the bytes and the states are an End's."""
+    told = []
+    for kind in (Timed, lambda config, peer=None: Connection(0.0, config, peer)):
+        found, ends = [], (kind(CONFIGS[0], (B, 2)), kind(CONFIGS[1]))
+        chance = random.Random(5)
+        for turn in range(60):
+            side, now = turn % 2, turn / 1000
+            end, other = ends[side], ends[1 - side]
+            if turn > 3 and turn < 50:
+                found.append(end.send(now, chance.randbytes(chance.randrange(4000))))
+            if turn in (50, 53):
+                end.close(now)
+            for to, segment in end.emit_all(now):
+                found += [to, segment, other.arrive(now, (A, B)[side], to, segment)]
+            unread = other.peek()
+            if unread is not None and not unread.ends:
+                found.append(other.consume(now, chance.randrange(3000)))
+            found += [unread, other.receive(now), other.receive(now), end.status(), other.status()]
+        told.append(found)
+    check(told[0], told[1])
+    # The side that closed last is done (RFC 9293, 3.6).
+    check((told[1][-2].phase, told[1][-1].phase), (Phase.CLOSED, Phase.TIME_WAIT))
+
+
+def expiries(connection, count):
+    """When so many timers expire, and which, without a peer."""
+    found = []
+    for _ in range(count):
+        now = connection.poll_at()
+        if now is None:
+            break
+        check(connection.timeout(now - 0.000001), None)
+        found.append((now, connection.timeout(now)))
+        connection.emit_all(now)
+    return found
+
+
+def timeouts():
+    # RFC 6298, 5.5: twice the time after each, to 60 s; RFC 9293, 3.8.3: three minutes for a SYN.
+    resent = [(float(at), Timer.RETRANSMIT) for at in (1, 3, 7, 15, 31, 63, 123)]
+    a = Connection.connect(0.0, CONFIGS[0], B, 2)
+    a.emit_all(0.0)
+    check(expiries(a, 100), resent + [(180.0, Timer.USER)])
+    check((a.status().phase, a.status().ending, a.poll_at()), (Phase.CLOSED, Ending.ABORTED, None))
+    # The beginning of time is anywhere; 100 days on a float has still 1 ns.
+    a = Connection.connect(8_640_000.25, CONFIGS[0], B, 2, Rules(first=0.5, least=0.25, greatest=2.0, handshake=None))
+    a.emit_all(8_640_000.25)
+    found = [at - 8_640_000.25 for at, _ in expiries(a, 6)]
+    check(found, [0.5, 1.5, 3.5, 5.5, 7.5, 9.5])
+    check(Connection.listen(0.0, CONFIGS[1]).poll_at(), None)
+    # RFC 6298, 2.2: after a first round trip of no time the timeout is the least.
+    a, _ = pair()
+    check((a.send(5.0, b"x"), len(a.emit_all(5.0)), a.poll_at()), (1, 1, 6.0))
+    check(expiries(a, 100)[-1], (305.0, Timer.USER))
+    a, _ = pair(rules=Rules(user=20.0))
+    check((a.send(5.0, b"x"), len(a.emit_all(5.0))), (1, 1))
+    check(expiries(a, 100)[-1], (25.0, Timer.USER))
+    a, b = pair(rules=Rules(fin_wait_2=10.0))
+    a.close(1.0)
+    check((carry(1.0, a, A, b), carry(1.0, b, B, a), a.poll_at()), ([Answer.DONE], [Answer.DONE], 11.0))
+    check((expiries(a, 2), a.status().ending), ([(11.0, Timer.USER)], Ending.ABORTED))
+
+
+def time_wait():
+    """RFC 9293, 3.4.2, and RFC 1337, 3."""
+    a, b = pair(rules=Rules(time_wait=2.5))
+    a.close(1.0)
+    check(carry(1.0, a, A, b) + carry(1.0, b, B, a), [Answer.DONE] * 2)
+    b.close(1.5)
+    check(carry(1.5, b, B, a) + carry(1.5, a, A, b), [Answer.DONE] * 2)
+    check((a.status().phase, b.status().phase, b.status().ending), (Phase.TIME_WAIT, Phase.CLOSED, Ending.ORDERLY))
+    check(a.arrive(2.0, B, A, bytes(13) + b"\4" + bytes(6)), Answer.WITHHELD)
+    check((a.poll_at(), expiries(a, 5), a.status().ending), (4.0, [(4.0, Timer.TIME_WAIT)], Ending.ORDERLY))
+    check((a.receive(5.0), b.receive(5.0)), (b"", b""))
+
+
+def orders():
+    """A segment that comes between a timer's expiry and its emissions: they are handed over first, as where the user emits in between."""
+    told = []
+    for emits in (True, False):
+        a, b = pair()
+        check((a.send(0.0, bytes(2500)), len(a.emit_all(0.0))), (2500, 3))
+        check((b.send(0.0, b"text"), a.timeout(1.0)), (4, Timer.RETRANSMIT))
+        found = a.emit_all(1.0) if emits else []
+        to, segment = b.emit(1.0)
+        check(a.arrive(1.0, B, to, segment), Answer.DONE)
+        found += a.emit_all(1.0)
+        told.append((found, a.status(), a.poll_at(), a.receive(1.0)))
+    check(told[0], told[1])
+    check(len(told[0][0]) >= 2, True)
+    # It is freed with such segments: nothing comes of them.
+    a, b = pair()
+    check((a.send(0.0, b"x"), len(a.emit_all(0.0)), b.send(0.0, b"y"), a.timeout(1.0)), (1, 1, 1, Timer.RETRANSMIT))
+    check(a.arrive(1.0, B, *b.emit(1.0)), Answer.DONE)
+    a.free()
+    check(raised(Refused, a.emit, 1.0), "no end is in the struct")
+
+
+def reports():
+    a = Connection.connect(0.0, CONFIGS[0], "10.0.0.2", 2)
+    b = Connection.listen(0.0, CONFIGS[1])
+    # Of a SYN options take 8 bytes: the MSS, and that blocks are permitted.
+    told, segment = a.transmit(0.0)
+    check((told, len(segment), a.transmit(0.0)), (Emission(B, 28, 0, 1), 28, None))
+    answer, report = b.arrive_with_report(0.0, A, B, segment)
+    check((answer, report.rule, report.brought), (Answer.DONE, Rule.PEER_OPENS, Brought.NOTHING))
+    check(carry(0.0, b, B, a) + carry(0.0, a, A, b), [Answer.DONE] * 2)
+    for kind in (bytes, bytearray, memoryview):
+        at = a.status().snd_nxt
+        check(a.send(0.0, kind(b"hello")), 5)
+        told, segment = a.transmit(0.0)
+        check((told, len(segment)), (Emission(B, 25, at, 5), 25))
+        answer, report = b.arrive_with_report(0.0, A, B, kind(segment))
+        check((answer, report.rule, report.brought, b.receive(0.0)), (Answer.DONE, Rule.TAKEN, Brought.IN_ORDER, b"hello"))
+    check(b.arrive(0.0, A, B, b"x").text, "a segment of fewer than 20 bytes")
+    check((b.arrive(0.0, B, A, segment), b.arrive(0.0, A, A, segment)), (Answer.NOT_MINE, Answer.BAD_CHECKSUM))
+    b.acknowledge(0.0)
+    check(carry(0.0, b, B, a), [Answer.DONE])
+    check(a.status().released, 15)
+    check((a.send(0.0, b"a line"), carry(0.0, a, A, b), b.peek()), (6, [Answer.DONE], Lent(b"a line", False)))
+    check((b.consume(0.0, 2), b.peek(), b.consume(0.0, 9), b.peek()), (2, Lent(b"line", False), 4, None))
+    check(raised(ValueError, b.consume, 0.0, -1)[:12], "the count is")
+
+
+def windows():
+    """Congestion control's window: what ends past it waits (RFC 5681, 3.1)."""
+    a, b = pair()
+    check(a.send(0.0, bytes(10_000)), 10_000)
+    a.window = 2000
+    check([len(segment) for _, segment in a.emit_all(0.0)], [1020, 1020])
+    a.window = 3500
+    check([len(segment) for _, segment in a.emit_all(0.0)], [1020])
+    a.window = None
+    check(len(a.emit_all(0.0)), 7)
+    a.window = 2.5
+    check(raised(TypeError, a.emit, 0.0), "'float' object cannot be interpreted as an integer")
+    a.window = -1
+    check("the window is -1" in raised(ValueError, a.emit, 0.0), True)
+
+
+def times():
+    chance = random.Random(1)
+    for _ in range(3000):
+        at = chance.randrange(1 << chance.randrange(1, 52))
+        check(tcpcore.microseconds(at / 1e6), at)
+    a, _ = pair(now=7.0)
+    for wrong in (float("nan"), float("inf"), -1e-9, 1e300, 1 << 80):
+        for call in (a.timeout, a.receive, a.emit, a.close, a.acknowledge, a.emit_all, a.transmit):
+            check(raised(ValueError, call, wrong)[:12], "the time is ")
+    for wrong in (None, "1", b"1", [], 1j):
+        check(raised(TypeError, a.timeout, wrong) != "nothing", True)
+    # A time that goes back is the latest before it.
+    check((a.send(7.0, b"x"), len(a.emit_all(2.0)), a.poll_at()), (1, 1, 8.0))
+    check((a.timeout(7.5), a.timeout(8), a.timeout(8.0)), (None, Timer.RETRANSMIT, None))
+
+
+def refusals():
+    for rules in (Rules(least=0.0), Rules(least=2.0, greatest=1.0), Rules(greatest=2e6)):
+        check(raised(Refused, Connection.listen, 0.0, CONFIGS[1], rules), "no timeout can be made from the rules")
+    check("-1" in raised(ValueError, Connection.listen, 0.0, CONFIGS[1], Rules(user=-1)), True)
+    check("isn't from 0" in raised(ValueError, Connection.listen, 0.0, CONFIGS[1], Rules(suspect_after=1 << 32)), True)
+    check("isn't from 0" in raised(ValueError, Connection.connect, 0.0, CONFIGS[0], B, 1 << 16), True)
+    check("4 bytes" in raised(ValueError, Connection.connect, 0.0, CONFIGS[0], b"123", 2), True)
+    check("room" in raised(ValueError, Connection.listen, 0.0, CONFIGS[1], room=0), True)
+    check(raised(Refused, Connection.listen, 0.0, CONFIGS[1]._replace(mss=1)), "the maximum segment size isn't from 64 to 1,460 bytes")
+    check(raised(Refused, Connection.connect, 0.0, CONFIGS[0]._replace(port=0), B, 2), "the port is 0")
+    check("window_shift" in raised(AttributeError, Connection.listen, 0.0, None), True)
+    b = Connection.listen(0.0, CONFIGS[1])
+    check(raised(Refused, b.send, 0.0, b"x"), tcpcore.strerror(Answer.NOT_CONNECTED))
+    for call in (copy.copy, copy.deepcopy, pickle.dumps):
+        check(raised(TypeError, call, b)[:19], "a connection can't ")
+    with Connection.connect(0.0, CONFIGS[0], B, 2) as a:
+        check(a.status().phase, Phase.SYN_SENT)
+    calls = [(a.poll_at,), (a.timeout, 0.0), (a.arrive, 0.0, A, B, b""), (a.transmit, 0.0), (a.emit, 0.0), (a.emit_all, 0.0), (a.send, 0.0, b"")]
+    calls += [(a.receive, 0.0), (a.peek,), (a.consume, 0.0, 1), (a.acknowledge, 0.0), (a.close, 0.0), (a.abort, 0.0), (a.status,), (a.free,)]
+    for call, *args in calls:
+        check(raised(Refused, call, *args), "no end is in the struct")
+    a, b = pair()
+    a.abort(1.0)
+    check(carry(1.0, a, A, b), [Answer.DONE])
+    check((a.status().ending, b.status().ending), (Ending.ABORTED, Ending.RESET))
+    check(raised(Refused, b.send, 1.0, b"x"), tcpcore.strerror(Answer.ENDED))
+    check(raised(Refused, b.receive, 1.0), tcpcore.strerror(Answer.ENDED))
+
+
+ODD = (None, -1, 0, 1 << 70, 0.5, float("nan"), "x", "10.0.0.1", b"", bytes(20), bytes(70_000), [], {}, object(), A, B, memoryview(b"abcdef")[::2])
+
+
+def hostile():
+    """Any calls with any arguments: refused, or raised as a fault of the arguments."""
+    chance = random.Random(11)
+    names = ("poll_at", "timeout", "arrive", "arrive_with_report", "transmit", "emit", "emit_all", "send", "receive", "peek", "consume", "acknowledge", "close", "abort", "status", "free")
+    faults, done = (Refused, ValueError, TypeError), 0
+    for turn in range(400):
+        now, ends = 0.0, list(pair())
+        segments = [bytes(20)]
+        for _ in range(40):
+            end, name = chance.choice(ends), chance.choice(names if turn % 4 else names[:-1])
+            now += chance.choice((0, 0.01, 1.0))
+            if name.startswith("arrive"):
+                segment = bytearray(chance.choice(segments))
+                if chance.random() < 0.5:
+                    segment[chance.randrange(len(segment))] ^= 1 << chance.randrange(8)
+                right = [now, *chance.choice(((A, B), (B, A))), segment]
+            else:
+                right = {"send": [now, bytes(chance.randrange(3000))], "consume": [now, chance.randrange(3000)], "poll_at": [], "peek": [], "status": [], "free": []}.get(name, [now])
+            args = [chance.choice(ODD) if chance.random() < 0.15 else arg for arg in right]
+            try:
+                found = getattr(end, name)(*args)
+                done += 1
+                if name in ("emit", "transmit") and found is not None:
+                    segments.append(found[1])
+            except faults:
+                pass
+    check(done > 5000, True)
+
+
+def main():
+    as_end()
+    timeouts()
+    time_wait()
+    orders()
+    reports()
+    windows()
+    times()
+    refusals()
+    hostile()
+    print(f"connections.py: {checks} checks")
+
+
+if __name__ == "__main__":
+    main()
