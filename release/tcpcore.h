@@ -25,14 +25,16 @@
  *      segment due only where it stood at 0, and a peer that finds it too small waits for a timer of its own: read all that
  *      is there, or call tcpcore_acknowledge where the window has grown by the smaller of a segment and half the
  *      recv_capacity since it was advertised (RFC 9293, 3.8.6.2.2).
- *   5. Keep real time. tcpcore_timers says which timers have to run. When one has run out call tcpcore_timer, and then emit:
+ *   5. Keep real time: a connection, below, does it by itself, with measured round trips. For a plain end tcpcore_timers says which timers
+ *      have to run. When one has run out call tcpcore_timer, and then emit:
  *
  *      timer                     starts                starts anew                       takes
  *      TCPCORE_TIMER_RETRANSMIT  when its bit is set   when `snd_una` has grown, and after   1 second at first, then what
  *                                                      each run-out, with twice the      measured round trips say, 1 to
  *                                                      time                              60 seconds (RFC 6298)
- *      TCPCORE_TIMER_REORDER     when its bit is set   when anything is sent again, and  one round trip; never leave it
- *                                                      after each run-out                out
+ *      TCPCORE_TIMER_REORDER     when its bit is set   when `snd_una` has grown, when    one round trip; never leave it
+ *                                                      anything is sent again, and       out
+ *                                                      after each run-out
  *      TCPCORE_TIMER_TIME_WAIT   when its bit is set   when a segment that arrives is    two maximum segment lifetimes, 4
  *                                                      answered: the peer's FIN came     minutes (RFC 9293, 3.4.2)
  *                                                      again (RFC 9293, 3.10.7.4)
@@ -63,14 +65,16 @@
  * MEMORY
  *   The library takes no memory from anywhere: an end lies in a block that the caller hands to tcpcore_new, all of it, and no
  *   call asks for more. tcpcore_new_at puts the struct there, too. Any block will do, static or from malloc, of any
- *   alignment. tcpcore_room says how many bytes are enough, and TCPCORE_MEMORY(send, receive) the same as a constant: the
- *   two capacities, each in whole units of 16 bytes, what the end takes beside them, and 15 bytes for a block that doesn't
- *   begin at a multiple of 16. That these are enough is measured by the tests (tests/room.c), not proved. The linker is
+ *   alignment. tcpcore_room says how many bytes are enough, and TCPCORE_MEMORY(send, receive) the same as a constant, or
+ *   TCPCORE_MEMORY_RUNS(send, receive, runs) where the config has `runs`: the two capacities, each in whole units of 16 bytes,
+ *   16 bytes for each run, what the end takes beside them, and 15 bytes for a block that doesn't begin at a multiple of 16.
+ *   That these are enough is measured by the tests (tests/room.c), not proved. The linker is
  *   asked for memcpy, memmove and memset alone.
  *
  * STACK
- *   A call takes less than TCPCORE_STACK bytes. That isn't proved: the tests read it from the disassembly (tests/depth.py:
- *   nothing calls through a pointer, and nothing calls itself) and measure it (tests/stack.c).
+ *   A call takes less than TCPCORE_STACK bytes, and one that makes a connection less than TCPCORE_CONNECTION_STACK. That isn't
+ *   proved: the tests read it from the disassembly (tests/depth.py: nothing calls through a pointer, and nothing calls itself)
+ *   and measure it (tests/stack.c).
  *
  * THREADS
  *   None is started. One end is used by one thread at a time: two calls of one end at once are undefined behaviour and
@@ -126,7 +130,7 @@ extern "C" {
 #endif
 
 /* The version of this header: it grows with each change of a struct, a call or an answer. */
-#define TCPCORE_VERSION 10
+#define TCPCORE_VERSION 11
 
 /* The answers; tcpcore_strerror has a text for each. */
 enum {
@@ -154,6 +158,8 @@ enum {
     TCPCORE_BAD_LIMIT = 25,    /* the limit isn't from 1 to 2^62 */
     TCPCORE_BAD_ADDR = 26,     /* the address is 0.0.0.0, which no end has (RFC 1122, 3.2.1.3) */
     TCPCORE_BAD_PORT = 27,     /* the port is 0, which no end has (RFC 6335, 6) */
+    TCPCORE_BAD_RUNS = 28,     /* the number of runs is above TCPCORE_MAX_RUNS */
+    TCPCORE_BAD_RULES = 29,    /* no timeout can be made from the rules of a connection */
     /* The boundary refuses; nothing changed. */
     TCPCORE_NO_END = 31,    /* no end is in the struct: never made, or freed */
     TCPCORE_IN_USE = 32,    /* tcpcore_new: the struct holds an end already */
@@ -167,11 +173,15 @@ enum {
     /* The call was made and found this. */
     TCPCORE_NOTHING = 51,       /* tcpcore_receive: nothing to read yet */
     TCPCORE_END_OF_STREAM = 52, /* tcpcore_receive: the peer closed, and all its bytes were delivered */
-    TCPCORE_NOT_DUE = 53,       /* no segment is due; tcpcore_stray_reset: no reset answers the bytes */
+    TCPCORE_NOT_DUE = 53,       /* no segment is due; tcpcore_stray_reset: no reset answers the bytes; tcpcore_connection_timeout: no timer has
+                                   expired */
     TCPCORE_NO_RULE = 54,       /* tcpcore_timer: the timer's bit was clear; nothing changed */
     TCPCORE_DROPPED = 55,       /* an arrival: the segment was dropped; an answer to it may be due */
     TCPCORE_NOT_MINE = 56,      /* an arrival: the segment is another connection's; nothing changed */
-    TCPCORE_NOT_TIME_WAIT = 57    /* tcpcore_time_wait: the end isn't in TIME-WAIT, or has bytes unread */
+    TCPCORE_NOT_TIME_WAIT = 57,   /* tcpcore_time_wait: the end isn't in TIME-WAIT, or has bytes unread */
+    TCPCORE_EMIT_FIRST = 58,    /* tcpcore_connection_arrive: a timer has expired, and what was due then has to go out first; nothing
+                                   changed: emit until TCPCORE_NOT_DUE, and hand the segment in again */
+    TCPCORE_WITHHELD = 59       /* tcpcore_connection_arrive: a reset that counts as lost; nothing changed, and nothing is to be done */
 };
 
 /* The phases (RFC 9293, 3.3.2). */
@@ -201,12 +211,20 @@ enum {
 enum {
     TCPCORE_TIMER_RETRANSMIT = 0, /* the retransmission timeout (RFC 9293, 3.8.1) */
     TCPCORE_TIMER_REORDER = 1,    /* what the peer's blocks passed over is taken for lost */
-    TCPCORE_TIMER_TIME_WAIT = 2   /* the TIME-WAIT timeout (RFC 9293, 3.10.8) */
+    TCPCORE_TIMER_TIME_WAIT = 2,  /* the TIME-WAIT timeout (RFC 9293, 3.10.8) */
+    TCPCORE_TIMER_USER = 3        /* of a connection alone: the user timeout (RFC 9293, 3.8.3), or the limit of FIN-WAIT-2 */
 };
 
-/* How many bytes of a block are enough for an end of these capacities, wherever the block begins. */
+/* How many runs an end keeps where the config has 0, and the greatest number: see `runs` of tcpcore_config. */
+#define TCPCORE_RUNS 128
+#define TCPCORE_MAX_RUNS 4096
+
+/* How many bytes of a block are enough for an end of these capacities, wherever the block begins: with this number of runs, 1 or more,
+   and with TCPCORE_RUNS. */
 #define TCPCORE_UNITS(size) (((size_t)(size) + 15) / 16 * 16)
-#define TCPCORE_MEMORY(send, receive) (TCPCORE_UNITS(send) + TCPCORE_UNITS(receive) + 704 + 15)
+#define TCPCORE_MEMORY_RUNS(send, receive, runs) \
+    (TCPCORE_UNITS(send) + TCPCORE_UNITS(receive) + 2 * TCPCORE_UNITS(8 * (size_t)(runs)) + 416 + 15)
+#define TCPCORE_MEMORY(send, receive) TCPCORE_MEMORY_RUNS(send, receive, TCPCORE_RUNS)
 
 /* How much more of a block tcpcore_new_at wants, in bytes, than tcpcore_new: TCPCORE_MEMORY(send, receive) + TCPCORE_STRUCT_ROOM,
    or tcpcore_room(config) + TCPCORE_STRUCT_ROOM. */
@@ -214,7 +232,11 @@ enum {
 
 /* The bytes of stack that a call takes at most; and of the portable file, on any machine that it was tried on. */
 #define TCPCORE_STACK 2048
-#define TCPCORE_PORTABLE_STACK 4096
+#define TCPCORE_PORTABLE_STACK 6144
+
+/* The bytes of stack that tcpcore_connection_connect and tcpcore_connection_listen take at most; a connection's other calls take less
+   than TCPCORE_STACK. */
+#define TCPCORE_CONNECTION_STACK 4096
 
 /* The room that tcpcore_emit wants, in bytes: more than the longest segment of an end. */
 #define TCPCORE_EMIT_ROOM 1520
@@ -278,14 +300,20 @@ typedef struct tcpcore_config {
     /* Whether this end permits selective acknowledgement (RFC 2018, 2): 0 is no, anything else yes. */
     uint8_t sack;
     unsigned int : 8;
-    unsigned int : 32;
+    /* The most runs of bytes that are kept out of order (RFC 9293, 3.10.7.4), and the most runs of the peer's blocks that
+       are remembered (RFC 2018, 5), from 1 to TCPCORE_MAX_RUNS; 0 is TCPCORE_RUNS. What would be one run more is dropped,
+       and has to be sent again. A path that reorders makes about one for each five segments that it carries in the time of
+       its jitter. Each takes 16 bytes of the block. */
+    uint16_t runs;
+    unsigned int : 16;
 } tcpcore_config;
 
-/* A config with an MSS of 1,460 bytes, 65,535 bytes each way, selective acknowledgement, TCPCORE_LIMIT, and windows that aren't scaled:
+/* A config with an MSS of 1,460 bytes, 65,535 bytes each way, selective acknowledgement, TCPCORE_LIMIT, TCPCORE_RUNS, and windows that
+   aren't scaled:
        tcpcore_config config = TCPCORE_CONFIG_DEFAULT;
    and then the address, the port and the initial sequence number, which have no default. Without address or port no end is made; an initial
    sequence number of 0 is one like any other, so that one that was forgotten isn't found. */
-#define TCPCORE_CONFIG_DEFAULT {{{0, 0, 0, 0}}, 0, 1460, 0, 65535, 65535, TCPCORE_LIMIT, 0, 0, 1}
+#define TCPCORE_CONFIG_DEFAULT {{{0, 0, 0, 0}}, 0, 1460, 0, 65535, 65535, TCPCORE_LIMIT, 0, 0, 1, 0}
 
 /* The least window shift with which all of a receive capacity can be advertised, 0 where no scaling is needed; `scales` is set where
    it is above 0. A greater shift is taken by tcpcore_new, and wastes what it rounds off: see `window_shift`. */
@@ -517,8 +545,8 @@ struct tcpcore_time_wait {
 /*
  * Makes an end in *end: CLOSED, empty, nothing due. All of it lies in the `length` bytes at `block`, which may hold anything: see
  * MEMORY and WHO OWNS WHAT above. *config is read and not kept.
- *   DONE; IN_USE; BAD_ADDR, BAD_PORT, BAD_CAPACITY, BAD_MSS, BAD_SHIFT, BAD_LIMIT, NO_MEMORY, the first that applies; NULL; LENGTH;
- *   OVERLAP (the block lies over the struct); COPIED (the struct is neither TCPCORE_END_INIT nor one that was freed).
+ *   DONE; IN_USE; BAD_ADDR, BAD_PORT, BAD_CAPACITY, BAD_MSS, BAD_SHIFT, BAD_LIMIT, BAD_RUNS, NO_MEMORY, the first that applies; NULL;
+ *   LENGTH; OVERLAP (the block lies over the struct); COPIED (the struct is neither TCPCORE_END_INIT nor one that was freed).
  */
 uint32_t tcpcore_new(tcpcore_end *end, const tcpcore_config *config, void *block, size_t length);
 
@@ -526,14 +554,14 @@ uint32_t tcpcore_new(tcpcore_end *end, const tcpcore_config *config, void *block
  * As tcpcore_new, with the struct in the block too, at its front: *end is where. So the caller keeps a pointer, which can be copied
  * and moved, and an end is one piece of memory. The block has TCPCORE_STRUCT_ROOM bytes more. It may hold anything: that an end is in
  * it already isn't found. tcpcore_free(*end) frees the end, and the whole block is the caller's again.
- *   DONE; BAD_ADDR, BAD_PORT, BAD_CAPACITY, BAD_MSS, BAD_SHIFT, BAD_LIMIT, NO_MEMORY, the first that applies; NULL; LENGTH; OVERLAP
- *   (`end` lies in the block).
+ *   DONE; BAD_ADDR, BAD_PORT, BAD_CAPACITY, BAD_MSS, BAD_SHIFT, BAD_LIMIT, BAD_RUNS, NO_MEMORY, the first that applies; NULL; LENGTH;
+ *   OVERLAP (`end` lies in the block).
  */
 uint32_t tcpcore_new_at(tcpcore_end **end, const tcpcore_config *config, void *block, size_t length);
 
 /*
  * How many bytes of a block are enough for an end with this config, wherever the block begins; 0 where a capacity isn't from
- * 1 to 1,048,576, or `config` is NULL.
+ * 1 to 1,048,576, the number of runs is above TCPCORE_MAX_RUNS, or `config` is NULL.
  */
 size_t tcpcore_room(const tcpcore_config *config);
 
@@ -818,6 +846,179 @@ uint32_t tcpcore_time_wait_abort(struct tcpcore_time_wait *time_wait);
  *   DONE; NO_TIME_WAIT; NULL; OVERLAP.
  */
 uint32_t tcpcore_time_wait_status(const struct tcpcore_time_wait *time_wait, uint32_t *phase, uint32_t *ending);
+
+/*
+ * CONNECTIONS: an end with its clock
+ *   A connection is an end that keeps its own timers: the retransmission timeout by measured round trips (RFC 6298), what the peer's
+ *   blocks passed over (RFC 2018, 5), TIME-WAIT, and the user timeout (RFC 9293, 3.8.3). It reads no clock: each call is given the time,
+ *   `now`, in microseconds from any beginning; a time below that of an earlier call counts as that. It keeps the timers that a plain end
+ *   leaves to its caller (5. at the top); all else said there of an end holds: MEMORY, STACK, THREADS, WHO OWNS WHAT, ANSWERS. A call
+ *   that an end has by the same name answers and does the same.
+ *
+ *   1. Make and open it: tcpcore_connection_connect or tcpcore_connection_listen.
+ *   2. Wait for a segment, or until the time of tcpcore_connection_poll_at.
+ *   3. Hand each segment in by tcpcore_connection_arrive. Where it answers TCPCORE_EMIT_FIRST emit until nothing is due, and hand the
+ *      same segment in again.
+ *   4. Call what the user wants: send, receive, close. Then emit until tcpcore_connection_emit answers TCPCORE_NOT_DUE.
+ *   5. Call tcpcore_connection_timeout. Where it answers TCPCORE_DONE emit again until nothing is due. Go on with 2.
+ *   6. Free it once `phase` is TCPCORE_PHASE_CLOSED, and nothing is due: tcpcore_connection_free.
+ *
+ *   Left to the caller are congestion control (`window` of tcpcore_connection_emit) and delayed acknowledgements: who has some of the
+ *   emissions wait goes by `at_once` of the report (RFC 5681, 4.2).
+ */
+
+/* A connection, placed by the caller. Its words are the library's: set them by TCPCORE_CONNECTION_INIT alone. */
+typedef struct tcpcore_connection {
+    uint64_t opaque[3];
+} tcpcore_connection;
+
+/* No connection. */
+#define TCPCORE_CONNECTION_INIT {{0, 0, 0}}
+
+/* The time that stands for none: of a limit that there is none, of tcpcore_connection_poll_at that no timer runs. */
+#define TCPCORE_NEVER UINT64_MAX
+
+/* The rules of a connection: how the retransmission timeout is made (RFC 6298, 2 and 5), and how long the end waits (RFC 9293, 3.8.3).
+   Times are microseconds. */
+struct tcpcore_connection_rules {
+    /* The timeout before any round trip was measured: 1 s (RFC 6298, 2.1). */
+    uint64_t first;
+    /* No timeout is below it: 1 s (RFC 6298, 2.4). Above 0, and at most `greatest`. */
+    uint64_t least;
+    /* None is above it: 60 s or more (RFC 6298, 2.5), and at most 2^40. */
+    uint64_t greatest;
+    /* G, the granularity of the clock (RFC 6298, 2); at most 2^40. */
+    uint64_t granularity;
+    /* The timeout with which data begin where the SYN was sent again and `first` is less: 3 s (RFC 6298, 5.7). */
+    uint64_t after_syn;
+    /* How long TIME-WAIT is: two maximum segment lifetimes, 4 minutes (RFC 9293, 3.4.2). */
+    uint64_t time_wait;
+    /* How long a SYN may be without an answer, 3 minutes or more (RFC 9293, 3.8.3); TCPCORE_NEVER is forever. */
+    uint64_t handshake;
+    /* The user timeout: how long all else may be, 100 s or more (RFC 9293, 3.8.3); TCPCORE_NEVER is forever. */
+    uint64_t user;
+    /* How long FIN-WAIT-2 may last without anything of the peer's, while all that came is read; TCPCORE_NEVER is forever, as
+       the standard has it. */
+    uint64_t fin_wait_2;
+    /* After so many timeouts in a row the path is suspect, and before them no end is given up: 3 or more (RFC 9293, 3.8.3). */
+    uint32_t suspect_after;
+    /* 0. Fields of later versions take their place from here: the struct's size stays. */
+    uint32_t reserved[13];
+};
+
+/* The values of the standards, with a clock of milliseconds, 60 s as the greatest timeout, 3 minutes for a SYN, a user timeout of 5
+   minutes, and FIN-WAIT-2 without a limit:
+       struct tcpcore_connection_rules rules = TCPCORE_CONNECTION_RULES_DEFAULT; */
+#define TCPCORE_CONNECTION_RULES_DEFAULT \
+    {1000000, 1000000, 60000000, 1000, 3000000, 240000000, 180000000, 300000000, TCPCORE_NEVER, 3, {0}}
+
+/* What tcpcore_connection_emit reports of the segment that it wrote. */
+struct tcpcore_connection_segment {
+    /* Its length in bytes, with its header. */
+    uint64_t length;
+    /* Where it begins, as a position of this end's direction: a SYN at 0, byte i at 1 + i, the FIN after the last byte, an
+       acknowledgement at SND.NXT; 0 of a reset. */
+    uint64_t position;
+    /* How many numbers it takes: one for each byte of text, one for a SYN, one for a FIN (RFC 9293, 3.4). */
+    uint64_t count;
+    /* The address that it goes to. */
+    tcpcore_addr to;
+    /* 0. Fields of later versions take their place from here: the struct's size stays. */
+    uint32_t reserved[9];
+};
+
+/* How many bytes of a block are enough for a connection: as TCPCORE_MEMORY_RUNS and TCPCORE_MEMORY. */
+#define TCPCORE_CONNECTION_MEMORY_RUNS(send, receive, runs) (TCPCORE_MEMORY_RUNS(send, receive, runs) - 416 + 720)
+#define TCPCORE_CONNECTION_MEMORY(send, receive) TCPCORE_CONNECTION_MEMORY_RUNS(send, receive, TCPCORE_RUNS)
+
+/*
+ * Makes an end with its timers in *connection, and opens a connection to this address and port at `now` (RFC 9293, 3.10.1): the SYN is
+ * due. All of it lies in the `length` bytes at `block`. *config and *rules are read and not kept.
+ *   DONE; IN_USE; BAD_ADDR, BAD_PORT, BAD_RULES, BAD_CAPACITY, BAD_MSS, BAD_SHIFT, BAD_LIMIT, BAD_RUNS, NO_MEMORY, the first that
+ *   applies; NULL; LENGTH; OVERLAP (the block lies over the struct); COPIED (the struct is neither TCPCORE_CONNECTION_INIT nor one that
+ *   was freed). Of version 11, as all that follow.
+ */
+uint32_t tcpcore_connection_connect(tcpcore_connection *connection, const tcpcore_config *config,
+                                    const struct tcpcore_connection_rules *rules, tcpcore_addr addr, uint16_t port, uint64_t now,
+                                    void *block, size_t length);
+
+/*
+ * Makes an end with its timers in *connection, and waits for one peer from `now` on (RFC 9293, 3.10.1). Answers as
+ * tcpcore_connection_connect.
+ */
+uint32_t tcpcore_connection_listen(tcpcore_connection *connection, const tcpcore_config *config,
+                                   const struct tcpcore_connection_rules *rules, uint64_t now, void *block, size_t length);
+
+/*
+ * How many bytes of a block are enough for a connection with this config, wherever the block begins; 0 as of tcpcore_room.
+ */
+size_t tcpcore_connection_room(const tcpcore_config *config);
+
+/*
+ * Frees the end, in any phase: its block is the caller's again. Nothing is sent to the peer, as of tcpcore_free.
+ *   DONE; NO_END (so a second free is refused); NULL; COPIED.
+ */
+uint32_t tcpcore_connection_free(tcpcore_connection *connection);
+
+/*
+ * Reports when tcpcore_connection_timeout has to be called, if nothing else happens before; TCPCORE_NEVER where no timer runs. It may
+ * have passed: then call it now. A later call has all that was sent go out again later.
+ *   DONE; NO_END; NULL; OVERLAP; COPIED.
+ */
+uint32_t tcpcore_connection_poll_at(const tcpcore_connection *connection, uint64_t *at);
+
+/*
+ * It is `now`: if a timer has expired its rule is applied (RFC 9293, 3.10.8), and *timer is which, TCPCORE_TIMER_RETRANSMIT to
+ * TCPCORE_TIMER_USER. After TCPCORE_TIMER_USER the connection is aborted. From an expiry on no segment is taken, and no other timer
+ * expires, until tcpcore_connection_emit answers TCPCORE_NOT_DUE: what was due at the expiry goes out first.
+ *   DONE: emit. NOT_DUE: none has expired. NO_END; NULL; OVERLAP; COPIED.
+ */
+uint32_t tcpcore_connection_timeout(tcpcore_connection *connection, uint64_t now, uint32_t *timer);
+
+/*
+ * A TCP segment of `length` bytes has come from `src` to `dst` at `now` (RFC 9293, 3.10.7), with the report of
+ * tcpcore_arrive_with_report.
+ *   As tcpcore_arrive. EMIT_FIRST: a timer has expired, and what was due then has to go out first; nothing changed. Emit until NOT_DUE,
+ *   and hand the segment in again. WITHHELD: a reset that counts as lost, in TIME-WAIT (RFC 1337, 3), and in CLOSING and LAST-ACK while
+ *   bytes are unread, which it would discard; nothing changed. There is nothing to do.
+ */
+uint32_t tcpcore_connection_arrive(tcpcore_connection *connection, uint64_t now, tcpcore_addr src, tcpcore_addr dst, const void *bytes,
+                                   size_t length, struct tcpcore_arrive_report *report);
+
+/*
+ * Writes the segment that is due at `now` to `out`, checksum and all (RFC 9293, 3.7, 3.8 and 3.10). What ends more than `window` numbers
+ * past SND.UNA waits, unless nothing before it is in flight: `window` is that of the caller's congestion control (RFC 5681, 3.1), and
+ * UINT64_MAX holds nothing back. A pending acknowledgement goes out alone where what is due waits, and before anything that is sent
+ * again.
+ *   DONE: it takes the first segment->length bytes of `out`, and is for address segment->to; more may be due. What lies behind it in
+ *   `out` stays. NOT_DUE: none may go out. ROOM: `room` is below TCPCORE_EMIT_ROOM. NO_END; NULL; LENGTH; OVERLAP; COPIED.
+ */
+uint32_t tcpcore_connection_emit(tcpcore_connection *connection, uint64_t now, uint64_t window, void *out, size_t room,
+                                 struct tcpcore_connection_segment *segment);
+
+/* Accepts text, as tcpcore_send. */
+uint32_t tcpcore_connection_send(tcpcore_connection *connection, uint64_t now, const void *text, size_t length, size_t *taken);
+
+/* Delivers what came in order, as tcpcore_receive. */
+uint32_t tcpcore_connection_receive(tcpcore_connection *connection, uint64_t now, void *out, size_t room, size_t *count);
+
+/* Lends all unread bytes where they lie, as tcpcore_peek. */
+uint32_t tcpcore_connection_peek(const tcpcore_connection *connection, struct tcpcore_lent *lent);
+
+/* Takes the first unread bytes away, as tcpcore_consume. */
+uint32_t tcpcore_connection_consume(tcpcore_connection *connection, uint64_t now, size_t count, size_t *taken);
+
+/* Makes an acknowledgement due, as tcpcore_acknowledge. */
+uint32_t tcpcore_connection_acknowledge(tcpcore_connection *connection, uint64_t now);
+
+/* This side has no more to send, as tcpcore_close. */
+uint32_t tcpcore_connection_close(tcpcore_connection *connection, uint64_t now);
+
+/* Aborts the connection, as tcpcore_abort. */
+uint32_t tcpcore_connection_abort(tcpcore_connection *connection, uint64_t now);
+
+/* Reports phase, ending, counts, and what the two SYNs agreed on, as tcpcore_status. */
+uint32_t tcpcore_connection_status(const tcpcore_connection *connection, struct tcpcore_status *status);
 
 /*
  * The text of an answer, such as "nothing to read yet". It is never NULL, nobody frees it, and any thread may ask for
