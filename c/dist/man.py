@@ -1,5 +1,5 @@
 """Makes the manual page tcpcore.3 of tcpcore.h: python3 man.py HEADER DATE > tcpcore.3. What it says is the header's own text: its first
-comment section by section, each call with its prototype, the numbers, and the structs field by field.
+comment and those with a title section by section, each call with its prototype, the numbers, and the structs field by field.
 """
 
 import pathlib
@@ -49,9 +49,11 @@ def paragraphs(lines):
 
 
 def sections(header):
-    """The first comment, as (title, lines): a title is a line of capitals."""
+    """The first comment, and each that begins with a title, as (title, lines): a title is a line of capitals."""
     found, title, lines = [], "DESCRIPTION", []
-    for line in comment_of(header[: header.index("*/") + 2]):
+    first, *others = re.findall(r"^/\*\n.*?\*/", header, re.M | re.S)
+    titled = [comment for comment in others if re.match(r"/\*\n \* [A-Z][A-Z ]+\n", comment)]
+    for line in [line for comment in [first, *titled] for line in comment_of(comment)]:
         if re.fullmatch(r"[A-Z][A-Z ]+", line):
             found.append((title, lines))
             title, lines = line, []
@@ -62,8 +64,8 @@ def sections(header):
 
 def calls(header):
     """Each call as (prototype, lines of its comment)."""
-    form = re.compile(r"/\*\n((?: \*.*\n)+?) \*/\n((?:uint32_t|size_t|const char \*)\s*tcpcore_\w+\([^;]*\);)", re.M)
-    return [(" ".join(call.split()), comment_of(text)) for text, call in form.findall(header)]
+    form = re.compile(r"^/\*(?:\n((?: \*.*\n)+?)| ([^\n]*?)) \*/\n((?:uint32_t|size_t|const char \*)\s*tcpcore_\w+\([^;]*\);)", re.M)
+    return [(" ".join(call.split()), comment_of(lines or line)) for lines, line, call in form.findall(header)]
 
 
 def entries(body, form):
@@ -121,7 +123,7 @@ def main():
         out += [".PP"] * (not out[-1].startswith(".SH")) + [words(text)]
         out += tagged(entries(re.sub(r"^    /\*.*?\*/\n", "", body, flags=re.M | re.S), r"(TCPCORE_\w+ = \d+),?"))
     for tag, body in re.findall(r"struct (tcpcore_\w+) \{\n(.*?)^\}", header, re.M | re.S):
-        if tag in ("tcpcore_end", "tcpcore_addr"):
+        if tag in ("tcpcore_end", "tcpcore_addr", "tcpcore_connection"):
             continue
         out += [f'.SH "STRUCT {tag}"', *tagged(fields(body))]
     out += [".SH \"SEE ALSO\"", "RFC 9293, RFC 7323, RFC 2018; docs/EMBEDDING.md of the tarball."]

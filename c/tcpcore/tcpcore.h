@@ -848,7 +848,7 @@ uint32_t tcpcore_time_wait_abort(struct tcpcore_time_wait *time_wait);
 uint32_t tcpcore_time_wait_status(const struct tcpcore_time_wait *time_wait, uint32_t *phase, uint32_t *ending);
 
 /*
- * CONNECTIONS: an end with its clock
+ * CONNECTIONS
  *   A connection is an end that keeps its own timers: the retransmission timeout by measured round trips (RFC 6298), what the peer's
  *   blocks passed over (RFC 2018, 5), TIME-WAIT, and the user timeout (RFC 9293, 3.8.3). It reads no clock: each call is given the time,
  *   `now`, in microseconds from any beginning; a time below that of an earlier call counts as that. It keeps the timers that a plain end
