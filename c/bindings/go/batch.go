@@ -94,6 +94,16 @@ type Exchanged struct {
 	Ended     bool
 }
 
+// add counts what the user's calls did, and tells what they were refused with.
+func (exchanged *Exchanged) add(sent, got C.struct_batch_count) error {
+	exchanged.Sent, exchanged.Got = exchanged.Sent+int(sent.count), exchanged.Got+int(got.count)
+	exchanged.Ended = exchanged.Ended || got.answer == C.TCPCORE_END_OF_STREAM
+	if got.answer < C.TCPCORE_NOTHING && got.answer != C.TCPCORE_DONE {
+		return done(got.answer)
+	}
+	return done(sent.answer)
+}
+
 // Exchange is a whole turn of an end in one call of C: Arrive for each segment of `in`, with Emit until nothing is due behind each one that
 // has to be answered at once (RFC 5681, 4.2); then Receive into `read` and Send of `text`, each only where it isn't empty; and then Emit
 // until nothing is due, so that the acknowledgement tells of the window behind the read, and goes out with the text. What is emitted is
@@ -112,13 +122,8 @@ func (end *End) Exchange(src, dst Addr, in, out *Batch, text, read []byte) (Exch
 			recordsOf(out.records), C.size_t(len(out.records)), C.size_t(out.used), C.size_t(out.count))
 		out.used, out.count, next = int(made.told.used), int(made.told.count), made.told.next
 		if made.is_made == 1 {
-			exchanged.Sent, exchanged.Got = exchanged.Sent+int(made.sent.count), exchanged.Got+int(made.got.count)
-			exchanged.Ended = exchanged.Ended || made.got.answer == C.TCPCORE_END_OF_STREAM
-			if made.got.answer < C.TCPCORE_NOTHING && refused == nil {
-				refused = done(made.got.answer)
-			}
-			if refused == nil {
-				refused = done(made.sent.answer)
+			if err := exchanged.add(made.sent, made.got); refused == nil {
+				refused = err
 			}
 			text, read = nil, nil
 		}

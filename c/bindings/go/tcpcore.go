@@ -1,6 +1,7 @@
-// Package tcpcore is tcpcore.h for Go: one end of one TCP connection, as a value. Struct and block lie in C's memory, so an End may be
-// copied as a pointer; Free gives both back. An end is used by one goroutine at a time: two calls of one end at once break it, and neither
-// C nor the race detector sees that, so goroutines that share an end hold a sync.Mutex around each call. Ends have nothing in common.
+// Package tcpcore is tcpcore.h for Go: one end of one TCP connection, as a value. A Connection keeps its own times, and is what most
+// programs want; an End leaves them to its caller. Both lie in C's memory, so that they may be copied as pointers; Free gives it back. One
+// is used by one goroutine at a time: two calls of one at once break it, and neither C nor the race detector sees that, so goroutines that
+// share one hold a sync.Mutex around each call. Two have nothing in common.
 package tcpcore
 
 /*
@@ -122,8 +123,7 @@ type End struct {
 	block unsafe.Pointer
 }
 
-// New makes an end: CLOSED, empty, nothing due.
-func New(config Config) (*End, error) {
+func (config Config) c() C.tcpcore_config {
 	c := C.tcpcore_config{addr: config.Addr.c(), port: C.uint16_t(config.Port), mss: C.uint16_t(config.MSS), isn: C.uint32_t(config.ISN),
 		send_capacity: C.uint64_t(config.SendCapacity), recv_capacity: C.uint64_t(config.RecvCapacity), limit: C.uint64_t(config.Limit), runs: C.uint16_t(config.Runs)}
 	if config.Limit == 0 {
@@ -135,6 +135,12 @@ func New(config Config) (*End, error) {
 	if config.Sack {
 		c.sack = 1
 	}
+	return c
+}
+
+// New makes an end: CLOSED, empty, nothing due.
+func New(config Config) (*End, error) {
+	c := config.c()
 	room := C.tcpcore_room(&c) + C.TCPCORE_STRUCT_ROOM
 	block := C.malloc(room)
 	if block == nil {

@@ -1,0 +1,331 @@
+package tcpcore
+
+/*
+#include "connection.h"
+#include <stdlib.h>
+*/
+import "C"
+
+import (
+	"io"
+	"math"
+	"time"
+	"unsafe"
+)
+
+// UserTimeout is a timer of a connection alone: its user timeout (RFC 9293, 3.8.3), or the limit of FIN-WAIT-2, has passed, and it is
+// aborted. Others are Retransmit, Reorder and TimeWait.
+const UserTimeout = C.TCPCORE_TIMER_USER
+
+// What Connection.Arrive answers of a segment that isn't taken. That the bytes are no segment has other answers.
+const (
+	// ErrDropped: the connection passed the segment over; an answer to it may be due.
+	ErrDropped = Refused(C.TCPCORE_DROPPED)
+	// ErrNotMine: it is another connection's. Nothing has changed.
+	ErrNotMine = Refused(C.TCPCORE_NOT_MINE)
+	// ErrEmitFirst: a timer has expired, and what was due then has to go out first. Nothing has changed: Emit until nothing is due, and hand
+	// the same segment in again.
+	ErrEmitFirst = Refused(C.TCPCORE_EMIT_FIRST)
+	// ErrWithheld: a reset that counts as lost. Nothing has changed, and there is nothing to do.
+	ErrWithheld = Refused(C.TCPCORE_WITHHELD)
+)
+
+// What the user's calls of a connection are refused with.
+const (
+	// ErrNotConnected: no peer is known, of Send in LISTEN.
+	ErrNotConnected = Refused(C.TCPCORE_NOT_CONNECTED)
+	// ErrClosing: Close was called.
+	ErrClosing = Refused(C.TCPCORE_CLOSING)
+	// ErrEnded: the connection has ended; Status says how.
+	ErrEnded = Refused(C.TCPCORE_ENDED)
+	// ErrStreamFull: the direction has accepted as many bytes as the Limit of the Config allows.
+	ErrStreamFull = Refused(C.TCPCORE_STREAM_FULL)
+	// ErrNoEnd: the connection was freed.
+	ErrNoEnd = Refused(C.TCPCORE_NO_END)
+)
+
+// Never is a limit of Rules that isn't there.
+const Never time.Duration = math.MaxInt64
+
+// Rules is how the retransmission timeout of a connection is made (RFC 6298, 2 and 5), and how long it waits (RFC 9293, 3.8.3). Whole
+// microseconds count. DefaultRules has the values of the standards.
+type Rules struct {
+	// First is the timeout before any round trip was measured: 1 s (RFC 6298, 2.1).
+	First time.Duration
+	// No timeout is below Least: 1 s (RFC 6298, 2.4). It is above 0, and at most Greatest.
+	Least time.Duration
+	// None is above Greatest: 60 s or more (RFC 6298, 2.5), and at most 2^40 microseconds.
+	Greatest time.Duration
+	// Granularity is G, that of the clock (RFC 6298, 2); at most 2^40 microseconds.
+	Granularity time.Duration
+	// AfterSyn is the timeout with which data begin where the SYN was sent again and First is less: 3 s (RFC 6298, 5.7).
+	AfterSyn time.Duration
+	// TimeWait is two maximum segment lifetimes: 4 minutes (RFC 9293, 3.4.2).
+	TimeWait time.Duration
+	// Handshake is how long a SYN may be without an answer: 3 minutes or more (RFC 9293, 3.8.3), or Never.
+	Handshake time.Duration
+	// User is the user timeout, how long all else may be without an answer: 100 s or more (RFC 9293, 3.8.3), or Never.
+	User time.Duration
+	// FinWait2 is how long FIN-WAIT-2 may last without anything of the peer's, while all that came is read; Never is the standard's.
+	FinWait2 time.Duration
+	// After SuspectAfter timeouts in a row the path is suspect, and before them no connection is given up: 3 or more (RFC 9293, 3.8.3).
+	SuspectAfter uint32
+}
+
+// DefaultRules has the values of the standards, with a clock of milliseconds, 60 s as the greatest timeout, 3 minutes for a SYN, a user
+// timeout of 5 minutes, and FIN-WAIT-2 without a limit.
+func DefaultRules() Rules {
+	return Rules{First: time.Second, Least: time.Second, Greatest: time.Minute, Granularity: time.Millisecond, AfterSyn: 3 * time.Second,
+		TimeWait: 4 * time.Minute, Handshake: 3 * time.Minute, User: 5 * time.Minute, FinWait2: Never, SuspectAfter: 3}
+}
+
+// micros is a duration in C; a negative one is none.
+func micros(duration time.Duration) C.uint64_t {
+	if duration < 0 {
+		return 0
+	}
+	return C.uint64_t(duration / time.Microsecond)
+}
+
+// limit is micros of what may be Never.
+func limit(duration time.Duration) C.uint64_t {
+	if duration == Never {
+		return C.TCPCORE_NEVER
+	}
+	return micros(duration)
+}
+
+func (rules Rules) c() C.struct_tcpcore_connection_rules {
+	return C.struct_tcpcore_connection_rules{first: micros(rules.First), least: micros(rules.Least), greatest: micros(rules.Greatest),
+		granularity: micros(rules.Granularity), after_syn: micros(rules.AfterSyn), time_wait: micros(rules.TimeWait),
+		handshake: limit(rules.Handshake), user: limit(rules.User), fin_wait_2: limit(rules.FinWait2),
+		suspect_after: C.uint32_t(rules.SuspectAfter)}
+}
+
+// Connection is one end of one TCP connection, with its clock: an end that keeps its own timers. These are the retransmission timeout by
+// measured round trips (RFC 6298), what the peer's blocks passed over (RFC 2018, 5), TIME-WAIT, and the user timeout (RFC 9293, 3.8.3).
+//
+// It has no socket, reads no clock and starts no goroutine: each call is told what time it is, as time.Now tells it or a clock of the
+// caller's. A time before that of an earlier call counts as that. Struct and block lie in C's memory, which Free gives back. One goroutine
+// at a time uses it, as an End.
+//
+// A program goes round this loop, whose steps 2 to 4 are also one call, Exchange:
+//
+//  1. Wait for a segment, or until PollAt.
+//  2. Arrive for each segment that came.
+//  3. Send, Receive and Close as the user wants. Then Emit until nothing is due, and send each segment.
+//  4. Timeout. Where a timer has expired Emit again until nothing is due, and look for another one.
+//  5. In CLOSED the connection is over: Free it. Else go on with 1.
+//
+// Left to the caller are congestion control and delayed acknowledgements: who has some of the emissions wait goes by AtOnce of the
+// ArriveReport (RFC 5681, 4.2).
+type Connection struct {
+	// Window is that of the caller's congestion control (RFC 5681, 3.1), in bytes: what ends more than so many numbers past SND.UNA waits,
+	// unless nothing before it is in flight. Connect and Listen set the greatest number, which holds back nothing.
+	Window uint64
+
+	raw   *C.tcpcore_connection // at the front of the block
+	block unsafe.Pointer
+	began time.Time
+}
+
+// Connect opens a connection to this address and port (RFC 9293, 3.10.1): its SYN is due.
+func Connect(config Config, rules Rules, addr Addr, port uint16, now time.Time) (*Connection, error) {
+	return newConnection(config, rules, false, addr, port, now)
+}
+
+// Listen waits for one peer (RFC 9293, 3.10.1).
+func Listen(config Config, rules Rules, now time.Time) (*Connection, error) {
+	return newConnection(config, rules, true, Addr{}, 0, now)
+}
+
+func newConnection(config Config, rules Rules, listens bool, addr Addr, port uint16, now time.Time) (*Connection, error) {
+	c, ruled := config.c(), rules.c()
+	// Where the room is 0 the call says what is wrong with the config.
+	room := C.tcpcore_connection_room(&c) + C.sizeof_tcpcore_connection
+	block := C.malloc(room)
+	if block == nil {
+		return nil, Refused(C.TCPCORE_NO_MEMORY)
+	}
+	made := C.connection_make(&c, &ruled, is(listens), addr.c(), C.uint16_t(port), 0, (*C.uchar)(block), room)
+	if made.answer != C.TCPCORE_DONE {
+		C.free(block)
+		return nil, Refused(made.answer)
+	}
+	return &Connection{Window: math.MaxUint64, raw: made.raw, block: block, began: now}, nil
+}
+
+// Free gives the connection up, without a word to the peer, and its memory back; a second time it does nothing. What follows is refused
+// with ErrNoEnd, and a call that returns no error panics with it.
+func (connection *Connection) Free() {
+	C.tcpcore_connection_free(connection.raw)
+	C.free(connection.block)
+	connection.raw, connection.block = new(C.tcpcore_connection), nil
+}
+
+// since is a time as C has it.
+func (connection *Connection) since(now time.Time) C.uint64_t {
+	return micros(now.Sub(connection.began))
+}
+
+// timeOf is the time that C tells; the zero Time where there is none. What is further away than a Duration can say is as far as that.
+func (connection *Connection) timeOf(at uint64) time.Time {
+	if at == C.TCPCORE_NEVER {
+		return time.Time{}
+	}
+	if at > uint64(math.MaxInt64/time.Microsecond) {
+		return connection.began.Add(math.MaxInt64)
+	}
+	return connection.began.Add(time.Duration(at) * time.Microsecond)
+}
+
+// Arrive says that a segment has come from one address to the other (RFC 9293, 3.10.7), without its IPv4 header. The error is nil where it
+// was taken, else what became of it. ErrEmitFirst is told between a Timeout that found a timer and the end of what it made due; a caller
+// that emits all of that behind the Timeout never meets it.
+func (connection *Connection) Arrive(now time.Time, src, dst Addr, segment []byte) (ArriveReport, error) {
+	told := C.connection_arrive(connection.raw, connection.since(now), src.c(), dst.c(), bytesOf(segment), C.size_t(len(segment)))
+	return arriveReport(&told.report), done(told.answer)
+}
+
+// Emission is a segment that a connection has emitted; all 0 where none was due.
+type Emission struct {
+	// To is the address that it goes to.
+	To Addr
+	// Length is how many bytes it has, with its header.
+	Length int
+	// Position is where it begins in the own direction: a SYN at 0, byte i at 1 + i, the FIN after the last byte, an acknowledgement at
+	// SND.NXT; 0 of a reset.
+	Position uint64
+	// Count is how many numbers it takes: one for each byte of text, one for a SYN, one for a FIN (RFC 9293, 3.4).
+	Count int
+}
+
+// Emit writes the segment that is due to the front of `room`, checksum and all (RFC 9293, 3.7, 3.8 and 3.10); Length is 0 where none is.
+// More may be due: emit until there is none. A pending acknowledgement goes out alone before anything that is sent again.
+func (connection *Connection) Emit(now time.Time, room *[EmitRoom]byte) Emission {
+	told := C.connection_emit(connection.raw, connection.since(now), C.uint64_t(connection.Window), (*C.uchar)(&room[0]))
+	found(told.answer)
+	segment := &told.segment
+	return Emission{*(*Addr)(unsafe.Pointer(&segment.to)), int(segment.length), uint64(segment.position), int(segment.count)}
+}
+
+// PollAt is when Timeout has to be called, if nothing else happens before; the zero Time where no timer runs, as the SetReadDeadline of a
+// net.Conn takes it. It may have passed: then call it now. Where it is called later, all that is sent again is sent later.
+func (connection *Connection) PollAt() time.Time {
+	told := C.connection_poll_at(connection.raw)
+	found(told.answer)
+	return connection.timeOf(uint64(told.at))
+}
+
+// Timeout says that it is `now`, and tells which timer has expired, Retransmit to UserTimeout, if one has: its rule was applied (RFC 9293,
+// 3.10.8). Then Emit until nothing is due. Before that no other timer expires.
+func (connection *Connection) Timeout(now time.Time) (timer uint32, expired bool) {
+	told := C.connection_timeout(connection.raw, connection.since(now))
+	return uint32(told.timer), found(told.answer)
+}
+
+// Send takes the front of the text that fits, and tells its length. Offer the rest once the peer has acknowledged some.
+func (connection *Connection) Send(now time.Time, text []byte) (int, error) {
+	told := C.connection_send(connection.raw, connection.since(now), bytesOf(text), C.size_t(len(text)))
+	return int(told.count), done(told.answer)
+}
+
+// Receive hands over what came in order; 0 where there is nothing yet, io.EOF at the end of the stream. What isn't read closes the window.
+func (connection *Connection) Receive(now time.Time, out []byte) (int, error) {
+	switch told := C.connection_receive(connection.raw, connection.since(now), bytesOf(out), C.size_t(len(out))); told.answer {
+	case C.TCPCORE_NOTHING:
+		return 0, nil
+	case C.TCPCORE_END_OF_STREAM:
+		return 0, io.EOF
+	default:
+		return int(told.count), done(told.answer)
+	}
+}
+
+// Peek lends all unread bytes where they lie, as Peek of an End.
+func (connection *Connection) Peek() (first, second []byte, err error) {
+	switch told := C.connection_peek(connection.raw); told.answer {
+	case C.TCPCORE_NOTHING:
+		return nil, nil, nil
+	case C.TCPCORE_END_OF_STREAM:
+		return nil, nil, io.EOF
+	default:
+		return piece(told.lent.first), piece(told.lent.second), done(told.answer)
+	}
+}
+
+// Consume takes the first unread bytes away, at most count, and tells how many.
+func (connection *Connection) Consume(now time.Time, count int) (int, error) {
+	if count < 0 {
+		count = 0
+	}
+	told := C.connection_consume(connection.raw, connection.since(now), C.size_t(count))
+	return int(told.count), done(told.answer)
+}
+
+// Acknowledge makes an acknowledgement due, which tells the window as it is now: for a user who reads in small pieces (RFC 9293,
+// 3.8.6.2.2).
+func (connection *Connection) Acknowledge(now time.Time) error {
+	return done(C.tcpcore_connection_acknowledge(connection.raw, connection.since(now)))
+}
+
+// Close says that this side has no more to send (RFC 9293, 3.10.4); what was sent still goes out, and the peer's text can still be read.
+func (connection *Connection) Close(now time.Time) error {
+	return done(C.tcpcore_connection_close(connection.raw, connection.since(now)))
+}
+
+// Abort gives the connection up (RFC 9293, 3.10.5): a reset is due where the peer may know of it.
+func (connection *Connection) Abort(now time.Time) error {
+	return done(C.tcpcore_connection_abort(connection.raw, connection.since(now)))
+}
+
+// Status reports phase, ending, counts, and what the two SYNs agreed on.
+func (connection *Connection) Status() Status {
+	told := C.connection_status(connection.raw)
+	found(told.answer)
+	return told.status
+}
+
+// Turned is what a turn of a connection did: what Send and Receive told; the timers that expired, bit 1 << t for timer t; what PollAt tells
+// behind it; and whether the connection is in CLOSED, where nothing is left to do.
+type Turned struct {
+	Exchanged
+	Expired uint32
+	PollAt  time.Time
+	Closed  bool
+}
+
+// Exchange is a whole turn in one call of C: Arrive for each segment of `in`, with Emit until nothing is due behind each one that has to be
+// answered at once (RFC 5681, 4.2); then Receive into `read` and Send of `text`, each only where it isn't empty, and Emit until nothing is
+// due; and then Timeout, with Emit until nothing is due, until no timer has expired. Where Arrive says ErrEmitFirst what is due is emitted,
+// and the segment is handed in again. What is emitted is appended to `out`, another Batch than `in`, whose Err and AtOnce tell of each
+// segment. The error is the first of: ErrNoEnd behind Free, then nothing was done; what Receive tells; and what Send tells.
+func (connection *Connection) Exchange(now time.Time, src, dst Addr, in, out *Batch, text, read []byte) (Turned, error) {
+	var turned Turned
+	if in == out {
+		return turned, Refused(C.TCPCORE_OVERLAP)
+	}
+	var refused error
+	for next, goesOn := C.size_t(0), false; ; goesOn = true {
+		out.grow(EmitRoom)
+		made := C.connection_exchange(connection.raw, connection.since(now), C.uint64_t(connection.Window), src.c(), dst.c(), bytesOf(in.bytes),
+			recordsOf(in.records), next, C.size_t(in.count), is(goesOn), bytesOf(text), C.size_t(len(text)), bytesOf(read), C.size_t(len(read)),
+			bytesOf(out.bytes), C.size_t(len(out.bytes)), recordsOf(out.records), C.size_t(len(out.records)), C.size_t(out.used),
+			C.size_t(out.count))
+		out.used, out.count, next = int(made.told.used), int(made.told.count), made.told.next
+		turned.Expired |= uint32(made.expired)
+		if made.is_made == 1 {
+			if err := turned.add(made.sent, made.got); refused == nil {
+				refused = err
+			}
+			text, read = nil, nil
+		}
+		if err := done(made.told.answer); err != nil {
+			return turned, err
+		}
+		if made.told.is_full == 0 {
+			turned.PollAt, turned.Closed = connection.timeOf(uint64(made.poll_at)), made.phase == C.TCPCORE_PHASE_CLOSED
+			return turned, refused
+		}
+	}
+}

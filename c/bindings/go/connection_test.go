@@ -1,0 +1,494 @@
+package tcpcore
+
+import (
+	"bytes"
+	"errors"
+	"io"
+	"math/rand"
+	"reflect"
+	"testing"
+	"time"
+)
+
+// began is when the tests' connections begin.
+var began = time.Date(2026, 1, 2, 3, 4, 5, 0, time.UTC)
+
+// opened is two connections, a client's and a server's, of the same configs each time.
+func opened(t *testing.T, rules Rules) [2]*Connection {
+	config := DefaultConfig(a, 1, 1000)
+	config.SendCapacity, config.RecvCapacity = 20000, 20000
+	client, err := Connect(config, rules, b, 2, began)
+	if err != nil {
+		t.Fatal(err)
+	}
+	config.Addr, config.Port, config.ISN = b, 2, 5000
+	server, err := Listen(config, rules, began)
+	if err != nil {
+		t.Fatal(err)
+	}
+	return [2]*Connection{client, server}
+}
+
+// emittedBy is all that a connection emits.
+func emittedBy(connection *Connection, now time.Time) (out []emitted) {
+	var room [EmitRoom]byte
+	for {
+		told := connection.Emit(now, &room)
+		if told.Length == 0 {
+			return
+		}
+		out = append(out, emitted{told.To, string(room[:told.Length])})
+	}
+}
+
+// established is two connections that are open.
+func established(t *testing.T) [2]*Connection {
+	both := opened(t, DefaultRules())
+	for turn := 0; turn < 3; turn++ {
+		for _, it := range emittedBy(both[turn%2], began) {
+			if _, err := both[1-turn%2].Arrive(began, [2]Addr{a, b}[turn%2], it.to, []byte(it.segment)); err != nil {
+				t.Fatal(err)
+			}
+		}
+	}
+	if !Established(both[0].Status()) || !Established(both[1].Status()) {
+		t.Fatal(both[0].Status(), both[1].Status())
+	}
+	return both
+}
+
+// onTheWay is a segment that comes to a side at a time.
+type onTheWay struct {
+	at      time.Time
+	side    int
+	segment string
+}
+
+// link delays each segment by 20 ms, and by up to `jitter` more, and loses some of a hundred; `expired` has the timers of both sides.
+type link struct {
+	random       *rand.Rand
+	jitter, loss int
+	way          []onTheWay
+	now          time.Time
+	expired      []uint32
+}
+
+func (it *link) put(side int, out []emitted) {
+	for _, sent := range out {
+		more := time.Duration(it.random.Intn(it.jitter+1)) * time.Millisecond
+		if it.random.Intn(100) >= it.loss {
+			it.way = append(it.way, onTheWay{it.now.Add(20*time.Millisecond + more), 1 - side, sent.segment})
+		}
+	}
+}
+
+// come is what has come to a side by now.
+func (it *link) come(side int) (segments []string) {
+	left := []onTheWay{}
+	for _, its := range it.way {
+		if its.side == side && !its.at.After(it.now) {
+			segments = append(segments, its.segment)
+		} else {
+			left = append(left, its)
+		}
+	}
+	it.way = left
+	return
+}
+
+// goesOn lets time go on to the next arrival or deadline, unless there is none.
+func (it *link) goesOn(deadlines [2]time.Time) bool {
+	next, times := time.Time{}, deadlines[:]
+	for _, its := range it.way {
+		times = append(times, its.at)
+	}
+	for _, at := range times {
+		if !at.IsZero() && (next.IsZero() || at.Before(next)) {
+			next = at
+		}
+	}
+	if next.After(it.now) {
+		it.now = next
+	}
+	return !next.IsZero()
+}
+
+// user sends its text, closes, and reads.
+type user struct {
+	text, got []byte
+	closing   bool
+}
+
+// turnSingly is Exchange by single calls, as its comment says.
+func turnSingly(it *Connection, now time.Time, src, dst Addr, segments []string, text, read []byte) (answers []arrived, out []emitted, turned Turned, refused error) {
+	for i := 0; i < len(segments); {
+		report, err := it.Arrive(now, src, dst, []byte(segments[i]))
+		if err == ErrEmitFirst || report.AtOnce {
+			out = append(out, emittedBy(it, now)...)
+		}
+		if err != ErrEmitFirst {
+			answers, i = append(answers, arrived{report.AtOnce, err}), i+1
+		}
+	}
+	if len(read) > 0 {
+		turned.Got, refused = it.Receive(now, read)
+	}
+	if turned.Ended = refused == io.EOF; turned.Ended {
+		refused = nil
+	}
+	if len(text) > 0 {
+		sent, err := it.Send(now, text)
+		if turned.Sent = sent; refused == nil {
+			refused = err
+		}
+	}
+	out = append(out, emittedBy(it, now)...)
+	for {
+		timer, expired := it.Timeout(now)
+		if !expired {
+			break
+		}
+		turned.Expired |= 1 << timer
+		out = append(out, emittedBy(it, now)...)
+	}
+	turned.PollAt, turned.Closed = it.PollAt(), it.Status().phase == 0
+	return
+}
+
+// turnAtOnce is Exchange, with what it was given and gave as turnSingly has it.
+func turnAtOnce(it *Connection, now time.Time, src, dst Addr, segments []string, text, read []byte, in, out *Batch) (answers []arrived, sent []emitted, turned Turned, refused error) {
+	in.Reset()
+	out.Reset()
+	for _, segment := range segments {
+		in.Add([]byte(segment))
+	}
+	turned, refused = it.Exchange(now, src, dst, in, out, text, read)
+	for i := 0; i < in.Len(); i++ {
+		answers = append(answers, arrived{in.AtOnce(i), in.Err(i)})
+	}
+	for i := 0; i < out.Len(); i++ {
+		sent = append(sent, emitted{out.To(i), string(out.Segment(i))})
+	}
+	return
+}
+
+// carries carries a text each way, to the end of both connections: each turn is made by single calls of one pair, and by Exchange of
+// another, which is the same.
+func carries(t *testing.T, seed int64, jitter, loss int, rules Rules) *link {
+	both, beside := opened(t, rules), opened(t, rules)
+	wire := &link{random: rand.New(rand.NewSource(seed)), jitter: jitter, loss: loss, now: began}
+	users, deadlines, read := [2]user{}, [2]time.Time{}, [2][]byte{make([]byte, 20000), make([]byte, 20000)}
+	texts := [2][]byte{make([]byte, 125000), make([]byte, 125000)}
+	for side := range users {
+		defer both[side].Free()
+		defer beside[side].Free()
+		wire.random.Read(texts[side])
+		users[side].text = texts[side]
+	}
+	var in, out Batch
+	for first := true; first || wire.goesOn(deadlines); first = false {
+		for side := range both {
+			segments := wire.come(side)
+			for again := true; again; segments = nil {
+				it, user := both[side], &users[side]
+				text := user.text
+				if it.Status().phase < 4 && side == 1 {
+					text = nil
+				}
+				answers, sent, turned, err := turnSingly(it, wire.now, addrs[1-side], addrs[side], segments, text, read[0])
+				answers2, sent2, turned2, err2 := turnAtOnce(beside[side], wire.now, addrs[1-side], addrs[side], segments, text, read[1], &in, &out)
+				if !reflect.DeepEqual(answers, answers2) || !reflect.DeepEqual(sent, sent2) || turned != turned2 || err != err2 {
+					t.Fatal(seed, wire.now, side, turned, turned2, err, err2, len(sent), len(sent2), answers, answers2)
+				}
+				if !bytes.Equal(read[0][:turned.Got], read[1][:turned.Got]) || it.Status() != beside[side].Status() {
+					t.Fatal(seed, wire.now, side)
+				}
+				if err != nil && err != ErrEnded && err != ErrClosing {
+					t.Fatal(seed, err)
+				}
+				wire.put(side, sent)
+				user.text, user.got = user.text[turned.Sent:], append(user.got, read[0][:turned.Got]...)
+				for timer := uint32(0); timer < 4; timer++ {
+					if turned.Expired>>timer&1 == 1 {
+						wire.expired = append(wire.expired, timer)
+					}
+				}
+				again = turned.Got > 0
+				if !user.closing && len(user.text) == 0 && it.Status().phase >= 4 {
+					user.closing, again = true, true
+					if it.Close(wire.now) != nil || beside[side].Close(wire.now) != nil {
+						t.Fatal(seed, "not closed")
+					}
+				}
+				deadlines[side] = turned.PollAt
+			}
+		}
+	}
+	for side := range both {
+		if status := both[side].Status(); status.phase != 0 || status.ending != 1 || !bytes.Equal(users[side].got, texts[1-side]) {
+			t.Fatal(seed, side, status, len(users[side].got))
+		}
+	}
+	return wire
+}
+
+var addrs = [2]Addr{a, b}
+
+// Over a good link nothing expires but TIME-WAIT, 4 minutes behind the last segment, and all comes in the round trips that it takes: 125,000
+// bytes at 20,000 each 40 ms are 7 of them, beside the handshake and the FINs. A link that loses and reorders has the timers do what they
+// do. And each turn by single calls is what Exchange does.
+func TestConnectionCarries(t *testing.T) {
+	wire := carries(t, 0, 0, 0, DefaultRules())
+	if took := wire.now.Sub(began); took < 4*time.Minute || took > 4*time.Minute+9*40*time.Millisecond {
+		t.Fatal(took)
+	}
+	for _, timer := range wire.expired {
+		if timer != TimeWait {
+			t.Fatal(wire.expired)
+		}
+	}
+	met := map[uint32]int{}
+	for seed := int64(1); seed < 9; seed++ {
+		for _, timer := range carries(t, seed, 15, 10, DefaultRules()).expired {
+			met[timer]++
+		}
+	}
+	if met[Retransmit] == 0 || met[Reorder] == 0 || met[TimeWait] == 0 || met[UserTimeout] != 0 {
+		t.Fatal(met)
+	}
+}
+
+// RFC 6298, 5.5: the timeout of a second is doubled each time, up to 60; RFC 9293, 3.8.3: a SYN is given up after 3 minutes. Rules say
+// something else.
+func TestConnectionSyn(t *testing.T) {
+	short := DefaultRules()
+	short.First, short.Least, short.Greatest, short.Handshake = 200*time.Millisecond, 100*time.Millisecond, 2*time.Second, 10*time.Second
+	for _, it := range []struct {
+		rules   Rules
+		seconds []float64
+		at      time.Duration
+	}{{DefaultRules(), []float64{0, 1, 3, 7, 15, 31, 63, 123}, 180 * time.Second},
+		{short, []float64{0, 0.2, 0.6, 1.4, 3, 5, 7, 9}, 10 * time.Second}} {
+		client := opened(t, it.rules)[0]
+		now, sent, last := began, []float64{}, uint32(0)
+		for {
+			for range emittedBy(client, now) {
+				sent = append(sent, now.Sub(began).Seconds())
+			}
+			at := client.PollAt()
+			if at.IsZero() {
+				break
+			}
+			if timer, expired := client.Timeout(at.Add(-time.Microsecond)); expired {
+				t.Fatal(timer, at)
+			}
+			timer, expired := client.Timeout(at)
+			if !expired {
+				t.Fatal(at)
+			}
+			now, last = at, timer
+		}
+		if !reflect.DeepEqual(sent, it.seconds) || now.Sub(began) != it.at || last != UserTimeout || client.Status().ending != 3 {
+			t.Fatal(sent, now, last, client.Status())
+		}
+		if _, err := client.Send(now, []byte("x")); err != ErrEnded {
+			t.Fatal(err)
+		}
+		client.Free()
+	}
+}
+
+// What Emit reports, a window that holds back, an acknowledgement that is asked for, and bytes that are lent.
+func TestConnectionReports(t *testing.T) {
+	both := established(t)
+	defer both[0].Free()
+	defer both[1].Free()
+	var room [EmitRoom]byte
+	if _, err := both[0].Send(began, make([]byte, 3000)); err != nil {
+		t.Fatal(err)
+	}
+	both[0].Window = 1460
+	if told := both[0].Emit(began, &room); told != (Emission{b, 1480, 1, 1460}) {
+		t.Fatal(told)
+	}
+	if told := both[0].Emit(began, &room); told != (Emission{}) {
+		t.Fatal(told)
+	}
+	both[0].Window = 2920
+	segment := room
+	if told := both[0].Emit(began, &room); told != (Emission{b, 1480, 1461, 1460}) {
+		t.Fatal(told)
+	}
+	// Rule 18: all of it is taken.
+	if report, err := both[1].Arrive(began, a, b, segment[:1480]); report != (ArriveReport{Rule: 18, Brought: InOrder, WindowTaken: true}) || err != nil {
+		t.Fatal(report, err)
+	}
+	first, second, err := both[1].Peek()
+	if len(first)+len(second) != 1460 || err != nil {
+		t.Fatal(len(first), len(second), err)
+	}
+	if n, err := both[1].Consume(began, 460); n != 460 || err != nil {
+		t.Fatal(n, err)
+	}
+	if n, err := both[1].Consume(began, -1); n != 0 || err != nil {
+		t.Fatal(n, err)
+	}
+	emittedBy(both[1], began)
+	if err := both[1].Acknowledge(began); err != nil || len(emittedBy(both[1], began)) != 1 {
+		t.Fatal(err)
+	}
+	if _, err := both[1].Arrive(began, b, a, segment[:1480]); err != ErrNotMine {
+		t.Fatal(err)
+	}
+	if report, err := both[1].Arrive(began, a, b, segment[:1480]); err != ErrDropped || !report.AtOnce {
+		t.Fatal(report, err)
+	}
+	if err := both[0].Close(began); err != nil || both[0].Close(began) != ErrClosing {
+		t.Fatal(err)
+	}
+	if _, err := both[0].Send(began, room[:1]); err != ErrClosing {
+		t.Fatal(err)
+	}
+	if err := both[0].Abort(began); err != nil || both[0].Abort(began) != ErrEnded {
+		t.Fatal(err)
+	}
+}
+
+// From an expiry on nothing is taken until what was due has gone out; a reset in TIME-WAIT counts as lost (RFC 1337, 3).
+func TestConnectionEmitsFirst(t *testing.T) {
+	both := opened(t, DefaultRules())
+	defer both[0].Free()
+	defer both[1].Free()
+	now := began.Add(time.Second)
+	syn := emittedBy(both[0], began)
+	if timer, expired := both[0].Timeout(now); timer != Retransmit || !expired {
+		t.Fatal(timer, expired)
+	}
+	if _, err := both[0].Arrive(now, b, a, []byte(syn[0].segment)); err != ErrEmitFirst {
+		t.Fatal(err)
+	}
+	if again := emittedBy(both[0], now); !reflect.DeepEqual(again, syn) {
+		t.Fatal(again, syn)
+	}
+	// Exchange does so by itself: the SYN goes out again, and then the segment is handed in, which is another connection's.
+	now = now.Add(2 * time.Second)
+	if timer, expired := both[0].Timeout(now); timer != Retransmit || !expired {
+		t.Fatal(timer, expired)
+	}
+	var in, out Batch
+	in.Add([]byte(syn[0].segment))
+	turned, err := both[0].Exchange(now, b, a, &in, &out, nil, nil)
+	if err != nil || in.Err(0) != ErrNotMine || out.Len() != 1 || string(out.Segment(0)) != syn[0].segment || turned.Expired != 0 {
+		t.Fatal(err, in.Err(0), out.Len(), turned)
+	}
+	// Both close, and the second FIN's acknowledgement begins TIME-WAIT.
+	open := established(t)
+	defer open[0].Free()
+	defer open[1].Free()
+	for side := range open {
+		if err := open[side].Close(began); err != nil {
+			t.Fatal(err)
+		}
+		for turn := side; turn < side+2; turn++ {
+			for _, it := range emittedBy(open[turn%2], began) {
+				open[1-turn%2].Arrive(began, addrs[turn%2], it.to, []byte(it.segment))
+			}
+		}
+	}
+	reset := make([]byte, 20)
+	reset[13] = 4
+	if _, err := open[0].Arrive(began, b, a, reset); err != ErrWithheld || open[0].Status().phase != 10 {
+		t.Fatal(err, open[0].Status().phase)
+	}
+}
+
+func TestConnectionRefused(t *testing.T) {
+	rules := DefaultRules()
+	rules.Least = 0
+	config := DefaultConfig(a, 7, 1)
+	small := config
+	small.MSS = 1
+	for wanted, make := range map[Refused]func() (*Connection, error){
+		29: func() (*Connection, error) { return Listen(config, rules, began) },
+		23: func() (*Connection, error) { return Connect(small, DefaultRules(), b, 1, began) },
+		26: func() (*Connection, error) { return Listen(Config{}, DefaultRules(), began) },
+		27: func() (*Connection, error) { return Listen(Config{Addr: a}, DefaultRules(), began) },
+		21: func() (*Connection, error) { return Listen(Config{Addr: a, Port: 1, MSS: 64}, DefaultRules(), began) },
+	} {
+		if connection, err := make(); connection != nil || !errors.Is(err, wanted) {
+			t.Fatal(wanted, err)
+		}
+	}
+	both := opened(t, DefaultRules())
+	defer both[1].Free()
+	var in, out Batch
+	server, room := both[1], [EmitRoom]byte{}
+	if _, err := server.Send(began, room[:1]); err != ErrNotConnected {
+		t.Fatal(err)
+	}
+	if _, err := server.Exchange(began, a, b, &in, &in, nil, nil); err != Refused(38) {
+		t.Fatal(err)
+	}
+	// A segment that is none ends no turn, and no call of the user's does.
+	in.Add(room[:10])
+	if _, err := server.Exchange(began, a, b, &in, &out, room[:1], nil); err != ErrNotConnected || in.Err(0) != Refused(1) || out.Len() != 0 {
+		t.Fatal(err, in.Err(0))
+	}
+	freed := both[0]
+	freed.Free()
+	freed.Free()
+	_, arrived := freed.Arrive(began, b, a, room[:20])
+	_, sent := freed.Send(began, room[:1])
+	_, received := freed.Receive(began, room[:1])
+	_, _, peeked := freed.Peek()
+	_, consumed := freed.Consume(began, 1)
+	_, exchanged := freed.Exchange(began, b, a, &in, &out, nil, nil)
+	for _, err := range []error{arrived, sent, received, peeked, consumed, exchanged, freed.Acknowledge(began), freed.Close(began), freed.Abort(began)} {
+		if err != ErrNoEnd {
+			t.Fatal(err)
+		}
+	}
+	for at, call := range []func(){func() { freed.Emit(began, &room) }, func() { freed.PollAt() }, func() { freed.Timeout(began) }, func() { freed.Status() }} {
+		if found := refusal(call); found != ErrNoEnd {
+			t.Fatal(at, found)
+		}
+	}
+}
+
+// Times before the beginning count as it, and a limit that no Duration can tell is as far away as one can.
+func TestConnectionTimes(t *testing.T) {
+	client := opened(t, DefaultRules())[0]
+	defer client.Free()
+	early := began.Add(-time.Hour)
+	emittedBy(client, early)
+	if at := client.PollAt(); !at.Equal(began.Add(time.Second)) {
+		t.Fatal(at)
+	}
+	for at, wanted := range map[uint64]time.Time{1500000: began.Add(1500 * time.Millisecond), 1<<64 - 1: {}, 1<<64 - 2: began.Add(1<<63 - 1)} {
+		if found := client.timeOf(at); !found.Equal(wanted) {
+			t.Fatal(at, found)
+		}
+	}
+}
+
+// A turn in a steady state allocates nothing.
+func TestConnectionKeepsItsMemory(t *testing.T) {
+	both := established(t)
+	defer both[0].Free()
+	defer both[1].Free()
+	var there, back Batch
+	now, text, read := began, make([]byte, 2000), make([]byte, 5000)
+	turn := func() {
+		now = now.Add(time.Millisecond)
+		there.Reset()
+		_, err := both[0].Exchange(now, b, a, &back, &there, text, nil)
+		back.Reset()
+		told, same := both[1].Exchange(now, a, b, &there, &back, nil, read)
+		if err != nil || same != nil || told.Got != len(text) || there.Len() != 2 || back.Len() != 1 {
+			t.Fatal(err, same, told, there.Len(), back.Len())
+		}
+	}
+	if count := testing.AllocsPerRun(100, turn); count != 0 {
+		t.Error(count)
+	}
+}
