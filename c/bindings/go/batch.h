@@ -157,4 +157,16 @@ static inline struct batch_emitted batch_arrive_one(tcpcore_end *end, tcpcore_ad
     return told;
 }
 
+struct batch_status {
+    struct tcpcore_status status;
+    uint32_t answer;
+};
+
+static inline struct batch_status batch_status(const tcpcore_end *end)
+{
+    struct batch_status told;
+    told.answer = tcpcore_status(end, &told.status);
+    return told;
+}
+
 #endif

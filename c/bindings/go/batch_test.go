@@ -338,7 +338,7 @@ func TestBatchGrows(t *testing.T) {
 	if count, err := other.Receive(got); count != len(text) || err != nil || !bytes.Equal(got[:count], text) {
 		t.Fatal(count, err)
 	}
-	if batch.Len() != 0 || one.Status().in_flight != 0 {
+	if batch.Len() != 0 || one.Status().InFlight != 0 {
 		t.Fatal(batch.Len(), one.Status())
 	}
 }

@@ -279,11 +279,11 @@ func (connection *Connection) Abort(now time.Time) error {
 	return done(C.tcpcore_connection_abort(connection.raw, connection.since(now)))
 }
 
-// Status reports phase, ending, counts, and what the two SYNs agreed on.
+// Status tells phase, ending, counts, and what the two SYNs agreed on.
 func (connection *Connection) Status() Status {
 	told := C.connection_status(connection.raw)
 	found(told.answer)
-	return told.status
+	return statusOf(&told.status)
 }
 
 // Turned is what a turn of a connection did: what Send and Receive told; the timers that expired, bit 1 << t for timer t; what PollAt tells

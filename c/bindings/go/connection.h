@@ -105,14 +105,9 @@ static inline struct connection_lent connection_peek(const tcpcore_connection *c
     return told;
 }
 
-struct connection_status {
-    struct tcpcore_status status;
-    uint32_t answer;
-};
-
-static inline struct connection_status connection_status(const tcpcore_connection *connection)
+static inline struct batch_status connection_status(const tcpcore_connection *connection)
 {
-    struct connection_status told;
+    struct batch_status told;
     told.answer = tcpcore_connection_status(connection, &told.status);
     return told;
 }

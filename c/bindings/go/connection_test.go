@@ -151,7 +151,7 @@ func turnSingly(it *Connection, now time.Time, src, dst Addr, segments []string,
 		turned.Expired |= 1 << timer
 		out = append(out, emittedBy(it, now)...)
 	}
-	turned.PollAt, turned.Closed = it.PollAt(), it.Status().phase == 0
+	turned.PollAt, turned.Closed = it.PollAt(), it.Status().Phase == Closed
 	return
 }
 
@@ -192,7 +192,7 @@ func carries(t *testing.T, seed int64, jitter, loss int, rules Rules) *link {
 			for again := true; again; segments = nil {
 				it, user := both[side], &users[side]
 				text := user.text
-				if it.Status().phase < 4 && side == 1 {
+				if it.Status().Phase < Open && side == 1 {
 					text = nil
 				}
 				answers, sent, turned, err := turnSingly(it, wire.now, addrs[1-side], addrs[side], segments, text, read[0])
@@ -214,7 +214,7 @@ func carries(t *testing.T, seed int64, jitter, loss int, rules Rules) *link {
 					}
 				}
 				again = turned.Got > 0
-				if !user.closing && len(user.text) == 0 && it.Status().phase >= 4 {
+				if !user.closing && len(user.text) == 0 && it.Status().Phase >= Open {
 					user.closing, again = true, true
 					if it.Close(wire.now) != nil || beside[side].Close(wire.now) != nil {
 						t.Fatal(seed, "not closed")
@@ -225,7 +225,7 @@ func carries(t *testing.T, seed int64, jitter, loss int, rules Rules) *link {
 		}
 	}
 	for side := range both {
-		if status := both[side].Status(); status.phase != 0 || status.ending != 1 || !bytes.Equal(users[side].got, texts[1-side]) {
+		if status := both[side].Status(); status.Phase != Closed || status.Ending != Orderly || !bytes.Equal(users[side].got, texts[1-side]) {
 			t.Fatal(seed, side, status, len(users[side].got))
 		}
 	}
@@ -288,7 +288,7 @@ func TestConnectionSyn(t *testing.T) {
 			}
 			now, last = at, timer
 		}
-		if !reflect.DeepEqual(sent, it.seconds) || now.Sub(began) != it.at || last != UserTimeout || client.Status().ending != 3 {
+		if !reflect.DeepEqual(sent, it.seconds) || now.Sub(began) != it.at || last != UserTimeout || client.Status().Ending != WasAborted {
 			t.Fatal(sent, now, last, client.Status())
 		}
 		if _, err := client.Send(now, []byte("x")); err != ErrEnded {
@@ -397,8 +397,8 @@ func TestConnectionEmitsFirst(t *testing.T) {
 	}
 	reset := make([]byte, 20)
 	reset[13] = 4
-	if _, err := open[0].Arrive(began, b, a, reset); err != ErrWithheld || open[0].Status().phase != 10 {
-		t.Fatal(err, open[0].Status().phase)
+	if _, err := open[0].Arrive(began, b, a, reset); err != ErrWithheld || open[0].Status().Phase != InTimeWait {
+		t.Fatal(err, open[0].Status().Phase)
 	}
 }
 
@@ -490,5 +490,64 @@ func TestConnectionKeepsItsMemory(t *testing.T) {
 	}
 	if count := testing.AllocsPerRun(100, turn); count != 0 {
 		t.Error(count)
+	}
+}
+
+// Each field of a status, of a connection and of an end: what a transfer of 3,000 bytes, of which 1,460 were read, comes to.
+func TestStatus(t *testing.T) {
+	both := established(t)
+	defer both[0].Free()
+	defer both[1].Free()
+	both[0].Send(began, make([]byte, 3000))
+	segments := emittedBy(both[0], began)
+	for _, it := range segments[:2] {
+		if _, err := both[1].Arrive(began, a, b, []byte(it.segment)); err != nil {
+			t.Fatal(err)
+		}
+	}
+	if n, err := both[1].Receive(began, make([]byte, 1460)); n != 1460 || err != nil {
+		t.Fatal(n, err)
+	}
+	for _, it := range emittedBy(both[1], began) {
+		both[0].Arrive(began, b, a, []byte(it.segment))
+	}
+	sent := Status{Phase: Open, Released: 2920, SndUna: 2921, SndNxt: 3001, RcvNxt: 1, Room: 19920, Queued: 80, InFlight: 80, SndWnd: 18540,
+		RcvWnd: 20000, MSS: 1460, Sack: true}
+	if status := both[0].Status(); status != sent {
+		t.Fatalf("%+v", status)
+	}
+	got := Status{Phase: Open, Unread: 1460, Ordered: 2920, SndUna: 1, SndNxt: 1, RcvNxt: 2921, Room: 20000, SndWnd: 20000, RcvWnd: 18540,
+		MSS: 1460, Sack: true}
+	if status := both[1].Status(); status != got {
+		t.Fatalf("%+v", status)
+	}
+	both[0].Close(began)
+	for _, it := range append(segments[2:], emittedBy(both[0], began)...) {
+		both[1].Arrive(began, a, b, []byte(it.segment))
+	}
+	if status := both[0].Status(); !status.Closing || status.Finished || status.Phase.String() != "FIN-WAIT-1" {
+		t.Fatalf("%+v", status)
+	}
+	if status := both[1].Status(); status.Closing || !status.Finished || status.Phase.String() != "CLOSE-WAIT" || status.Ending.String() != "not ended" {
+		t.Fatalf("%+v", status)
+	}
+	config := DefaultConfig(a, 1, 1)
+	config.Shift, config.Sack = 3, false
+	one, _ := New(config)
+	config.Addr, config.Shift = b, 2
+	other, _ := New(config)
+	defer one.Free()
+	defer other.Free()
+	if other.Listen() != nil || one.Connect(b, 1) != nil || one.Status().Phase.String() != "SYN-SENT" || other.Status().Phase != Listening {
+		t.Fatal(one.Status(), other.Status())
+	}
+	carry(one, a, other)
+	carry(other, b, one)
+	status := one.Status()
+	if !status.Scaled || status.OwnShift != 3 || status.PeerShift != 2 || status.Sack || !Established(status) || Ended(status) {
+		t.Fatalf("%+v", status)
+	}
+	if one.Abort() != nil || !Ended(one.Status()) || one.Status().Ending.String() != "aborted" {
+		t.Fatalf("%+v", one.Status())
 	}
 }

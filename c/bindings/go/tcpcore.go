@@ -334,14 +334,9 @@ func (end *End) Timers() uint32 {
 	return uint32(due)
 }
 
-// Status is struct tcpcore_status, by the names of its fields.
-type Status = C.struct_tcpcore_status
-
-func (end *End) Status() (status Status) {
-	found(C.tcpcore_status(end.raw, &status))
-	return
+// Status tells phase, ending, counts, and what the two SYNs agreed on.
+func (end *End) Status() Status {
+	told := C.batch_status(end.raw)
+	found(told.answer)
+	return statusOf(&told.status)
 }
-
-// Established and Ended tell the phase and whether the connection has ended, of a status.
-func Established(status Status) bool { return status.phase == C.TCPCORE_PHASE_ESTABLISHED }
-func Ended(status Status) bool       { return status.ending != C.TCPCORE_ENDING_NOT_ENDED }
