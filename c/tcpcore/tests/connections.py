@@ -248,11 +248,11 @@ ODD = (None, -1, 0, 1 << 70, 0.5, float("nan"), "x", "10.0.0.1", b"", bytes(20),
 
 
 def hostile():
-    """Any calls with any arguments: refused, or raised as a fault of the arguments."""
-    chance = random.Random(11)
+    """Any calls with any arguments: refused, or raised as a fault of the arguments. TCPCORE_CALLS in the environment says how many calls."""
+    chance, calls = random.Random(11), int(os.environ.get("TCPCORE_CALLS", "16000"))
     names = ("poll_at", "timeout", "arrive", "arrive_with_report", "transmit", "emit", "emit_all", "send", "receive", "peek", "consume", "acknowledge", "close", "abort", "status", "free")
     faults, done = (Refused, ValueError, TypeError), 0
-    for turn in range(400):
+    for turn in range(calls // 40):
         now, ends = 0.0, list(pair())
         segments = [bytes(20)]
         for _ in range(40):
@@ -273,7 +273,7 @@ def hostile():
                     segments.append(found[1])
             except faults:
                 pass
-    check(done > 5000, True)
+    check(done > calls // 4, True)
 
 
 def main():

@@ -376,11 +376,12 @@ fn placed_connections_move() {
 }
 
 /// Calls in any order, at times that go back or end, with segments that were damaged, come twice or from elsewhere: no call panics, and
-/// what is read is what the other side sent.
+/// what is read is what the other side sent. TCPCORE_CALLS in the environment says how many calls.
 #[test]
 fn any_calls_at_any_times() {
     let (mut in_all, mut first) = (0, 0);
-    for seed in 1..40 {
+    let calls: u64 = std::env::var("TCPCORE_CALLS").map_or(120_000, |calls| calls.parse().unwrap());
+    for seed in 1..=calls / 3000 {
         let mut any = Any(seed * 7_919);
         let mut ends = pair(&Rules::new().user(Some(SECOND)), Time::ZERO);
         let (mut seen, mut room, mut out) = (vec![], [0; EMIT_ROOM], [0; 700]);

@@ -1,0 +1,320 @@
+/*
+ * Connections under hostile calls, drawn from a seed: any call in any order, at times that go on, go back and end; segments that were
+ * damaged, cut, made anew with a right checksum, or come from elsewhere; lengths that are too long, pointers that are NULL or lie over
+ * the struct, structs that were copied or freed, configs and rules out of their ranges. Each call answers what the header says of it,
+ * writes zeros where it refuses, and changes nothing then. 'hostile SEED CALLS' makes so many; without words it makes 20,000.
+ */
+#include "check.h"
+#include "sums.h"
+#include "tcpcore.h"
+
+#include <string.h>
+
+enum { CAPACITY = 6000, KEPT = 64, RUNS = 8 };
+
+static const tcpcore_addr ADDRS[3] = {{{10, 0, 0, 1}}, {{10, 0, 0, 2}}, {{0, 0, 0, 0}}};
+static unsigned char blocks[2][TCPCORE_CONNECTION_MEMORY_RUNS(CAPACITY, CAPACITY, RUNS)], buffer[1 << 16];
+static tcpcore_connection ends[2];
+static uint64_t now, counts[60];
+
+/* The last segments that were emitted, of either side. */
+static struct segment {
+    size_t length;
+    unsigned char bytes[TCPCORE_EMIT_ROOM];
+} kept[KEPT];
+static size_t kept_count;
+
+static uint64_t word;
+
+static uint64_t any(uint64_t bound)
+{
+    word ^= word << 13;
+    word ^= word >> 7;
+    word ^= word << 17;
+    return (word >> 16) % bound;
+}
+
+static int rarely(void) { return any(60) == 0; }
+
+static int is_zero(const void *at, size_t length)
+{
+    const unsigned char *bytes = at;
+    for (size_t i = 0; i < length; i++)
+        if (bytes[i] != 0)
+            return 0;
+    return 1;
+}
+
+/* A length: short, long, or one that no buffer has. */
+static size_t any_length(size_t most)
+{
+    switch (any(20)) {
+    case 0:
+        return SIZE_MAX - any(3);
+    case 1:
+        return 0;
+    default:
+        return any(most);
+    }
+}
+
+/* The connection that a call is given: a side's, and at times none, a copy or garbage. */
+static tcpcore_connection *any_end(size_t side)
+{
+    static tcpcore_connection copy, garbage = {{7, 7, 7}};
+    if (!rarely())
+        return &ends[side];
+    copy = ends[side];
+    return any(3) == 0 ? NULL : any(2) == 0 ? &copy : &garbage;
+}
+
+/* Where a call with this struct is to write: at `right`, and at times nowhere or over the struct. */
+static void *any_place(void *right, tcpcore_connection *end) { return !rarely() ? right : any(2) == 0 ? NULL : (void *)end; }
+
+static const uint32_t CALLS[] = {TCPCORE_NO_END, TCPCORE_NULL, TCPCORE_LENGTH, TCPCORE_COPIED, TCPCORE_OVERLAP};
+
+/* The answer is one of the boundary's, or of these. */
+static void answers(const char *name, uint32_t answer, const uint32_t *others, size_t count)
+{
+    for (size_t i = 0; i < sizeof CALLS / sizeof *CALLS; i++)
+        if (answer == CALLS[i])
+            goto found;
+    for (size_t i = 0; i < count; i++)
+        if (answer == others[i])
+            goto found;
+    printf("hostile: %s answers %u\n", name, (unsigned)answer);
+    exit(1);
+found:
+    counts[answer]++;
+}
+
+#define ANSWERS(name, answer, ...) \
+    answers(name, answer, (const uint32_t[]){__VA_ARGS__}, sizeof((const uint32_t[]){__VA_ARGS__}) / sizeof(uint32_t))
+
+/* Makes a connection, with numbers that may be out of their ranges. */
+static void make(size_t side)
+{
+    tcpcore_config config = TCPCORE_CONFIG_DEFAULT;
+    struct tcpcore_connection_rules rules = TCPCORE_CONNECTION_RULES_DEFAULT;
+    config.addr = ADDRS[rarely() ? 2 : side];
+    config.port = (uint16_t)(rarely() ? 0 : 1 + side);
+    config.isn = (uint32_t)(UINT32_MAX - any(10000));
+    config.mss = (uint16_t)(rarely() ? any(100) : 64 + any(1397));
+    config.send_capacity = rarely() ? any(4) * 1000000 : 1 + any(CAPACITY);
+    config.recv_capacity = 1 + any(CAPACITY);
+    config.scales = (uint8_t)any(2);
+    config.window_shift = (uint8_t)any(rarely() ? 256 : 15);
+    config.sack = (uint8_t)any(2);
+    config.runs = (uint16_t)(rarely() ? 5000 : 1 + any(RUNS));
+    config.limit = rarely() ? any(3) : 1 + any(UINT64_C(1) << (1 + any(40)));
+    rules.least = rarely() ? any(2) : 1 + any(2000000);
+    rules.greatest = any(UINT64_C(1) << (20 + any(24)));
+    rules.user = any(4) == 0 ? TCPCORE_NEVER : any(UINT64_C(1) << 32);
+    rules.fin_wait_2 = any(2) == 0 ? TCPCORE_NEVER : any(UINT64_C(1) << 32);
+    rules.suspect_after = (uint32_t)any(4);
+    tcpcore_connection was = ends[side], *end = any_end(side);
+    void *block = any_place(blocks[side], end);
+    size_t length = rarely() ? any_length(sizeof *blocks) : sizeof *blocks;
+    uint32_t answer = any(2) == 0 ? tcpcore_connection_listen(end, &config, &rules, now, block, length)
+                                  : tcpcore_connection_connect(end, &config, &rules, ADDRS[1 - side], (uint16_t)(2 - side), now, block, length);
+    ANSWERS("making", answer, TCPCORE_DONE, TCPCORE_IN_USE, TCPCORE_BAD_CAPACITY, TCPCORE_NO_MEMORY, TCPCORE_BAD_MSS, TCPCORE_BAD_SHIFT,
+            TCPCORE_BAD_LIMIT, TCPCORE_BAD_ADDR, TCPCORE_BAD_PORT, TCPCORE_BAD_RUNS, TCPCORE_BAD_RULES);
+    if (answer != TCPCORE_DONE)
+        CHECK(memcmp(&was, &ends[side], sizeof was), 0);
+}
+
+/* Gives a segment the right checksum (RFC 9293, 3.1). */
+static void seal(unsigned char *bytes, size_t length, tcpcore_addr src, tcpcore_addr dst)
+{
+    put16(bytes + 16, 0);
+    put16(bytes + 16, ~summed(pseudo(src, dst, length), bytes, length) & 0xffff);
+}
+
+/* A segment that was emitted by either side, as it was or damaged; or any bytes. */
+static size_t any_segment(unsigned char *bytes, tcpcore_addr src, tcpcore_addr dst)
+{
+    size_t length = any(100);
+    for (size_t i = 0; i < length; i++)
+        bytes[i] = (unsigned char)any(256);
+    if (kept_count > 0 && any(10) > 0) {
+        /* Of the last ones, or of all. */
+        size_t most = kept_count < KEPT ? kept_count : KEPT, back = any(any(4) == 0 || most < 4 ? most : 4);
+        const struct segment *it = &kept[(kept_count - 1 - back) % KEPT];
+        length = it->length;
+        memcpy(bytes, it->bytes, length);
+    }
+    for (uint64_t changes = any(12) == 0 ? 1 + any(3) : 0; changes > 0 && length > 0; changes--)
+        bytes[any(any(2) == 0 && length > 20 ? 20 : length)] = (unsigned char)any(256);
+    if (rarely())
+        length = any(length + 1);
+    if (any(4) > 0 && length >= 20)
+        seal(bytes, length, src, dst);
+    return length;
+}
+
+static void arrive(size_t side)
+{
+    struct tcpcore_arrive_report report;
+    size_t from = rarely() ? any(3) : 1 - side, to = rarely() ? any(3) : side;
+    size_t length = any_segment(buffer, ADDRS[from], ADDRS[to]);
+    tcpcore_connection *end = any_end(side);
+    void *place = any_place(&report, end);
+    const void *bytes = any_place(buffer, end);
+    if (rarely())
+        length = SIZE_MAX - any(3);
+    uint32_t answer = tcpcore_connection_arrive(end, now, ADDRS[from], ADDRS[to], bytes, length, place);
+    ANSWERS("arrive", answer, TCPCORE_DONE, TCPCORE_TOO_SHORT, TCPCORE_TOO_LONG, TCPCORE_BAD_CHECKSUM, TCPCORE_BAD_OFFSET, TCPCORE_BAD_OPTION,
+            TCPCORE_BAD_PADDING, TCPCORE_DROPPED, TCPCORE_NOT_MINE, TCPCORE_EMIT_FIRST, TCPCORE_WITHHELD);
+    if (place == &report && answer != TCPCORE_DONE && answer != TCPCORE_DROPPED && answer != TCPCORE_NOT_MINE)
+        CHECK(is_zero(&report, sizeof report), 1);
+}
+
+static void emit(size_t side)
+{
+    static const uint64_t WINDOWS[] = {0, 1, 1460, 5000, UINT64_MAX};
+    struct segment *it = &kept[kept_count % KEPT];
+    struct tcpcore_connection_segment segment;
+    tcpcore_connection *end = any_end(side);
+    void *place = any_place(&segment, end), *out = any_place(it->bytes, end);
+    size_t room = rarely() ? any_length(TCPCORE_EMIT_ROOM) : TCPCORE_EMIT_ROOM;
+    uint32_t answer = tcpcore_connection_emit(end, now, WINDOWS[any(5)], out, room, place);
+    ANSWERS("emit", answer, TCPCORE_DONE, TCPCORE_NOT_DUE, TCPCORE_ROOM);
+    if (answer != TCPCORE_DONE) {
+        CHECK(place != &segment || is_zero(&segment, sizeof segment), 1);
+        return;
+    }
+    CHECK(segment.length >= 20 && segment.length <= TCPCORE_EMIT_ROOM, 1);
+    it->length = (size_t)segment.length;
+    kept_count++;
+}
+
+static void send(size_t side)
+{
+    tcpcore_connection *end = any_end(side);
+    size_t taken = 7, length = any_length(5000), *place = any_place(&taken, end);
+    const void *text = any_place(buffer, end);
+    uint32_t answer = tcpcore_connection_send(end, now, text, length, place);
+    ANSWERS("send", answer, TCPCORE_DONE, TCPCORE_ENDED, TCPCORE_NOT_CONNECTED, TCPCORE_CLOSING, TCPCORE_STREAM_FULL);
+    CHECK(place != &taken || (answer == TCPCORE_DONE ? taken <= length : taken == 0), 1);
+}
+
+static void receive(size_t side)
+{
+    static unsigned char read[5000];
+    tcpcore_connection *end = any_end(side);
+    size_t count = 7, room = any_length(sizeof read), *place = any_place(&count, end);
+    void *out = any_place(read, end);
+    uint32_t answer = tcpcore_connection_receive(end, now, out, room, place);
+    ANSWERS("receive", answer, TCPCORE_DONE, TCPCORE_NOTHING, TCPCORE_END_OF_STREAM, TCPCORE_ENDED, TCPCORE_NOT_OPEN);
+    CHECK(place != &count || (answer == TCPCORE_DONE ? count <= room : count == 0), 1);
+}
+
+static void lend(size_t side)
+{
+    struct tcpcore_lent lent;
+    tcpcore_connection *end = any_end(side);
+    size_t count = 7, most = any_length(5000), *place = any_place(&count, end);
+    uint32_t answer = tcpcore_connection_peek(end, any_place(&lent, end));
+    ANSWERS("peek", answer, TCPCORE_DONE, TCPCORE_NOTHING, TCPCORE_END_OF_STREAM, TCPCORE_ENDED, TCPCORE_NOT_OPEN);
+    if (answer == TCPCORE_DONE) {
+        /* All that is lent can be read. */
+        memcpy(buffer, lent.first.at, lent.first.length);
+        if (lent.second.length > 0)
+            memcpy(buffer + lent.first.length, lent.second.at, lent.second.length);
+    }
+    answer = tcpcore_connection_consume(end, now, most, place);
+    ANSWERS("consume", answer, TCPCORE_DONE, TCPCORE_ENDED, TCPCORE_NOT_OPEN);
+    CHECK(place != &count || (answer == TCPCORE_DONE ? count <= most : count == 0), 1);
+}
+
+static void timeout(size_t side)
+{
+    tcpcore_connection *end = any_end(side);
+    uint64_t at = 7, *at_place = any_place(&at, end);
+    uint32_t timer = 7, *place = any_place(&timer, end);
+    uint32_t answer = tcpcore_connection_poll_at(end, at_place);
+    ANSWERS("poll_at", answer, TCPCORE_DONE);
+    if (answer == TCPCORE_DONE && any(2) == 0 && at != TCPCORE_NEVER && at > now)
+        now = at;
+    answer = tcpcore_connection_timeout(end, now, place);
+    ANSWERS("timeout", answer, TCPCORE_DONE, TCPCORE_NOT_DUE);
+    CHECK(place != &timer || (answer == TCPCORE_DONE ? timer <= TCPCORE_TIMER_USER : timer == 0), 1);
+}
+
+/* A call of the user's without a length. */
+static void use(size_t side)
+{
+    switch (any(30)) {
+    case 0:
+    case 3:
+    case 4:
+        ANSWERS("close", tcpcore_connection_close(any_end(side), now), TCPCORE_DONE, TCPCORE_ENDED, TCPCORE_CLOSING);
+        break;
+    case 1:
+        ANSWERS("abort", tcpcore_connection_abort(any_end(side), now), TCPCORE_DONE, TCPCORE_ENDED);
+        break;
+    case 2:
+        ANSWERS("free", tcpcore_connection_free(any_end(side)), TCPCORE_DONE);
+        break;
+    default:
+        ANSWERS("acknowledge", tcpcore_connection_acknowledge(any_end(side), now), TCPCORE_DONE);
+    }
+}
+
+/* Time goes on, back, or to its end and back. */
+static uint64_t any_time(uint64_t was)
+{
+    switch (any(2000)) {
+    case 0:
+        return UINT64_MAX - any(3);
+    case 1:
+        return was + any(UINT64_C(1) << 40);
+    default:
+        return any(20) == 0 ? any(was + 1) : was + any(UINT64_C(1) << any(18));
+    }
+}
+
+/* What an end tells of itself is what can be. */
+static void is_sound(size_t side)
+{
+    struct tcpcore_status s;
+    tcpcore_connection *end = any_end(side);
+    uint32_t answer = tcpcore_connection_status(end, any_place(&s, end));
+    ANSWERS("status", answer, TCPCORE_DONE);
+    if (answer != TCPCORE_DONE)
+        return;
+    CHECK(s.phase <= TCPCORE_PHASE_TIME_WAIT && s.ending <= TCPCORE_ENDING_ABORTED, 1);
+    CHECK(s.unread <= s.ordered && s.unread <= CAPACITY && s.in_flight <= s.queued && s.queued + s.room <= CAPACITY, 1);
+    CHECK(s.snd_una <= s.snd_nxt && s.rcv_wnd <= CAPACITY && s.released <= s.snd_una, 1);
+    /* One that has ended makes room for another. */
+    if (s.phase == TCPCORE_PHASE_CLOSED && any(10) == 0)
+        ANSWERS("free", tcpcore_connection_free(end), TCPCORE_DONE);
+}
+
+int main(int count, char **words)
+{
+    uint64_t seed = count > 2 ? strtoull(words[1], NULL, 10) : 1, calls = count > 2 ? strtoull(words[2], NULL, 10) : 20000;
+    static void (*const STEPS[])(size_t) = {arrive, arrive, arrive, arrive, emit, emit, emit, emit, send, receive, lend, timeout, use};
+    word = seed * 2654435761u + 88172645463325252u;
+    for (uint64_t call = 0; call < calls; call++) {
+        size_t side = any(2);
+        uint64_t was = now;
+        now = any_time(was);
+        if (is_zero(&ends[side], sizeof ends[side]) || rarely())
+            make(side);
+        STEPS[any(sizeof STEPS / sizeof *STEPS)](side);
+        is_sound(side);
+        /* A connection whose time has ended is made anew, and time goes on from where it was. */
+        if (now > UINT64_C(1) << 62)
+            ANSWERS("free", tcpcore_connection_free(&ends[side]), TCPCORE_DONE);
+        now = now < was || now > UINT64_C(1) << 62 ? was : now;
+    }
+    static const uint32_t MET[] = {TCPCORE_DONE, TCPCORE_BAD_CHECKSUM, TCPCORE_ENDED, TCPCORE_COPIED, TCPCORE_OVERLAP, TCPCORE_NULL,
+                                   TCPCORE_LENGTH, TCPCORE_NOT_MINE, TCPCORE_DROPPED, TCPCORE_EMIT_FIRST, TCPCORE_END_OF_STREAM,
+                                   TCPCORE_CLOSING, TCPCORE_BAD_RULES, TCPCORE_IN_USE};
+    for (size_t i = 0; i < sizeof MET / sizeof *MET; i++)
+        if (counts[MET[i]] == 0)
+            printf("hostile: %s was never met\n", tcpcore_strerror(MET[i]));
+    printf("hostile: each call answered what it may\n");
+    return 0;
+}
