@@ -25,7 +25,8 @@ export TCPCORE_CALLS=$calls
 (cd go && GOPROXY=off GOFLAGS=-mod=mod CGO_CFLAGS="-g -O1 -DTCPCORE_PORTABLE -DTCPCORE_UNCHECKED" go test -asan -count=1 -run Hostile .)
 # A sanitizer's library comes first in a program that wasn't linked with it.
 asan=$(gcc -print-file-name=libasan.so)
-CFLAGS="-fsanitize=address -DTCPCORE_PORTABLE" CARGO_TARGET_DIR=$out/target RUSTFLAGS="-Clink-arg=-fsanitize=address" \
+CFLAGS="-fsanitize=address -DTCPCORE_PORTABLE" CARGO_TARGET_DIR=$out/target RUSTFLAGS="-Clink-arg=-lasan" \
+    CARGO_TARGET_X86_64_UNKNOWN_LINUX_GNU_RUNNER="env LD_PRELOAD=$asan" \
     cargo test --quiet --offline --manifest-path rust/Cargo.toml --features unchecked --test connections any_calls
 LD_PRELOAD=$asan ASAN_OPTIONS=detect_leaks=0 LIBTCPCORE=$out/libtcpcore.so python3 ../tcpcore/tests/connections.py
 echo "hostile: $calls calls in each of five languages"

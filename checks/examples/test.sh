@@ -3,6 +3,8 @@
 # tcpjudge.c, release/ by default; TCPJUDGE is a judge that is built already.
 # - tun_http.c, built as its first lines say and with sanitizers: curl gets a file from it, also where 5 of 100 packets are lost each way,
 #   and many at once; and more, one after another, than it has slots.
+# - tun_echo.c and udp_file.c, built likewise: clients are sent back what they send, one, many at once, and where packets are lost; and a file
+#   comes whole over UDP of which each tenth datagram is lost.
 # - judged_transfer.py finds two hosts clean and the byte that it has changed, and fails where the judge finds nothing.
 # - device/ under qemu: over its user network curl gets the page; over a TAP device from the next host and from another network, with
 #   losses, and an echo is answered. Prints the bytes of flash, RAM and stack. And frames.c, on this machine.
@@ -109,25 +111,76 @@ serves() {
     pass
 }
 
-tun() {
-    local words
-    # The command of its first lines, with the folder that is tested in the place of release/.
-    words=$(sed -n 's|^// *\(cc .*\) -o tun_http$|\1|p' examples/tun_http.c)
+# Builds an example by the command of its first lines, with the folder that is tested in the place of release/; and with sanitizers beside
+# it, where they are here: then the library by itself is under sanitizers in c/portable/test.sh.
+builds() {
+    local name=$1 words
+    words=$(sed -n "s|^// *\(cc .*\) -o $name\$|\1|p" "examples/$name.c")
     words=${words/-Irelease/-I$release}
     words=${words/release\/tcpcore.c/$release/tcpcore.c}
-    [[ -n $words ]] || fail "no command in tun_http.c"
-    head -c 400000 /dev/urandom >"$out/file"
-    sh -c "$words -o '$out/tun_http'"
+    [[ -n $words ]] || fail "no command in $name.c"
+    sh -c "$words -o '$out/$name'"
     pass
-    serves "$out/tun_http"
     echo 'int main(void) { return 0; }' >"$out/probe.c"
+    rm -f "$out/$name.sanitized"
     if has libasan8 gcc -fsanitize=address "$out/probe.c" -o "$out/probe"; then
-        # The library by itself is under sanitizers in c/portable/test.sh.
         cc -O2 -c "$release/tcpcore.c" -o "$out/tcpcore.o"
-        sh -c "${words/"$release/tcpcore.c"/$out/tcpcore.o} $sanitizers -o '$out/tun_http.sanitized'"
-        serves "$out/tun_http.sanitized"
+        sh -c "${words/"$release/tcpcore.c"/$out/tcpcore.o} $sanitizers -o '$out/$name.sanitized'"
     fi
+}
+
+tun() {
+    head -c 400000 /dev/urandom >"$out/file"
+    builds tun_http
+    serves "$out/tun_http"
+    if [[ -e $out/tun_http.sanitized ]]; then serves "$out/tun_http.sanitized"; fi
     echo "examples: tun_http serves"
+}
+
+# An echo server on a TUN device: one client, many at once, and some where packets are lost.
+echoes() {
+    local program=$1
+    new_space
+    start tun_echo "$program" tun0 10.9.0.2/24 7
+    until_done grep -qx ready "$out/tun_echo.log"
+    inside ip address add 10.9.0.1/24 dev tun0
+    inside ip link set tun0 up
+    inside timeout 60 python3 checks/examples/echo_clients.py 10.9.0.2 7 1 1000 || fail "no echo"
+    inside timeout 60 python3 checks/examples/echo_clients.py 10.9.0.2 7 100 200000 || fail "no echo for many"
+    lose
+    inside timeout 60 python3 checks/examples/echo_clients.py 10.9.0.2 7 20 100000 || fail "no echo where packets are lost"
+    lose_no_more
+    # At another port nobody listens, which a reset says at once.
+    if inside timeout 5 bash -c 'exec 3<>/dev/tcp/10.9.0.2/8' 2>/dev/null; then fail "somebody listens at port 8"; fi
+    (($(inside nstat -asz TcpAttemptFails | awk '$1 == "TcpAttemptFails" { print $2 }') == 1)) || fail "no reset answers at port 8"
+    stop tun_echo
+    pass
+}
+
+# A file over UDP that loses each tenth datagram, and an empty one.
+over_udp() {
+    local program=$1 file
+    new_space
+    : >"$out/empty"
+    for file in "$out/file" "$out/empty"; do
+        ip netns exec "$space" timeout 60 "$program" 7777 >"$out/copy" &
+        child=$!
+        until_done eval "inside ss -lnu | grep -q :7777"
+        inside timeout 60 "$program" 127.0.0.1 7777 <"$file" || fail "$file wasn't sent to its end"
+        wait "$child" || fail "$file didn't come to its end"
+        cmp "$out/copy" "$file" || fail "another file came over UDP"
+    done
+    pass
+}
+
+# What is over connections alone.
+connections() {
+    local program
+    builds tun_echo
+    builds udp_file
+    for program in "$out"/tun_echo{,.sanitized}; do [[ ! -e $program ]] || echoes "$program"; done
+    for program in "$out"/udp_file{,.sanitized}; do [[ ! -e $program ]] || over_udp "$program"; done
+    echo "examples: tun_echo echoes, and udp_file carries a file"
 }
 
 judged() {
@@ -258,11 +311,12 @@ LIST
 mkdir -p "$out"
 for compiler in gcc clang; do
     if has "$compiler" "$compiler" --version; then
-        "$compiler" $warnings -I"$release" -Ic/companions -c examples/tun_http.c -o "$out/object.o"
+        for source in examples/*.c; do "$compiler" $warnings -I"$release" -Ic/companions -c "$source" -o "$out/object.o"; done
         pass
     fi
 done
 tun
+connections
 judged
 frames
 if has gcc-arm-none-eabi arm-none-eabi-gcc --version; then device; fi
