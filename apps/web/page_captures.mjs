@@ -1,4 +1,4 @@
-// Tests captures in the page: what is judged and when each segment was seen, files in other forms, cut ones and large ones, and what is
+// Tests captures in the page: what is judged and when each segment was seen, of a simulation, too, files in other forms, cut ones and large ones, and what is
 // cancelled.
 import fs from "node:fs";
 import path from "node:path";
@@ -85,6 +85,16 @@ async function judged(tab, expect, open) {
         ["No finding in 23 segments", 23, ["A 10.7.0.1:55928", "B 10.7.0.2:7"]]);
     await tab.run(() => document.getElementById("segments").dispatchEvent(new Event("input")));
     expect("a list that is typed isn't judged", (await tab.run(judged_shown)).is_shown, false);
+}
+
+// A capture that Python's Simulator has saved shows each segment when it was sent: over a link of 20 ms each way the handshake takes 40 ms,
+// and a whole window of text goes out behind it. Two ends of ours break no rule.
+async function simulated(tab, expect, open) {
+    const shown = await open("simulated.pcap", fs.readFileSync(at("checks/judge/data/simulated.pcap")));
+    expect("a simulation", [shown.is_shown, shown.told, shown.segments, shown.heads, shown.findings, shown.accused],
+        [true, "No finding in 23 segments", 23, ["A 10.0.0.1:1", "B 10.0.0.2:2"], [], []]);
+    expect("its times", [shown.times.slice(0, 4), shown.times.at(-1)],
+        [["0.000000 s", "0.020000 s", "0.040000 s", "0.040000 s"], "1.200000 s"]);
 }
 
 // A time is shown as exactly as the file has it, and no time where it has none.
@@ -296,6 +306,7 @@ export async function captures(tab, expect) {
         return tab.run(judged_shown);
     };
     await judged(tab, expect, open);
+    await simulated(tab, expect, open);
     await seen_at_once(tab, expect, open);
     await mended(tab, expect, open);
     await times(tab, expect, open);

@@ -5,9 +5,11 @@
     simulator.client.close()
     simulator.run()
     simulator.plot("transfer.svg")
+    simulator.save("transfer.pcap")
 
 The client connects, and the server listens. Each side reads whatever comes, and sends what `send` was given as fast as its connection takes
-it. `record` has what happened, in order. No congestion control is part of a Connection yet: where a queue overflows, set the `window`
+it. `record` has what happened, in order, and `save` writes its segments as a capture, for Wireshark, tcpjudge or the page release/tcp.html.
+No congestion control is part of a Connection yet: where a queue overflows, set the `window`
 of a side's connection, as tcpcore.Connection says.
 """
 
@@ -20,7 +22,7 @@ import struct
 from collections import deque
 from typing import Any, Callable, NamedTuple, Optional, TypeVar, Union
 
-from tcpcore import Buffer, Config, Connection, Ending, Phase, Rules, Timer, octets
+from tcpcore import Buffer, Config, Connection, Ending, Phase, Rules, Timer, octets, packed
 
 IP_HEADER = 20
 FLAGS = ("FIN", "SYN", "RST", "PSH", "ACK", "URG", "ECE", "CWR")
@@ -61,6 +63,17 @@ class Event(NamedTuple):
     phase: Phase
     released: int
     ordered: int
+
+
+class Packet(NamedTuple):
+    """A segment as it left the side that sent it, or came to the other: `what` is "sent" or "arrived", at this side."""
+
+    time: float
+    side: str
+    what: str
+    src: bytes
+    dst: bytes
+    data: bytes
 
 
 class Link:
@@ -171,6 +184,7 @@ class Simulator:
         self.now, self.count = 0.0, 0
         self.due: list[tuple[float, int, Callable[..., None], tuple[Any, ...]]] = []
         self.record: list[Event] = []
+        self.packets: list[Packet] = []
         self.server = Side(self, "server", Connection.listen(0.0, server, rules), server.addr, back)
         connection = Connection.connect(0.0, client, server.addr, server.port, rules)
         self.client = Side(self, "client", connection, client.addr, there)
@@ -238,6 +252,7 @@ class Simulator:
             segment = segment_of(data, told.position, told.numbers > 0 and told.position < side.greatest)
             side.greatest = max(side.greatest, told.position + told.numbers)
             self.note(side, "sent", segment)
+            self.packets.append(Packet(self.now, side.name, "sent", packed(side.addr), told.to, data))
             fate, time = side.link.send(self.now, len(data) + IP_HEADER, self.chance)
             if fate == "arrived":
                 self.at(time, self.arrive, other, side.addr, told.to, data, segment)
@@ -254,6 +269,7 @@ class Simulator:
     def arrive(self, side: Side, src: Any, dst: bytes, data: bytes, segment: Segment) -> None:
         side.connection.arrive(self.now, src, dst, data)
         self.note(side, "arrived", segment)
+        self.packets.append(Packet(self.now, side.name, "arrived", packed(src), dst, data))
         self.turn(side)
 
     def expire(self, side: Side) -> None:
@@ -261,6 +277,17 @@ class Simulator:
             side.is_bursting = True
             self.note(side, "timeout", timer=timer)
             self.turn(side)
+
+    def save(self, path: str, at: Optional[str] = None) -> None:
+        """Writes the segments of the record into a pcap file, each with the time at which it was sent; or, at "client" or "server", what that
+        side sent, and what came to it when it came. release/tcp.html opens it, where it is dropped, and shows and judges each segment."""
+        with open(path, "wb") as file:
+            file.write(struct.pack("<IHHiIII", 0xA1B2C3D4, 2, 4, 0, 0, 65_535, 101))
+            for packet in self.packets:
+                if packet.what == "sent" if at is None else packet.side == at:
+                    whole = ip_header(packet.src, packet.dst, len(packet.data)) + packet.data
+                    seconds, micros = divmod(round(packet.time * 1e6), 1_000_000)
+                    file.write(struct.pack("<IIII", seconds, micros, len(whole), len(whole)) + whole)
 
     def plot(self, path: str) -> None:
         """Draws the positions of what was sent, lost, sent again and acknowledged over time, each way that had text, into a file whose name
@@ -304,6 +331,15 @@ def both(value: Any) -> tuple[Any, Any]:
     """The value of each way."""
     there, back = value if isinstance(value, tuple) else (value, value)
     return there, back
+
+
+def ip_header(src: bytes, dst: bytes, length: int) -> bytes:
+    """The header of an IPv4 packet with a segment of this length (RFC 791, 3.1): not to be fragmented, a time to live of 64."""
+    header = struct.pack(">BBHHHBBH", 0x45, 0, IP_HEADER + length, 0, 0x4000, 64, 6, 0) + src + dst
+    total = sum(struct.unpack(">10H", header))
+    while total > 0xFFFF:
+        total = (total & 0xFFFF) + (total >> 16)
+    return header[:10] + struct.pack(">H", ~total & 0xFFFF) + header[12:]
 
 
 def segment_of(data: bytes, position: int, again: bool) -> Segment:

@@ -4,6 +4,7 @@ seed, and all bytes whatever the link does. python3 simulations.py"""
 import importlib.util
 import os
 import random
+import struct
 import sys
 import tempfile
 
@@ -195,6 +196,41 @@ def pictures():
         check((found[0] == found[1], "sent again" in found[0] or len(found[0]) > 10_000), (True, True))
 
 
+def packets_of(path):
+    """The packets of a pcap file of raw IPv4 with microseconds: when each was seen, its addresses, and its segment."""
+    file, found, at = open(path, "rb").read(), [], 24
+    check(struct.unpack_from("<IHHiIII", file), (0xA1B2C3D4, 2, 4, 0, 0, 65_535, 101))
+    while at < len(file):
+        seconds, micros, length, whole = struct.unpack_from("<IIII", file, at)
+        packet, at = file[at + 16 : at + 16 + length], at + 16 + length
+        # RFC 791, 3.1: the sum over the header with its checksum is all ones.
+        total = sum(struct.unpack(">10H", packet[:20]))
+        check((whole, packet[0], packet[9], struct.unpack(">H", packet[2:4])[0], total % 0xFFFF), (length, 0x45, 6, length, 0))
+        found.append((1_000_000 * seconds + micros, packet[12:16], packet[16:20], packet[20:]))
+    return found
+
+
+def captures():
+    """A capture has the segments of the record, when they were sent, or when each was at a side; and a lost one at the side that sent it."""
+    simulator = of_seed(5)[0]
+    addrs = {"client": bytes([10, 0, 0, 1]), "server": bytes([10, 0, 0, 2])}
+    other = {"client": "server", "server": "client"}
+    lost = [event for event in simulator.record if event.what == "lost"]
+    check(len(lost) > 0, True)
+    with tempfile.TemporaryDirectory() as folder:
+        for at in (None, "client", "server"):
+            simulator.save(f"{folder}/run.pcap", at)
+            events = [event for event in simulator.record if event.what == "sent" or (at is not None and event.what == "arrived")]
+            events = [event for event in events if at in (None, event.side)]
+            found = packets_of(f"{folder}/run.pcap")
+            check(len(found), len(events))
+            for event, (micros, src, dst, data) in zip(events, found):
+                sender = event.side if event.what == "sent" else other[event.side]
+                numbers = struct.unpack(">II", data[4:12])
+                check((micros, src, dst, numbers), (round(1e6 * event.time), addrs[sender], addrs[other[sender]], event.segment[:2]))
+                check(len(data) - 4 * (data[12] >> 4), event.segment.length)
+
+
 def main():
     arithmetic()
     closing()
@@ -206,6 +242,7 @@ def main():
     steps()
     wrong()
     pictures()
+    captures()
     print("simulations.py: passed")
 
 
