@@ -1,0 +1,30 @@
+-- A WINDOW on an input.
+use Rattle.std.specs.Prelude.{◌≡◌, ℕ, List, ◌++◌, drop, map, option_map, Option, Some, None, ⊤}
+use Rattle.capture_form.specs.declared.form.Form.{Form}
+use Rattle.capture_form.specs.Pcap.{FrameContent, record_at, records_of}
+
+-- what the window holds and what remains of the input, where that is known, are together what they were
+abbrev pub Holds : Option (List ℕ) → List ℕ → Option (List ℕ) → List ℕ → Type 0
+Holds None window new held = ⊤
+Holds (Some bytes) window None held = ⊥
+Holds (Some bytes) window (Some left) held = window ++ bytes ≡ held ++ left
+
+-- and so they are behind the first 24, which tell a capture's form
+abbrev pub HoldsBehind : Option (List ℕ) → List ℕ → Option (List ℕ) → List ℕ → Type 0
+HoldsBehind None window new held = ⊤
+HoldsBehind (Some bytes) window None held = ⊥
+HoldsBehind (Some bytes) window (Some left) held = drop 24 (window ++ bytes) ≡ held ++ left
+
+-- the lengths on the wire of the frames in these bytes
+abbrev pub wires : Form → List ℕ → List ℕ
+wires form bytes = map (λ (f : FrameContent). f.wire) (records_of form bytes).0
+
+-- that of the first, and the bytes behind its record
+abbrev pub first_wire : Form → List ℕ → Option (ℕ × List ℕ)
+first_wire form bytes = option_map (λ (r : FrameContent × List ℕ). (r.0.wire, r.1)) (record_at form bytes)
+
+-- those found, and those of what is held and what remains, are those of all
+abbrev pub Tells : Form → Option (List ℕ) → List ℕ → List ℕ → Option (List ℕ) → List ℕ → Type 0
+Tells form None window found new held = ⊤
+Tells form (Some bytes) window found None held = ⊥
+Tells form (Some bytes) window found (Some left) held = found ++ wires form (held ++ left) ≡ wires form (window ++ bytes)

@@ -1,0 +1,203 @@
+ghost use Rattle.std.specs.Prelude.{◌≡◌, ◌<◌, ◌++◌, ◌∷◌, [], None, Some, MatchOption, IsSome, IfSome, IfOk, OnOk, length, false, true};
+ghost use Rattle.std.specs.Io.KnownBytes.{IsAtEnd};
+ghost use Rattle.capture_form.specs.Pcap.{form_of, is_damaged, record_at};
+ghost use Rattle.capture_window.specs.Windows.{Holds, HoldsBehind, first_wire, wires};
+
+use crate::window::Window;
+use capture_form::{Form, is_damaged, read_form, read_record};
+use kit_io::{Input, ReadError};
+use std::alloc::Global;
+
+/// The bytes that one read requests.
+const CHUNK: usize = 65536;
+
+/// How many bytes of a capture tell its form.
+const HEAD: usize = 24;
+
+/// Reads on until the window holds this many bytes, or the input ends.
+pub fn fill_to<I: Input>(count: usize, input: &mut I, window: &mut Window) -> Result<(), ReadError>
+    ensures held { OnOk result (Holds (I.remaining input.old) window.old (I.remaining input.new) window.new) }
+    ensures met { OnOk result (length window.new < count → IsAtEnd (I.remaining input.new)) }
+{
+    let mut buffer = [0u8; CHUNK];
+    while window.bytes().len() < count {
+        match input.read(&mut buffer) {
+            Err(_) => return Err(ReadError::Fault),
+            Ok(0) => return Ok(()),
+            Ok(read) => window.push(&buffer[..read])?,
+        }
+    }
+    Ok(())
+}
+
+/// Reads the form of a capture and takes the bytes that tell it. Where it is none in the pcap form, what was read stays in
+/// the window.
+pub fn open<I: Input>(input: &mut I, window: &mut Window) -> Result<Option<Form>, ReadError>
+    ensures form { IfOk result (λ form. IfSome (I.remaining input.old) (λ bytes. form ≡ form_of (window.old ++ bytes))) }
+    ensures behind { IfOk result (λ form. IsSome form → HoldsBehind (I.remaining input.old) window.old (I.remaining input.new) window.new) }
+    ensures held { IfOk result (λ form. form ≡ None → Holds (I.remaining input.old) window.old (I.remaining input.new) window.new) }
+{
+    fill_to(HEAD, input, window)?;
+    let Some(form) = read_form(window.bytes()) else {
+        return Ok(None);
+    };
+    window.pass(HEAD);
+    Ok(Some(form))
+}
+
+/// Reads on until a record begins what the window holds, and answers whether one does: none does where the input ends, or
+/// where a damaged record begins it.
+pub fn fill<I: Input>(form: Form, input: &mut I, window: &mut Window) -> Result<bool, ReadError>
+    ensures held { OnOk result (Holds (I.remaining input.old) window.old (I.remaining input.new) window.new) }
+    ensures whole { IfOk result (λ found. found ≡ true → IsSome (record_at form window.new)) }
+    ensures end { IfOk result (λ found. found ≡ false → record_at form window.new ≡ None) }
+    ensures met { IfOk result (λ found. found ≡ false → is_damaged form window.new ≡ false → IsAtEnd (I.remaining input.new)) }
+{
+    let mut buffer = [0u8; CHUNK];
+    loop {
+        if read_record(form, window.bytes()).is_some() {
+            return Ok(true);
+        }
+        if is_damaged(form, window.bytes()) {
+            return Ok(false);
+        }
+        match input.read(&mut buffer) {
+            Err(_) => return Err(ReadError::Fault),
+            Ok(0) => return Ok(false),
+            Ok(count) => window.push(&buffer[..count])?,
+        }
+    }
+}
+
+/// Takes the record that begins what the window holds, and answers its frame's length on the wire.
+pub fn pass_record(form: Form, window: &mut Window) -> Option<u32>
+    ensures { MatchOption result (record_at form window.old ≡ None) (λ wire. first_wire form window.old ≡ Some (wire, window.new)) }
+{
+    let (wire, left) = match read_record(form, window.bytes()) {
+        Some((frame, rest)) => (frame.wire, rest.len()),
+        None => return None,
+    };
+    let taken = window.bytes().len() - left;
+    window.pass(taken);
+    Some(wire)
+}
+
+/// Adds a length at the end.
+fn keep(found: &mut Vec<u32>, wire: u32) -> Result<(), ReadError>
+    ensures { OnOk result (found.new.items ≡ found.old.items ++ wire ∷ []) }
+{
+    if found.push(wire).is_err() {
+        return Err(ReadError::NoMemory);
+    }
+    Ok(())
+}
+
+/// The lengths on the wire of the frames that the window and its input hold, behind a capture's form: all those of the
+/// capture, though never more than a record and what one read gives are held at once.
+pub fn wire_lengths<I: Input>(
+    alloc: Global,
+    form: Form,
+    input: &mut I,
+    window: &mut Window,
+) -> Result<Vec<u32>, ReadError>
+    ensures { IfOk result (λ found. IfSome (I.remaining input.old) (λ bytes. found.items ≡ wires form (window.old ++ bytes))) }
+{
+    let mut found = Vec::new(alloc);
+    loop {
+        if !fill(form, input, window)? {
+            return Ok(found);
+        }
+        let Some(wire) = pass_record(form, window) else {
+            return Ok(found);
+        };
+        keep(&mut found, wire)?;
+    }
+}
+
+#[cfg(test)]
+mod tests {
+    use super::{fill, open, pass_record, wire_lengths};
+    use crate::window::Window;
+    use kit_io::{Counted, ReadError};
+    use std::alloc::AllocError;
+    use std::process::Abort;
+
+    /// A capture's first bytes, as tcpdump writes them: little endian order, microseconds, Ethernet.
+    const HEAD: [u8; 24] = [
+        212, 195, 178, 161, 2, 0, 4, 0, 0, 0, 0, 0, 0, 0, 0, 0, 0, 0, 4, 0, 1, 0, 0, 0,
+    ];
+
+    /// A record of three bytes that were sixty on the wire.
+    const RECORD: [u8; 19] = [
+        0, 241, 83, 101, 64, 226, 1, 0, 3, 0, 0, 0, 60, 0, 0, 0, 7, 8, 9,
+    ];
+
+    /// The first bytes of a record that tells 262,145 bytes.
+    const DAMAGED: [u8; 16] = [0, 241, 83, 101, 64, 226, 1, 0, 1, 0, 4, 0, 60, 0, 0, 0];
+
+    fn capture(rt: &impl AllocGlobal, parts: &[&[u8]]) -> Result<Vec<u8>, AllocError> {
+        let mut bytes = Vec::new(rt.alloc());
+        for part in parts {
+            bytes.extend_from_slice(part)?;
+        }
+        Ok(bytes)
+    }
+
+    /// The lengths of a capture's frames, and how many bytes are left in the window.
+    fn lengths(
+        rt: &(impl Abort + AllocGlobal),
+        bytes: &[u8],
+    ) -> Result<(Vec<u32>, usize), ReadError> {
+        let mut input = Counted::new(bytes);
+        let mut window = Window::new(rt.alloc());
+        let form = open(&mut input, &mut window)?.expect(rt, "a form");
+        let found = wire_lengths(rt.alloc(), form, &mut input, &mut window)?;
+        Ok((found, window.bytes().len()))
+    }
+
+    #[test]
+    fn reads_each_frame(rt: HostRuntime) -> Result<(), ReadError> {
+        let bytes = capture(&rt, &[&HEAD, &RECORD, &RECORD]).expect(&rt, "memory");
+        let (found, left) = lengths(&rt, &bytes)?;
+        assert_eq!(rt; found.as_slice(), [60, 60].as_slice());
+        assert_eq!(rt; left, 0);
+        let (found, left) = lengths(&rt, &bytes[..61])?;
+        assert_eq!(rt; found.as_slice(), [60].as_slice());
+        assert_eq!(rt; left, 18);
+        Ok(())
+    }
+
+    #[test]
+    fn stops_at_damage(rt: HostRuntime) -> Result<(), ReadError> {
+        let bytes = capture(&rt, &[&HEAD, &RECORD, &DAMAGED, &RECORD]).expect(&rt, "memory");
+        let (found, left) = lengths(&rt, &bytes)?;
+        assert_eq!(rt; found.as_slice(), [60].as_slice());
+        assert_eq!(rt; left, 35);
+        Ok(())
+    }
+
+    #[test]
+    fn leaves_what_is_no_capture(rt: HostRuntime) -> Result<(), ReadError> {
+        let text = b"came 10.0.0.1 10.0.0.2 -\n";
+        let mut input = Counted::new(text.as_slice());
+        let mut window = Window::new(rt.alloc());
+        assert!(rt; open(&mut input, &mut window)?.is_none());
+        assert_eq!(rt; window.bytes(), text.as_slice());
+        Ok(())
+    }
+
+    #[test]
+    fn moves_on_by_records(rt: HostRuntime) -> Result<(), ReadError> {
+        let bytes = capture(&rt, &[&HEAD, &RECORD, &RECORD]).expect(&rt, "memory");
+        let mut input = Counted::new(bytes.as_slice());
+        let mut window = Window::new(rt.alloc());
+        let form = open(&mut input, &mut window)?.expect(&rt, "a form");
+        assert!(rt; fill(form, &mut input, &mut window)?);
+        assert_eq!(rt; pass_record(form, &mut window), Some(60));
+        assert_eq!(rt; window.bytes(), RECORD.as_slice());
+        assert_eq!(rt; pass_record(form, &mut window), Some(60));
+        assert_eq!(rt; pass_record(form, &mut window), None);
+        assert!(rt; !fill(form, &mut input, &mut window)?);
+        Ok(())
+    }
+}
