@@ -38,12 +38,12 @@ const judged_shown = () => {
 async function judged(tab, expect, open) {
     const log = fs.readFileSync(at("crates/tcpjudge/data/faults.log"), "utf8"), run = fs.readFileSync(at("crates/tcpjudge/stdout"), "utf8");
     const places = log.split("\n").flatMap((line, place) => /^(?:came|went) /.test(line) ? [place + 1] : []);
-    const again = "line 38: an acknowledgement of 1, up to which not all came (RFC 9293, 3.4)";
+    const again = "line 40: an acknowledgement of 5, up to which not all came (RFC 9293, 3.4)";
     const found = [...run.split("\n").slice(0, -2), again].map(line => {
         const [, number, rule] = /^line (\d+): (.*)$/.exec(line);
         // The capture's times are the numbers of the lines in seconds, and are shown since the first.
         // Line 20 has a wrong checksum, which is a note where something may be missing.
-        const is_against_came = ["20", "26", "34", "36", "38"].includes(number);
+        const is_against_came = ["20", "26", "34", "36", "38", "40"].includes(number);
         return { number: places.indexOf(Number(number)) + 1, time: `${number - places[0]}.000000 s`, is_against_came, rule };
     });
     const lines_of = findings => findings.map(({ number, time, rule }) => `line ${number}, ${time}, B (10.0.0.2:2): ${rule}`);
@@ -59,7 +59,7 @@ async function judged(tab, expect, open) {
     const faults = await open("faults.pcap", capture_of_log(log)), accent = await tab.run(() => getComputedStyle(
         document.querySelector("#heads .phase")).fill);
     expect("planted faults", faults, {
-        is_shown: true, told: "6 findings in 25 segments: 0 of A's, 6 of B's", heads: ["A 10.0.0.1:1", "B 10.0.0.2:2"], segments: 25, connections: 1,
+        is_shown: true, told: "6 findings in 26 segments: 0 of A's, 6 of B's", heads: ["A 10.0.0.1:1", "B 10.0.0.2:2"], segments: 25, connections: 1,
         times: places.map(place => `${place - places[0]}.000000 s`), findings: lines_of(form), accused: arrows_of(form), is_crowded: false, colour: accent,
     });
     await check("complete-A", true);
@@ -67,7 +67,7 @@ async function judged(tab, expect, open) {
     await check("complete-B", true);
     const whole = await tab.run(judged_shown);
     expect("planted faults against what came", [whole.told, whole.findings, whole.accused],
-        ["11 findings in 25 segments: 0 of A's, 11 of B's", lines_of(found), arrows_of(found)]);
+        ["12 findings in 26 segments: 0 of A's, 12 of B's", lines_of(found), arrows_of(found)]);
     const [plain, kernel] = ["plain-B", "kernel-A"].map(name => fs.readFileSync(at("checks/judge/data", `${name}.pcap`)));
     const clean = await open("plain.pcap", plain);
     expect("a clean capture", [clean.is_shown, clean.told, clean.segments, clean.findings, clean.accused],

@@ -20,7 +20,9 @@ ANY_OFFER = [(SHIFT, bytes(1)), (PERMITTED, b"")]
 # The rule that damage on the path breaks too.
 WRONG_SUM = "the checksum is wrong"
 # Rules that hold a segment against what came.
-AGAINST_CAME = ("AckBeyond", "Unoffered", "Unpermitted", "BlockBeyond")
+AGAINST_CAME = ("AckBeyond", "AckBack", "Unoffered", "Unpermitted", "BlockBeyond")
+
+UNJUDGED = "note: acknowledgements and blocks aren't judged, as what came may be missing\n"
 
 
 class Malformed(Exception):
@@ -129,7 +131,7 @@ class Judge:
     def went(self, seen):
         """The first rule that is broken, as (name, words), or None. The segment is known from then on."""
         place = self.place(seen)
-        rules = self.form, self.initial_number, self.bytes_stay, self.fin_stays, self.acknowledgement, self.answer, self.permission, self.blocks
+        rules = self.form, self.initial_number, self.not_before_first, self.bytes_stay, self.fin_stays, self.acknowledgement, self.answer, self.permission, self.blocks
         found = next((broken for rule in rules if (broken := rule(seen, place))), None)
         self.learn(seen, place)
         return found
@@ -161,8 +163,14 @@ class Judge:
             self.segments = [numbers for numbers in self.segments if not all(is_before(number, seen.ack) for number in numbers)]
 
     def goes_further(self, seen):
-        """Whether it has an acknowledgement that isn't less than the furthest one, or begins after a SYN."""
-        return seen.has(ACK) and not seen.has(RST) and (is_from(self.told, seen.ack) or self.begins(seen.ack))
+        """Whether it has an acknowledgement of what came that isn't less than the furthest one, or begins after a SYN."""
+        if not seen.has(ACK) or seen.has(RST) or not self.is_of_came(seen.ack):
+            return False
+        return is_from(self.told, seen.ack) or self.begins(seen.ack)
+
+    def is_of_came(self, number):
+        """Whether what came goes on to this number from the furthest acknowledgement, or from a SYN."""
+        return (self.told is not None and self.all_came(self.told, number)) or self.begins(number)
 
     def begins(self, number):
         """Whether each number between a SYN that came and this one came."""
@@ -188,6 +196,12 @@ class Judge:
             return None
         return "OtherInitial", f"a SYN at {seen.seq}, and the first at {self.initial} (RFC 9293, 3.4)"
 
+    def not_before_first(self, seen, place):
+        takes = len(seen.text) > 0 or seen.has(FIN)
+        if self.initial is None or seen.has(RST) or place is not None or not takes or self.keeps_alive(seen, 0):
+            return None
+        return "BeforeFirst", f"text or FIN before the first byte of the stream, at {seen.seq} (RFC 9293, 3.4)"
+
     def bytes_stay(self, seen, place):
         if place is None or self.keeps_alive(seen, place) or all(self.stream.get(position, byte) == byte for position, byte in enumerate(seen.text, place)):
             return None
@@ -209,8 +223,10 @@ class Judge:
     def acknowledgement(self, seen, place):
         if not seen.has(ACK) or seen.has(RST):
             return None
-        if (self.told is not None and self.all_came(self.told, seen.ack)) or self.begins(seen.ack):
+        if self.is_of_came(seen.ack):
             return None
+        if not is_from(self.told, seen.ack):
+            return "AckBack", f"an acknowledgement of {seen.ack}, and one of {self.told} before it (RFC 9293, 3.10.7.4)"
         return "AckBeyond", f"an acknowledgement of {seen.ack}, up to which not all came (RFC 9293, 3.4)"
 
     def all_came(self, start, end):
@@ -293,6 +309,8 @@ def report(lines, is_complete=True):
     text = "".join(firsts[rule] for rule in dict.fromkeys(rule for _, rule, _ in found))
     if notes:
         text += f"note: wrong checksums: {len(notes)}, the first in line {notes[0]} (RFC 9293, 3.1)\n"
+    if not is_complete:
+        text += UNJUDGED
     return f"{text}segments {count} findings {len(found)}\n", int(bool(found)) if sent else 2
 
 

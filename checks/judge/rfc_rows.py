@@ -67,6 +67,9 @@ FIGURES = {
 SECOND_SYN = ["came 90 SYN", "went 300/91 SYN,ACK", "came 100 SYN", "went 400/101 SYN,ACK"]
 TEXT_CAME = [*OPENED, "came 100/300 ACK text=HELLO", "went 300/105 ACK"]
 NOT_ALL_CAME = "an acknowledgement of {}, up to which not all came (RFC 9293, 3.4)\n"
+GOES_BACK = "an acknowledgement of {}, and one of {} before it (RFC 9293, 3.10.7.4)\n"
+BEFORE_FIRST = "text or FIN before the first byte of the stream, at {} (RFC 9293, 3.4)\n"
+UNJUDGED = "note: acknowledgements and blocks aren't judged, as what came may be missing\n"
 ANOTHER_BYTE = "another byte where one went before, in the text at {} (RFC 9293, 3.4)\n"
 BEYOND = "text or FIN up to position {}, and the FIN at {} (RFC 9293, 3.4)\n"
 WRONG_SUM = "no segment: the checksum is wrong (RFC 9293, 3.1)\n"
@@ -82,8 +85,14 @@ def with_note(count, first, segments):
     return f"note: wrong checksums: {count}, the first in line {first} (RFC 9293, 3.1)\n{counts(segments)}"
 
 
+def with_unjudged(words):
+    """The report of a log that may lack something: before its last line it says what isn't judged."""
+    *lines, last = words.splitlines(keepends=True)
+    return "".join([*lines, UNJUDGED, last])
+
+
 def both(rows, words, status):
-    """A row with the same report whether it is complete or not."""
+    """A row with the same findings whether it is complete or not."""
     return rows, (words, status), (words, status)
 
 
@@ -102,6 +111,15 @@ ROWS = {name: both(rows, counts(len(rows)), 0) for name, rows in FIGURES.items()
     "text behind bad padding": both(with_bad_option(TEXT_CAME, 3, "00000001"), counts(5), 0),
     "no more than the text behind an illegal option": (
         [*with_bad_option(TEXT_CAME, 3, "08000000"), "went 300/106 ACK"], (f"line 6: {NOT_ALL_CAME.format(106)}{counts(6, 1)}", 1), (counts(6), 0)),
+    # Only the first one is wrong: what follows it continues from what came before it.
+    "one acknowledgement too high": (
+        [*OPENED, "came 100/300 ACK text=HELLO", "went 300/106 ACK", "went 300/105 ACK"],
+        (f"line 5: {NOT_ALL_CAME.format(106)}{counts(6, 1)}", 1), (counts(6), 0)),
+    "an acknowledgement goes back": ([*TEXT_CAME, "went 300/100 ACK"], (f"line 6: {GOES_BACK.format(100, 105)}{counts(6, 1)}", 1), (counts(6), 0)),
+    # The SYN is at 299, the first byte at 300 (3.4).
+    "text at the SYN's number": both([*OPENED, "went 299/100 ACK text=HI"], f"line 4: {BEFORE_FIRST.format(299)}{counts(4, 1)}", 1),
+    "text before the SYN's number": both([*OPENED, "went 200/100 ACK text=HI"], f"line 4: {BEFORE_FIRST.format(200)}{counts(4, 1)}", 1),
+    "a keep-alive at the SYN's number": both([*OPENED, "went 299/100 ACK text=x"], counts(4), 0),
     # What the SYN offered can't be read.
     "a SYN with an illegal option": both(
         ["came 100 SYN options=0303070800000000", "went 300/101 SYN,ACK options=0402010103030701"], counts(2), 0),
@@ -135,7 +153,7 @@ def found_and_wanted(report_of):
     for name, (rows, complete, other) in ROWS.items():
         lines = [line_of(row) for row in rows]
         yield f"{name}, complete", report_of(lines, True), complete
-        yield f"{name}, not complete", report_of(lines, False), other
+        yield f"{name}, not complete", report_of(lines, False), (with_unjudged(other[0]), other[1])
 
 
 def judge_rows(cases, judges):

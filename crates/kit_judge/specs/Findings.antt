@@ -3,24 +3,27 @@ use Rattle.std.specs.Prelude.{ℕ, Bool, true, false, nat_le, List, [], ◌∷�
 use Rattle.tcp_wire.specs.Refusals.{decode_error_text}
 use Rattle.tcp_wire.specs.declared.fault.DecodeError.TheVariants.{BadChecksum}
 use Rattle.tcp_judge.specs.declared.finding.Finding.{Finding}
-use Rattle.tcp_judge.specs.declared.finding.Finding.TheVariants.{Unreadable, SynOption, GreatShift, NoAck, OtherInitial, OtherByte, BeyondFin, AckBeyond, Unoffered, Unpermitted, BlockBeyond}
+use Rattle.tcp_judge.specs.declared.finding.Finding.TheVariants.{Unreadable, SynOption, GreatShift, NoAck, OtherInitial, BeforeFirst, OtherByte, BeyondFin, AckBeyond, AckBack, Unoffered}
+use Rattle.tcp_judge.specs.declared.finding.Finding.TheVariants.{Unpermitted, BlockBeyond}
 
--- THE NUMBER of a finding's rule: those below 7 are of form and positions, the others compare with what came
+-- THE NUMBER of a finding's rule: those below 8 are of form and positions, the others compare with what came
 abbrev pub rule_number : Finding → ℕ
 rule_number (Unreadable fault) = 0
 rule_number SynOption = 1
 rule_number GreatShift = 2
 rule_number NoAck = 3
 rule_number (OtherInitial first other) = 4
-rule_number (OtherByte seq) = 5
-rule_number (BeyondFin place end) = 6
-rule_number (AckBeyond acked_number) = 7
-rule_number Unoffered = 8
-rule_number Unpermitted = 9
-rule_number (BlockBeyond left right) = 10
+rule_number (BeforeFirst seq) = 5
+rule_number (OtherByte seq) = 6
+rule_number (BeyondFin place end) = 7
+rule_number (AckBeyond acked_number) = 8
+rule_number (AckBack acked_number last) = 9
+rule_number Unoffered = 10
+rule_number Unpermitted = 11
+rule_number (BlockBeyond left right) = 12
 
 abbrev pub is_against_came : Finding → Bool
-is_against_came finding = nat_le 7 (rule_number finding)
+is_against_came finding = nat_le 8 (rule_number finding)
 
 -- a wrong checksum
 abbrev pub is_damage : Finding → Bool
@@ -35,6 +38,9 @@ unreadable_text fault = codes "no segment: " ++ (fault ++ codes " (RFC 9293, 3.1
 abbrev pub initial_text : ℕ → ℕ → List ℕ
 initial_text first other = codes "a SYN at " ++ (decimal other ++ (codes ", and the first at " ++ (decimal first ++ codes " (RFC 9293, 3.4)")))
 
+abbrev pub early_text : ℕ → List ℕ
+early_text seq = codes "text or FIN before the first byte of the stream, at " ++ (decimal seq ++ codes " (RFC 9293, 3.4)")
+
 abbrev pub byte_text : ℕ → List ℕ
 byte_text seq = codes "another byte where one went before, in the text at " ++ (decimal seq ++ codes " (RFC 9293, 3.4)")
 
@@ -45,6 +51,10 @@ fin_text place end = codes "text or FIN up to position " ++ (decimal end ++ (cod
 abbrev pub ack_text : ℕ → List ℕ
 ack_text acked_number = codes "an acknowledgement of " ++ (decimal acked_number ++ codes ", up to which not all came (RFC 9293, 3.4)")
 
+abbrev pub back_text : ℕ → ℕ → List ℕ
+back_text acked_number last =
+    codes "an acknowledgement of " ++ (decimal acked_number ++ (codes ", and one of " ++ (decimal last ++ codes " before it (RFC 9293, 3.10.7.4)")))
+
 abbrev pub block_text : ℕ → ℕ → List ℕ
 block_text left right = codes "a block from " ++ (decimal left ++ (codes " to " ++ (decimal right ++ codes ", of which not all came (RFC 2018, 3)")))
 
@@ -54,9 +64,11 @@ finding_text SynOption = codes "an option of SYNs in another segment (RFC 9293, 
 finding_text GreatShift = codes "a shift above 14 (RFC 7323, 2.3)"
 finding_text NoAck = codes "no ACK (RFC 9293, 3.1)"
 finding_text (OtherInitial first other) = initial_text first.0 other.0
+finding_text (BeforeFirst seq) = early_text seq.0
 finding_text (OtherByte seq) = byte_text seq.0
 finding_text (BeyondFin place end) = fin_text place end
 finding_text (AckBeyond acked_number) = ack_text acked_number.0
+finding_text (AckBack acked_number last) = back_text acked_number.0 last.0
 finding_text Unoffered = codes "a SYN answers with a window scale that no SYN offered (RFC 7323, 2.2)"
 finding_text Unpermitted = codes "blocks, which no SYN that came permitted (RFC 2018, 4)"
 finding_text (BlockBeyond left right) = block_text left.0 right.0

@@ -105,6 +105,11 @@ note_text count first =
 abbrev pub notes_line : List ℕ → List ℕ
 notes_line notes = if length notes == 0 then [] else note_text (length notes) (slice_index notes 0)
 
+-- WHAT ISN'T JUDGED is said: of a log that isn't complete nothing that compares with what came
+abbrev pub unjudged_line : Bool → List ℕ
+unjudged_line complete =
+    if complete then [] else codes "note: acknowledgements and blocks aren't judged, as what came may be missing" ++ (10 ∷ [])
+
 -- THE LAST LINE counts all segments, and all that break a rule
 unfoldable pub counts_line : ℕ → ℕ → List ℕ
 counts_line segments findings = codes "segments " ++ (decimal segments ++ (codes " findings " ++ (decimal findings ++ (10 ∷ []))))
@@ -117,14 +122,15 @@ abbrev pub report_content : {A : Type 0} → Report A → ReportContent
 report_content r = record { text = string_bytes r.text; is_clean = r.is_clean }
 
 -- a log is clean where something was judged, and no rule is broken
-abbrev pub report_of_findings : Shown → FoundContent → ReportContent
-report_of_findings which all = record {
-  text = finding_lines (shown which all.found) ++ (notes_line all.notes ++ counts_line all.segments (length all.found));
+abbrev pub report_of_findings : Shown → Bool → FoundContent → ReportContent
+report_of_findings which complete all = record {
+  text = finding_lines (shown which all.found)
+      ++ (notes_line all.notes ++ (unjudged_line complete ++ counts_line all.segments (length all.found)));
   is_clean = all.any_sent && length all.found == 0;
 }
 
 abbrev pub report_of_log : Shown → Bool → Passages → ReportContent
-report_of_log which complete log = report_of_findings which (found_in complete log)
+report_of_log which complete log = report_of_findings which complete (found_in complete log)
 
 -- a bad line has no report
 abbrev pub report_unless : Option ℕ → ReportContent → Result ReportContent ℕ

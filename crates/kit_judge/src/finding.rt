@@ -1,17 +1,17 @@
 //! A finding in words.
 ghost use Rattle.std.specs.Prelude.{◌≡◌, ◌++◌, OnOk, string_bytes};
 ghost use Rattle.tcp_wire.specs.Refusals.{decode_error_text};
-ghost use Rattle.kit_judge.specs.Findings.{rule_number, is_against_came, is_damage, unreadable_text, initial_text, byte_text, fin_text, ack_text, block_text, finding_text, finding_line};
+ghost use Rattle.kit_judge.specs.Findings.{rule_number, is_against_came, is_damage, unreadable_text, initial_text, byte_text, fin_text, early_text, ack_text, back_text, block_text, finding_text, finding_line};
 
 use std::alloc::{AllocError, Allocator};
 use tcp_judge::Finding;
 use tcp_wire::{DecodeError, Seq};
 
 /// The first rule that compares with what came.
-const FIRST_AGAINST_CAME: usize = 7;
+const FIRST_AGAINST_CAME: usize = 8;
 
 /// The number of the rule.
-pub(crate) fn rule_of(finding: Finding) -> usize
+pub fn rule_of(finding: Finding) -> usize
     ensures { result ≡ rule_number finding }
 {
     match finding {
@@ -20,24 +20,26 @@ pub(crate) fn rule_of(finding: Finding) -> usize
         Finding::GreatShift => 2,
         Finding::NoAck => 3,
         Finding::OtherInitial(_, _) => 4,
-        Finding::OtherByte(_) => 5,
-        Finding::BeyondFin(_, _) => 6,
-        Finding::AckBeyond(_) => 7,
-        Finding::Unoffered => 8,
-        Finding::Unpermitted => 9,
-        Finding::BlockBeyond(_, _) => 10,
+        Finding::BeforeFirst(_) => 5,
+        Finding::OtherByte(_) => 6,
+        Finding::BeyondFin(_, _) => 7,
+        Finding::AckBeyond(_) => 8,
+        Finding::AckBack(_, _) => 9,
+        Finding::Unoffered => 10,
+        Finding::Unpermitted => 11,
+        Finding::BlockBeyond(_, _) => 12,
     }
 }
 
 /// Whether the rule compares with what came, of which nothing may be missing.
-pub(crate) fn is_against_came(finding: Finding) -> bool
+pub fn is_against_came(finding: Finding) -> bool
     ensures { result ≡ is_against_came finding }
 {
     rule_of(finding) >= FIRST_AGAINST_CAME
 }
 
 /// Whether it is a wrong checksum, which damage on the path makes too.
-pub(crate) fn is_damage(finding: Finding) -> bool
+pub fn is_damage(finding: Finding) -> bool
     ensures { result ≡ is_damage finding }
 {
     match finding {
@@ -64,6 +66,16 @@ fn push_initial<A: Allocator>(
     write!(
         text,
         "a SYN at {other}, and the first at {first} (RFC 9293, 3.4)"
+    )
+}
+
+fn push_early<A: Allocator>(text: &mut String<A>, seq: Seq) -> Result<(), AllocError>
+    ensures { OnOk result (string_bytes text.new ≡ string_bytes text.old ++ early_text seq.0) }
+{
+    let seq = seq.0;
+    write!(
+        text,
+        "text or FIN before the first byte of the stream, at {seq} (RFC 9293, 3.4)"
     )
 }
 
@@ -96,6 +108,21 @@ fn push_ack<A: Allocator>(text: &mut String<A>, acked_number: Seq) -> Result<(),
     )
 }
 
+fn push_back<A: Allocator>(
+    text: &mut String<A>,
+    acked_number: Seq,
+    last: Seq,
+) -> Result<(), AllocError>
+    ensures { OnOk result (string_bytes text.new ≡ string_bytes text.old ++ back_text acked_number.0 last.0) }
+{
+    let acked_number = acked_number.0;
+    let last = last.0;
+    write!(
+        text,
+        "an acknowledgement of {acked_number}, and one of {last} before it (RFC 9293, 3.10.7.4)"
+    )
+}
+
 fn push_block<A: Allocator>(text: &mut String<A>, left: Seq, right: Seq) -> Result<(), AllocError>
     ensures { OnOk result (string_bytes text.new ≡ string_bytes text.old ++ block_text left.0 right.0) }
 {
@@ -108,7 +135,7 @@ fn push_block<A: Allocator>(text: &mut String<A>, left: Seq, right: Seq) -> Resu
 }
 
 /// Appends the rule, the numbers that show how it is broken, and its section.
-fn push_rule<A: Allocator>(text: &mut String<A>, finding: Finding) -> Result<(), AllocError>
+pub fn push_rule<A: Allocator>(text: &mut String<A>, finding: Finding) -> Result<(), AllocError>
     ensures { OnOk result (string_bytes text.new ≡ string_bytes text.old ++ finding_text finding) }
 {
     match finding {
@@ -117,9 +144,11 @@ fn push_rule<A: Allocator>(text: &mut String<A>, finding: Finding) -> Result<(),
         Finding::GreatShift => text.push_str("a shift above 14 (RFC 7323, 2.3)"),
         Finding::NoAck => text.push_str("no ACK (RFC 9293, 3.1)"),
         Finding::OtherInitial(first, other) => push_initial(text, first, other),
+        Finding::BeforeFirst(seq) => push_early(text, seq),
         Finding::OtherByte(seq) => push_byte(text, seq),
         Finding::BeyondFin(place, end) => push_fin(text, place, end),
         Finding::AckBeyond(acked_number) => push_ack(text, acked_number),
+        Finding::AckBack(acked_number, last) => push_back(text, acked_number, last),
         Finding::Unoffered => text.push_str(
             "a SYN answers with a window scale that no SYN offered (RFC 7323, 2.2)",
         ),

@@ -1,7 +1,7 @@
 //! The report of a log.
 ghost use Rattle.std.specs.Prelude.{◌≡◌, ◌++◌, [], not, IfOk, OnOk, string_bytes};
 ghost use Rattle.kit_judge.specs.Findings.{finding_lines};
-ghost use Rattle.kit_judge.specs.Verdict.{unless_among, with_rule, firsts, shown, note_text, notes_line, counts_line, found_content, report_content, report_of_findings, report_of, sends_any, Reports};
+ghost use Rattle.kit_judge.specs.Verdict.{unless_among, with_rule, firsts, shown, note_text, notes_line, unjudged_line, counts_line, found_content, report_content, report_of_findings, report_of, sends_any, Reports};
 
 use crate::error::LogError;
 use crate::finding::{push_finding, rule_of};
@@ -22,7 +22,8 @@ pub enum Shown {
 /// The report of a log.
 #[derive(Debug, Drop)]
 pub struct Report<A: Allocator = Global> {
-    /// A line for each finding that is shown, one for all notes, and then the counts of all segments and all findings.
+    /// A line for each finding that is shown, one for all notes, one that says what isn't judged where the log
+    /// may lack what came, and then the counts of all segments and all findings.
     pub text: String<A>,
     /// Whether the end sent something, and no rule is broken.
     pub is_clean: bool,
@@ -102,6 +103,16 @@ fn push_notes<A: Allocator>(text: &mut String<A>, notes: &[usize]) -> Result<(),
     push_note(text, notes.len(), notes[0])
 }
 
+/// Appends what isn't judged of a log that may lack what came.
+fn push_unjudged<A: Allocator>(text: &mut String<A>, is_complete: bool) -> Result<(), AllocError>
+    ensures { OnOk result (string_bytes text.new ≡ string_bytes text.old ++ unjudged_line is_complete) }
+{
+    if is_complete {
+        return Ok(());
+    }
+    text.push_str("note: acknowledgements and blocks aren't judged, as what came may be missing\n")
+}
+
 /// Appends the counts.
 #[tactic(auto, unfolding(crate::specs::Verdict::counts_line))]
 fn push_counts<A: Allocator>(
@@ -118,9 +129,10 @@ fn push_counts<A: Allocator>(
 fn report_of<A: Allocator + Copy>(
     alloc: A,
     findings: &Findings<A>,
+    is_complete: bool,
     shown: Shown,
 ) -> Result<Report<A>, AllocError>
-    ensures report { IfOk result (λ report. report_content report ≡ report_of_findings shown (found_content findings.now)) }
+    ensures report { IfOk result (λ report. report_content report ≡ report_of_findings shown is_complete (found_content findings.now)) }
     ensures empty { IfOk result (λ report. report.is_empty ≡ not findings.now.any_sent) }
 {
     let mut text = String::new(alloc);
@@ -129,6 +141,7 @@ fn report_of<A: Allocator + Copy>(
         Shown::Each => push_each(&mut text, &findings.found)?,
     }
     push_notes(&mut text, &findings.notes)?;
+    push_unjudged(&mut text, is_complete)?;
     let count = findings.found.len();
     push_counts(&mut text, findings.segments, count)?;
     Ok(Report {
@@ -159,6 +172,6 @@ pub fn judge_text<A: Allocator + Copy>(
         Ok(findings) => findings,
         Err(error) => return Err(error),
     };
-    let report = report_of(alloc, &findings, shown)?;
+    let report = report_of(alloc, &findings, is_complete, shown)?;
     Ok(report)
 }

@@ -101,7 +101,8 @@ acked_number-right x h irs k since v (Some a) before has_syn goes =
 
 -- AFTER IT each number from it on is known to have come
 goes-acked_number : (h : Heard) (v : Content) → goes_further h v ≡ true → carries_ack v ≡ true
-goes-acked_number h v e = (and_parts (carries_ack v) (is_further h.acked_number h.spans h.syns v.ack) e).0
+goes-acked_number h v e =
+    (and_parts (carries_ack v) (is_further h.acked_number h.spans h.syns v.ack && is_of_came h.acked_number h.spans h.syns v.ack) e).0
 
 after-acknowledging : (h : Heard) (x : SoloState) (irs k : ℕ) (v : Content) → Hears h x irs k → CarriesAck x.endpoint v → Hears (after_acknowledging h v.ack) x irs k
 after-acknowledging h x irs k v hears t =

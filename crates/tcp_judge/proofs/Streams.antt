@@ -15,7 +15,7 @@ use Rattle.tcp_replay.proofs.Lists.{by_test, drop-take_sub}
 use Rattle.tcp_judge.specs.Heard.{carries_ack}
 use Rattle.tcp_judge.specs.Stream.{Stream, nothing_sent, count_sent, with_text, count_both, agrees, changes_bytes, count_covered, without_front}
 use Rattle.tcp_judge.specs.Known.{Known, is_syn, initial_after, place_by, place_of, fin_after, known_after, is_keep_alive, acked_by, count_acked, leads_back, known_with}
-use Rattle.tcp_judge.specs.Rules.{finding_if, initial_by, fin_by, fin_finding, text_finding, position_finding}
+use Rattle.tcp_judge.specs.Rules.{finding_if, initial_by, early_by, fin_by, fin_finding, text_finding, position_finding}
 use Rattle.tcp_judge.specs.declared.finding.Finding.{Finding}
 
 -- TESTS
@@ -155,7 +155,18 @@ module _ (isn : ℕ) (accepted : List ℕ) (closed : Bool) (small : isn < 2 ^ 32
       by_test (is_syn v) (λ b. IfSome (if b then Some (record { 0 = v.seq }) else None) (λ (n : Seq). n.0 ≡ isn)) (syn-number v user) (λ _. tt)
   initial-kept (Some n) v h user = h
 
-  -- a place is unknown or right
+  -- where the initial number is known a place is right,
+  placed-plain : (n : Seq) (count : ℕ) (v : Content) → n.0 ≡ isn → count ≤ length accepted → IsOfUser isn accepted closed v
+      → IsAt accepted (position_of n.0 count v.seq + (if has syn v.flags then 1 else 0)) v
+  placed-plain n count v h inside own =
+      let p = own.position in
+      let near : position_of isn count (number isn p) ≡ p =
+      position_of_number isn count p small
+      (omega (arith, own.within, by_test closed (λ b. (if b then 1 else 0) ≤ 1) (λ _. omega arith) (λ _. omega arith))) (omega arith) in
+      let place : position_of n.0 count v.seq ≡ p = ap (λ i. position_of i count v.seq) h ∙ ap (position_of isn count) own.seq ∙ near in
+      subst (λ (i : ℕ). IsAt accepted (i + (if has syn v.flags then 1 else 0)) v) (sym place) (at-user isn accepted closed v own)
+
+  -- so that it is unknown or right
   placed : (known : Option Seq) (count : ℕ) (v : Content) → IfSome known (λ n. n.0 ≡ isn) → count ≤ length accepted
       → (has rst v.flags ≡ false → IsOfUser isn accepted closed v)
       → (place_by known count v ≡ 0) ⊎ IsAt accepted (place_by known count v) v
@@ -165,14 +176,7 @@ module _ (isn : ℕ) (accepted : List ℕ) (closed : Bool) (small : isn < 2 ^ 32
       by_test (has rst v.flags)
       (λ b. ((if b then 0 else position_of n.0 count v.seq + more) ≡ 0) ⊎ IsAt accepted (if b then 0 else position_of n.0 count v.seq + more) v)
       (λ _. inl refl)
-      (λ plain.
-      let own = user plain in
-      let p = own.position in
-      let near : position_of isn count (number isn p) ≡ p =
-      position_of_number isn count p small
-      (omega (arith, own.within, by_test closed (λ b. (if b then 1 else 0) ≤ 1) (λ _. omega arith) (λ _. omega arith))) (omega arith) in
-      let place : position_of n.0 count v.seq ≡ p = ap (λ i. position_of i count v.seq) h ∙ ap (position_of isn count) own.seq ∙ near in
-      inr (subst (λ (i : ℕ). IsAt accepted (i + more) v) (sym place) (at-user isn accepted closed v own)))
+      (λ plain. inr (placed-plain n count v h inside (user plain)))
 
   -- THE RULES
   keeps-initial : (known : Option Seq) (v : Content) → IfSome known (λ n. n.0 ≡ isn) → (has rst v.flags ≡ false → IsOfUser isn accepted closed v)
@@ -181,6 +185,17 @@ module _ (isn : ℕ) (accepted : List ℕ) (closed : Bool) (small : isn < 2 ^ 32
   keeps-initial (Some first) v h user =
       none-found (is_syn v && not (v.seq == first.0)) _
       (unless (is_syn v) (not (v.seq == first.0)) (λ e. ap not (eq-eqb v.seq first.0 (syn-number v user e ∙ sym h))))
+
+  keeps-early : (known : Option Seq) (count : ℕ) (v : Content) → IfSome known (λ n. n.0 ≡ isn) → count ≤ length accepted
+      → (has rst v.flags ≡ false → IsOfUser isn accepted closed v) → early_by known (place_by (initial_after known v) count v) v ≡ None
+  keeps-early None count v h inside user = refl
+  keeps-early (Some n) count v h inside user =
+      let more : ℕ = if has syn v.flags then 1 else 0 in
+      let place = position_of n.0 count v.seq + more in
+      let takes = not (length v.text == 0) || has fin v.flags in
+      none-found _ _ (ap (λ (b : Bool). b && takes)
+      (by_test (has rst v.flags) (λ b. ((if b then 0 else place) == 0 && not b) ≡ false) (λ _. refl)
+      (λ plain. unless (place == 0) true (λ e. absurd (omega (arith, eqb-true place 0 e, (placed-plain n count v h inside (user plain)).least))))))
 
   keeps-bytes : (d : Stream) (place : ℕ) (v : Content) → IsPart accepted d → (place ≡ 0) ⊎ IsAt accepted place v → changes_bytes d place v.text ≡ false
   keeps-bytes d place v part (inl none) = rw none refl
@@ -211,8 +226,9 @@ module _ (isn : ℕ) (accepted : List ℕ) (closed : Bool) (small : isn < 2 ^ 32
       by_test (nat_lt 0 place) (λ b. (if b then fin_by k.fin behind (place + length v.text) v else None) ≡ None)
       (λ _. keeps-fin_by k.fin behind place v h.fin (omega (arith, part-most accepted k.stream h.stream)) at) (λ _. refl)
 
-  keeps-text : (k : Known) (place : ℕ) (v : Content) → IsKnown isn accepted k → (place ≡ 0) ⊎ IsAt accepted place v → text_finding k place v ≡ None
-  keeps-text k place v h at = rw (keeps-bytes k.stream place v h.stream at) (keeps-fin k place v h at)
+  keeps-text : (k : Known) (place : ℕ) (v : Content) → IsKnown isn accepted k → early_by k.initial place v ≡ None → (place ≡ 0) ⊎ IsAt accepted place v
+      → text_finding k place v ≡ None
+  keeps-text k place v h late at = rw (late, keeps-bytes k.stream place v h.stream at) (keeps-fin k place v h at)
 
   pub keeps-positions : (k : Known) (v : Content) → IsKnown isn accepted k → (has rst v.flags ≡ false → IsOfUser isn accepted closed v)
       → position_finding k (place_of k v) v ≡ None
@@ -221,7 +237,7 @@ module _ (isn : ℕ) (accepted : List ℕ) (closed : Bool) (small : isn < 2 ^ 32
       let at = placed (initial_after k.initial v) (count_sent k.stream) v (initial-kept k.initial v h.initial user) inside user in
       let place = place_of k v in
       rw (keeps-initial k.initial v h.initial user)
-      (cond_both (is_keep_alive k place v) None (text_finding k place v) (λ (f : Option Finding). f ≡ None) (λ _. refl) (λ _. keeps-text k place v h at))
+      (cond_both (is_keep_alive k place v) None (text_finding k place v) (λ (f : Option Finding). f ≡ None) (λ _. refl) (λ _. keeps-text k place v h (keeps-early k.initial (count_sent k.stream) v h.initial inside user) at))
 
   -- WHAT IS KNOWN AFTER IT
   text-kept : (d : Stream) (place : ℕ) (v : Content) → IsPart accepted d → (place ≡ 0) ⊎ IsAt accepted place v → IsPart accepted (with_text d place v.text)

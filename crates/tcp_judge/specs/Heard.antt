@@ -90,8 +90,10 @@ abbrev pub is_further : Option Seq → List (Seq × ℕ) → List Seq → ℕ �
 is_further None spans syns acked_number = true
 is_further (Some last) spans syns acked_number = is_from last.0 acked_number || begins spans syns acked_number
 
+-- and one of what didn't come is none that a later one has to continue from
 abbrev pub goes_further : Heard → Content → Bool
-goes_further h v = carries_ack v && is_further h.acked_number h.spans h.syns v.ack
+goes_further h v =
+    carries_ack v && (is_further h.acked_number h.spans h.syns v.ack && is_of_came h.acked_number h.spans h.syns v.ack)
 
 abbrev pub acked_number_after : Heard → Content → Option Seq
 acked_number_after h v = if goes_further h v then Some (record { 0 = v.ack }) else h.acked_number

@@ -7,12 +7,12 @@ use Rattle.tcp_numbers.specs.declared.seq.Seq.{Seq}
 use Rattle.tcp_wire.specs.Flags.{fin, syn, rst, ack, has}
 use Rattle.tcp_wire.specs.Options.{OptionContent, Mss, WindowScale, SackPermitted}
 use Rattle.tcp_wire.specs.Wire.{Content}
-use Rattle.tcp_judge.specs.Heard.{Heard, acks_beyond, acked_number_after, oversteps}
+use Rattle.tcp_judge.specs.Heard.{Heard, is_from, acks_beyond, acked_number_after, oversteps}
 use Rattle.tcp_judge.specs.Reports.{lacks_permission, options_finding}
 use Rattle.tcp_judge.specs.Stream.{count_sent, changes_bytes}
 use Rattle.tcp_judge.specs.Known.{Known, is_syn, place_of, is_keep_alive}
 use Rattle.tcp_judge.specs.declared.finding.Finding.{Finding}
-use Rattle.tcp_judge.specs.declared.finding.Finding.TheVariants.{SynOption, GreatShift, NoAck, OtherInitial, OtherByte, BeyondFin, AckBeyond, Unoffered}
+use Rattle.tcp_judge.specs.declared.finding.Finding.TheVariants.{SynOption, GreatShift, NoAck, OtherInitial, BeforeFirst, OtherByte, BeyondFin, AckBeyond, AckBack, Unoffered}
 use Rattle.tcp_judge.specs.declared.finding.Finding.TheVariants.{Unpermitted}
 
 abbrev pub finding_if : Bool → Finding → Option Finding
@@ -65,17 +65,30 @@ fin_by (Some place) behind end v =
 abbrev pub fin_finding : Known → ℕ → Content → Option Finding
 fin_finding k place v = if nat_lt 0 place then fin_by k.fin (1 + count_sent k.stream) (place + length v.text) v else None
 
+-- THE FIRST BYTE is right behind the SYN: no text and no FIN begins before it (RFC 9293, 3.4)
+abbrev pub early_by : Option Seq → ℕ → Content → Option Finding
+early_by None place v = None
+early_by (Some first) place v =
+    finding_if ((place == 0 && not (has rst v.flags)) && (not (length v.text == 0) || has fin v.flags)) (BeforeFirst (record { 0 = v.seq }))
+
 -- of the text and the FIN
 abbrev pub text_finding : Known → ℕ → Content → Option Finding
-text_finding k place v = option_or (finding_if (changes_bytes k.stream place v.text) (OtherByte (record { 0 = v.seq }))) (fin_finding k place v)
+text_finding k place v =
+    option_or (early_by k.initial place v)
+    (option_or (finding_if (changes_bytes k.stream place v.text) (OtherByte (record { 0 = v.seq }))) (fin_finding k place v))
 
 -- the first rule that a segment breaks. The byte of a keep-alive is none of the stream (RFC 9293, 3.8.4)
 abbrev pub position_finding : Known → ℕ → Content → Option Finding
 position_finding k place v = option_or (initial_by k.initial v) (if is_keep_alive k place v then None else text_finding k place v)
 
--- ACKNOWLEDGEMENTS cover only what came (RFC 9293, 3.4 and 3.10.7.4)
+-- ACKNOWLEDGEMENTS cover only what came (RFC 9293, 3.4), and none is less than one before it (RFC 9293, 3.10.7.4)
+abbrev pub ack_rule : Option Seq → ℕ → Finding
+ack_rule None acked_number = AckBeyond (record { 0 = acked_number })
+ack_rule (Some last) acked_number =
+    if is_from last.0 acked_number then AckBeyond (record { 0 = acked_number }) else AckBack (record { 0 = acked_number }) last
+
 abbrev pub ack_finding : Heard → Content → Option Finding
-ack_finding h v = finding_if (acks_beyond h v) (AckBeyond (record { 0 = v.ack }))
+ack_finding h v = finding_if (acks_beyond h v) (ack_rule h.acked_number v.ack)
 
 -- the options of a SYN that answers another (RFC 7323, 1.3 and 2.2)
 abbrev pub answer_finding : Heard → Content → Option Finding

@@ -13,14 +13,18 @@ pub enum Finding {
     NoAck,
     /// A SYN has another number than the first one, which comes first here (RFC 9293, 3.4).
     OtherInitial(Seq, Seq),
+    /// The text or the FIN of the segment with this number begins before the position behind the SYN's (RFC 9293, 3.4).
+    BeforeFirst(Seq),
     /// The text of the segment with this number has another byte at a position that was sent before and isn't
     /// acknowledged (RFC 9293, 3.4).
     OtherByte(Seq),
     /// Text or FIN beyond the FIN: the position of the FIN, and that where the text or the other FIN ends (RFC 9293,
     /// 3.4 and 3.6).
     BeyondFin(u64, u64),
-    /// This acknowledgement covers what didn't come, or is less than an earlier one (RFC 9293, 3.4 and 3.10.7.4).
+    /// This acknowledgement covers what didn't come (RFC 9293, 3.4).
     AckBeyond(Seq),
+    /// This acknowledgement is less than the other one, which went before it (RFC 9293, 3.10.7.4).
+    AckBack(Seq, Seq),
     /// A SYN that acknowledges another has the window scale, and no SYN that came had it (RFC 7323, 1.3 and 2.2).
     Unoffered,
     /// Blocks are reported, and no SYN that came permitted selective acknowledgement (RFC 2018, 4).

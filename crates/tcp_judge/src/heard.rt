@@ -141,16 +141,18 @@ fn is_further<A: Allocator + Copy>(
     }
 }
 
-/// Whether a segment has such an acknowledgement.
+/// Whether a segment has such an acknowledgement, and of what came.
 pub(crate) fn goes_further<A: Allocator + Copy>(
     last: Option<Seq>,
     spans: &Spans<A>,
     syns: &[Seq],
     segment: &RawSegment<'_>,
 ) -> bool
-    ensures { result ≡ (carries_ack (raw_content segment.now) && is_further last spans.now syns.now (raw_content segment.now).ack) }
+    ensures { result ≡ (carries_ack (raw_content segment.now) && (is_further last spans.now syns.now (raw_content segment.now).ack && is_of_came last spans.now syns.now (raw_content segment.now).ack)) }
 {
-    carries_ack(segment) && is_further(last, spans, syns, segment.header.ack)
+    let number = segment.header.ack;
+    carries_ack(segment)
+        && (is_further(last, spans, syns, number) && is_of_came(last, spans, syns, number))
 }
 
 /// Adds a segment that came, where it takes a number.

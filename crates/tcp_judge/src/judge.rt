@@ -5,7 +5,7 @@ ghost use Rattle.tcp_wire.specs.View.{raw_content};
 ghost use Rattle.tcp_wire.specs.Wire.{max_text_len};
 ghost use Rattle.tcp_judge.specs.Known.{nothing_known, is_syn, initial_after, place_of, is_keep_alive, known_after, count_acked, acks_syn, known_with};
 ghost use Rattle.tcp_judge.specs.Heard.{acks_beyond, goes_further, acked_number_after, after_went};
-ghost use Rattle.tcp_judge.specs.Rules.{initial_by, fin_by, fin_finding, text_finding, position_finding, report_finding, finding_of};
+ghost use Rattle.tcp_judge.specs.Rules.{initial_by, early_by, ack_rule, fin_by, fin_finding, text_finding, position_finding, report_finding, finding_of};
 ghost use Rattle.tcp_judge.specs.Judgement.{finding_read, known_read, known_came, finding_at, known_past};
 ghost use Rattle.tcp_judge.specs.Log.{passage_content};
 ghost use Rattle.tcp_judge.specs.Taken.{taken_of};
@@ -116,6 +116,36 @@ fn fin_by(known: Option<u64>, behind: u64, end: u64, segment: &RawSegment<'_>) -
     }
 }
 
+/// The rule of text and FIN before the first byte, at this position or at an unknown one, 0.
+fn early_by(known: Option<Seq>, place: u64, segment: &RawSegment<'_>) -> Option<Finding>
+    ensures { result ≡ early_by known place (raw_content segment.now) }
+{
+    if known.is_none() {
+        return None;
+    }
+    let flags = segment.header.flags;
+    if (place == 0 && !flags.is_rst()) && (!segment.text.is_empty() || flags.is_fin()) {
+        return Some(Finding::BeforeFirst(segment.header.seq));
+    }
+    None
+}
+
+/// The rule that an acknowledgement breaks of what didn't come, with the furthest one before it.
+fn ack_rule(last: Option<Seq>, acked_number: Seq) -> Finding
+    ensures { result ≡ ack_rule last acked_number.0 }
+{
+    match last {
+        Some(last) => {
+            if is_from(last, acked_number) {
+                Finding::AckBeyond(acked_number)
+            } else {
+                Finding::AckBack(acked_number, last)
+            }
+        }
+        None => Finding::AckBeyond(acked_number),
+    }
+}
+
 impl Judge {
     /// A judge that knows nothing.
     pub fn new(alloc: Global) -> Self
@@ -192,6 +222,9 @@ impl<A: Allocator + Copy> Judge<A> {
         requires short { length segment.now.text.now ≤ max_text_len }
         ensures { result ≡ text_finding self.now place (raw_content segment.now) }
     {
+        if let Some(finding) = early_by(self.initial, place, segment) {
+            return Some(finding);
+        }
         if self.stream.changes_bytes(place, segment.text) {
             return Some(Finding::OtherByte(segment.header.seq));
         }
@@ -227,7 +260,7 @@ impl<A: Allocator + Copy> Judge<A> {
             return Some(finding);
         }
         if self.acks_beyond(segment) {
-            return Some(Finding::AckBeyond(segment.header.ack));
+            return Some(ack_rule(self.acked_number, segment.header.ack));
         }
         if oversteps(self.scaling, segment) {
             return Some(Finding::Unoffered);
