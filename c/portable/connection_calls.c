@@ -176,3 +176,27 @@ static uint32_t tcp_c_connection_status(struct handle *handle, struct tcpcore_st
     END_OF_CONNECTION(handle);
     return answer;
 }
+
+static uint32_t tcp_c_connection_peer(struct handle *handle, tcpcore_addr *addr, uint16_t *port)
+{
+    WITH_CONNECTION(handle);
+    put_addr(&call, AT_DST, addr);
+    put16(call.frame + AT_FOUND, 0);
+    uint32_t answer = w2c_tcp_c_connection_peer(M, AT_HANDLE, AT_DST, AT_FOUND);
+    get_addr(&call, addr);
+    *port = get16(call.frame + AT_FOUND);
+    END_OF_CONNECTION(handle);
+    return answer;
+}
+
+static uint32_t tcp_c_connection_set_user_timeout(struct handle *handle, uint64_t limit)
+{
+    WITH_CONNECTION(handle);
+    ANSWER_OF_CONNECTION(handle, w2c_tcp_c_connection_set_user_timeout(M, AT_HANDLE, limit));
+}
+
+static uint32_t tcp_c_connection_resend_first(struct handle *handle, uint64_t now)
+{
+    WITH_CONNECTION(handle);
+    ANSWER_OF_CONNECTION(handle, w2c_tcp_c_connection_resend_first(M, AT_HANDLE, now));
+}

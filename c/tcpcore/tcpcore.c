@@ -98,6 +98,9 @@ uint32_t tcp_c_connection_acknowledge(struct handle *, uint64_t);
 uint32_t tcp_c_connection_close(struct handle *, uint64_t);
 uint32_t tcp_c_connection_abort(struct handle *, uint64_t);
 uint32_t tcp_c_connection_status(struct handle *, struct tcpcore_status *);
+uint32_t tcp_c_connection_peer(struct handle *, tcpcore_addr *, uint16_t *);
+uint32_t tcp_c_connection_set_user_timeout(struct handle *, uint64_t);
+uint32_t tcp_c_connection_resend_first(struct handle *, uint64_t);
 
 STEP struct handle *handle(tcpcore_end *end) { return (struct handle *)end->opaque; }
 
@@ -195,6 +198,13 @@ STEP uint32_t refusal_with_two(const tcpcore_end *end, const void *bytes, size_t
 {
     uint32_t answer = refusal_beside_two(end_at(end), bytes, length, one, other);
     return answer != TCPCORE_DONE ? answer : refusal(end);
+}
+
+STEP uint32_t connection_refusal_with_two(const tcpcore_connection *connection, const void *bytes, size_t length, struct place one,
+                                          struct place other)
+{
+    uint32_t answer = refusal_beside_two(connection_at(connection), bytes, length, one, other);
+    return answer != TCPCORE_DONE ? answer : connection_refusal(connection);
 }
 
 /* Writes what a call would have found that was refused, but over the struct or the buffer. */
@@ -889,6 +899,33 @@ uint32_t tcpcore_connection_status(const tcpcore_connection *connection, struct 
     }
     put(refused, place, connection_at(connection), NULL, 0, &found);
     return answer;
+}
+
+uint32_t tcpcore_connection_peer(const tcpcore_connection *connection, tcpcore_addr *addr, uint16_t *port)
+{
+    tcpcore_addr address = {{0, 0, 0, 0}};
+    uint16_t found = 0;
+    struct place where = {addr, sizeof *addr}, place = {port, sizeof *port};
+    uint32_t refused = connection_refusal_with_two(connection, NULL, 0, where, place), answer = refused;
+    if (refused == TCPCORE_DONE) {
+        struct handle copy = copy_in(connection->opaque);
+        answer = tcp_c_connection_peer(&copy, &address, &found);
+    }
+    put(refused, where, connection_at(connection), NULL, 0, &address);
+    put(refused, place, connection_at(connection), NULL, 0, &found);
+    return answer;
+}
+
+uint32_t tcpcore_connection_set_user_timeout(tcpcore_connection *connection, uint64_t limit)
+{
+    uint32_t answer = connection_refusal(connection);
+    return answer != TCPCORE_DONE ? answer : tcp_c_connection_set_user_timeout(handle_in(connection), limit);
+}
+
+uint32_t tcpcore_connection_resend_first(tcpcore_connection *connection, uint64_t now)
+{
+    uint32_t answer = connection_refusal(connection);
+    return answer != TCPCORE_DONE ? answer : tcp_c_connection_resend_first(handle_in(connection), now);
 }
 
 /* The texts, by their answers. */

@@ -130,7 +130,7 @@ extern "C" {
 #endif
 
 /* The version of this header: it grows with each change of a struct, a call or an answer. */
-#define TCPCORE_VERSION 11
+#define TCPCORE_VERSION 12
 
 /* The answers; tcpcore_strerror has a text for each. */
 enum {
@@ -1019,6 +1019,25 @@ uint32_t tcpcore_connection_abort(tcpcore_connection *connection, uint64_t now);
 
 /* Reports phase, ending, counts, and what the two SYNs agreed on, as tcpcore_status. */
 uint32_t tcpcore_connection_status(const tcpcore_connection *connection, struct tcpcore_status *status);
+
+/* Reports the peer's address and port, as tcpcore_peer. Of version 12, as all that follow. */
+uint32_t tcpcore_connection_peer(const tcpcore_connection *connection, tcpcore_addr *addr, uint16_t *port);
+
+/*
+ * Sets the user timeout in the place of `user` of the rules (RFC 9293, 3.8.3 and 3.10.2): how long what was sent may be without an answer
+ * before the connection is aborted, in microseconds; TCPCORE_NEVER is forever. The time that has passed already counts, so
+ * tcpcore_connection_poll_at may be another then, also one that has passed. A SYN keeps the limit `handshake` of the rules.
+ *   DONE; NO_END; NULL; COPIED.
+ */
+uint32_t tcpcore_connection_set_user_timeout(tcpcore_connection *connection, uint64_t limit);
+
+/*
+ * Of what is in flight the first segment must be sent again at once, as tcpcore_resend_first: for a caller who finds losses before the
+ * timers do, by the third duplicate acknowledgement or by its own rules (RFC 5681, 3.2; RFC 6675, 5). The retransmission timer starts
+ * anew when it goes out, once until something is acknowledged.
+ *   DONE: emit. NO_RULE: nothing is in flight. NO_END; NULL; COPIED.
+ */
+uint32_t tcpcore_connection_resend_first(tcpcore_connection *connection, uint64_t now);
 
 /*
  * The text of an answer, such as "nothing to read yet". It is never NULL, nobody frees it, and any thread may ask for

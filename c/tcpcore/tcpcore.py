@@ -26,7 +26,7 @@ import os
 from collections import deque
 from typing import Any, Callable, Iterable, NamedTuple, NoReturn, Optional, TypeVar, Union
 
-VERSION = 11
+VERSION = 12
 EMIT_ROOM = 1520
 TRAIN_ROOM = 65_515
 RESET_ROOM = 20
@@ -485,6 +485,9 @@ CALLS = {
     "connection_close": [END, TIME],
     "connection_abort": [END, TIME],
     "connection_status": [END, ctypes.POINTER(StatusStruct)],
+    "connection_peer": [END, ctypes.POINTER(AddrStruct), ctypes.POINTER(ctypes.c_uint16)],
+    "connection_set_user_timeout": [END, TIME],
+    "connection_resend_first": [END, TIME],
     "strerror": [ctypes.c_uint32],
     "version": [],
     "build": [],
@@ -780,6 +783,16 @@ class Held:
         told = {name: getattr(self.told, name) for name in Status._fields}
         return Status(**told | {"phase": PHASES[told["phase"]], "ending": ENDINGS[told["ending"]]})
 
+    def peer(self) -> Optional[tuple[bytes, int]]:
+        """The peer's address and port, or None where it isn't known yet."""
+        addr, port = AddrStruct(), ctypes.c_uint16()
+        answer = self.calls["peer"](self.end, addr, port)
+        if answer == NOT_CONNECTED:
+            return None
+        if answer != DONE:
+            raise Refused(answer)
+        return bytes(addr.byte), port.value
+
 
 class End(Held):
     """One end. A call that is refused is raised as `Refused`, so also each that follows `free`, with NO_END. It is freed behind `with`, or
@@ -966,16 +979,6 @@ class End(Held):
         self.ask("timers", self.due)
         return self.due.value
 
-    def peer(self) -> Optional[tuple[bytes, int]]:
-        """The peer's address and port, or None where it isn't known yet."""
-        port = ctypes.c_uint16()
-        answer = self.calls["peer"](self.end, self.to, port)
-        if answer == NOT_CONNECTED:
-            return None
-        if answer != DONE:
-            raise Refused(answer)
-        return bytes(self.to.byte), port.value
-
     def time_wait(self) -> Optional[TimeWait]:
         """What can take this end's place in TIME-WAIT, once nothing is unread, or None before."""
         struct = TimeWaitStruct()
@@ -987,12 +990,13 @@ class End(Held):
         return TimeWait(bytes(struct))
 
 
+def limit(time: Optional[float]) -> int:
+    """A limit as the library has it."""
+    return NEVER if time is None else microseconds(time)
+
+
 def rules_struct(rules: Rules) -> ConnectionRulesStruct:
     """The C struct of the rules of a connection."""
-
-    def limit(time: Optional[float]) -> int:
-        return NEVER if time is None else microseconds(time)
-
     return ConnectionRulesStruct(
         first=microseconds(rules.first),
         least=microseconds(rules.least),
@@ -1140,3 +1144,13 @@ class Connection(Held):
 
     def abort(self, now: float) -> None:
         self.ask("abort", microseconds(now))
+
+    def set_user_timeout(self, time: Optional[float]) -> None:
+        """Sets the user timeout in the place of `user` of the rules (RFC 9293, 3.8.3), in seconds; None is no limit. The time that has passed
+        already counts, so that `poll_at` may be another then."""
+        self.ask("set_user_timeout", limit(time))
+
+    def resend_first(self, now: float) -> bool:
+        """Whether anything is in flight: then the first segment of it must be sent again at once, for a program that finds losses before the
+        timers do (RFC 5681, 3.2; RFC 6675, 5)."""
+        return self.finds("resend_first", microseconds(now))

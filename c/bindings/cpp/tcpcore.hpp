@@ -300,6 +300,23 @@ public:
     void acknowledge(time now) { detail::done(tcpcore_connection_acknowledge(raw(), micros(now))); }
     void close(time now) { detail::done(tcpcore_connection_close(raw(), micros(now))); }
     void abort(time now) { detail::done(tcpcore_connection_abort(raw(), micros(now))); }
+    bool resend_first(time now) { return detail::found(tcpcore_connection_resend_first(raw(), micros(now))); }
+    // Sets the user timeout in the place of `user` of the rules; without one it is forever. The time that has passed already counts, so that
+    // poll_at may be another then.
+    void set_user_timeout(std::optional<std::chrono::microseconds> limit)
+    {
+        std::uint64_t wanted = !limit ? TCPCORE_NEVER : limit->count() < 0 ? 0 : static_cast<std::uint64_t>(limit->count());
+        detail::done(tcpcore_connection_set_user_timeout(raw(), wanted));
+    }
+    // The peer's address and port, once they are known.
+    std::optional<std::pair<tcpcore_addr, std::uint16_t>> peer() const
+    {
+        tcpcore_addr addr;
+        std::uint16_t port;
+        std::uint32_t answer = tcpcore_connection_peer(raw(), &addr, &port);
+        if (answer == TCPCORE_NOT_CONNECTED) return std::nullopt;
+        return detail::done(answer), std::pair(addr, port);
+    }
     struct tcpcore_status status() const
     {
         struct tcpcore_status reported;

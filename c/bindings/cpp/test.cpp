@@ -346,15 +346,17 @@ static void a_connection_refuses()
     tcpcore::connection a = tcpcore::connection::connect(config(A, 7), rules, B, 7, now);
     tcpcore::connection b = tcpcore::connection::listen(config(B, 7), rules, now);
     CHECK(!b.poll_at() && answer_of([&] { b.send(now, "x", 1); }) == TCPCORE_NOT_CONNECTED);
+    CHECK(!b.peer() && a.peer()->second == 7 && std::memcmp(&a.peer()->first, &B, sizeof B) == 0);
     unsigned char out[TCPCORE_EMIT_ROOM], ack[TCPCORE_EMIT_ROOM];
     for (int turn = 0; turn < 2; turn++) {
         while (std::size_t length = a.emit(now, out).length) CHECK(b.arrive(now, A, B, out, length).first == TCPCORE_DONE);
         while (std::size_t length = b.emit(now, out).length) CHECK(a.arrive(now, B, A, out, length).first == TCPCORE_DONE);
     }
     std::string text(2500, 'y');
-    CHECK(a.send(now, text.data(), text.size()) == 2500);
+    CHECK(b.peer()->second == 7 && !a.resend_first(now) && a.send(now, text.data(), text.size()) == 2500);
     struct tcpcore_connection_segment first = a.emit(now, out, 1000);
     CHECK(first.position == 1 && first.count == 1000 && first.length == 1020 && a.emit(now, ack, 1999).length == 0);
+    CHECK(a.resend_first(now) && a.emit(now, ack, 1000).position == 1 && std::memcmp(out, ack, first.length) == 0);
     CHECK(b.arrive(now, A, B, out, first.length).first == TCPCORE_DONE);
     std::size_t length = b.emit(now, ack).length;
     CHECK(length == 20 && b.peek()->first.length == 1000 && b.consume(now, 400) == 400);
@@ -372,7 +374,34 @@ static void a_connection_refuses()
     CHECK(a.arrive(now, B, A, ack, 20).second.rule == TCPCORE_RULE_STRAY && a.emit(now, out).length == 20);
     CHECK(b.arrive(now, A, B, out, 20).first == TCPCORE_DONE && b.status().ending == TCPCORE_ENDING_RESET);
     tcpcore::connection moved = std::move(a);
-    CHECK(moved.is_closed() && answer_of([&] { a.status(); }) == TCPCORE_NULL);
+    CHECK(moved.is_closed() && answer_of([&] { a.status(); }) == TCPCORE_NULL && answer_of([&] { a.peer(); }) == TCPCORE_NULL);
+}
+
+// RFC 6298, 2.4 and 5.5: after a round trip of 0 the timer expires 1, 3 and 7 s after what is lost; RFC 9293, 3.8.3: a user timeout that is
+// set later counts from then, too, and ends no connection before that.
+static void a_user_timeout_is_set()
+{
+    using namespace std::chrono_literals;
+    tcpcore::connection::time now(5s);
+    struct tcpcore_connection_rules rules = tcpcore::default_rules();
+    tcpcore::connection a = tcpcore::connection::connect(config(A, 7), rules, B, 7, now);
+    tcpcore::connection b = tcpcore::connection::listen(config(B, 7), rules, now);
+    unsigned char out[TCPCORE_EMIT_ROOM];
+    for (int turn = 0; turn < 2; turn++) {
+        while (std::size_t length = a.emit(now, out).length) CHECK(b.arrive(now, A, B, out, length).first == TCPCORE_DONE);
+        while (std::size_t length = b.emit(now, out).length) CHECK(a.arrive(now, B, A, out, length).first == TCPCORE_DONE);
+    }
+    CHECK(a.send(now, "x", 1) == 1 && a.emit(now, out).length == 21);
+    a.set_user_timeout(2s);
+    for (auto after : {1s, 3s, 7s}) {
+        CHECK(a.poll_at() == now + after && a.timeout(now + after) == TCPCORE_TIMER_RETRANSMIT);
+        while (a.emit(now + after, out).length > 0) continue;
+    }
+    CHECK(a.poll_at() == now + 2s);
+    a.set_user_timeout(std::nullopt);
+    CHECK(a.poll_at() == now + 15s);
+    a.set_user_timeout(9s);
+    CHECK(!a.timeout(now + 9s - 1us) && a.timeout(now + 9s) == TCPCORE_TIMER_USER && a.status().ending == TCPCORE_ENDING_ABORTED);
 }
 
 int main()
@@ -431,6 +460,7 @@ int main()
     defaults();
     over_a_lossy_link();
     a_connection_refuses();
+    a_user_timeout_is_set();
     CHECK(tcpcore::build().find("machine code") != std::string_view::npos || tcpcore::build().find("portable C") == 0);
     a = tcpcore::end(config(A, 9));
     CHECK(a.status().phase == TCPCORE_PHASE_CLOSED);

@@ -98,6 +98,8 @@ static void every_call(tcpcore_connection *connection, uint32_t wanted)
     size_t count = 7;
     uint64_t at = 7;
     uint32_t timer = 7;
+    uint16_t port = 7;
+    tcpcore_addr addr = THERE;
     struct tcpcore_status status;
     struct tcpcore_arrive_report report;
     struct tcpcore_connection_segment segment;
@@ -128,8 +130,13 @@ static void every_call(tcpcore_connection *connection, uint32_t wanted)
     CHECK(tcpcore_connection_acknowledge(connection, 0), wanted);
     CHECK(tcpcore_connection_close(connection, 0), wanted);
     CHECK(tcpcore_connection_abort(connection, 0), wanted);
+    CHECK(tcpcore_connection_set_user_timeout(connection, 0), wanted);
+    CHECK(tcpcore_connection_resend_first(connection, 0), wanted);
     CHECK(tcpcore_connection_status(connection, &status), wanted);
     CHECK(are_all(&status, sizeof status, 0), 1);
+    CHECK(tcpcore_connection_peer(connection, &addr, &port), wanted);
+    CHECK(are_all(&addr, sizeof addr, 0), 1);
+    CHECK(port, 0);
     CHECK(are_all(buffer, sizeof buffer, 0xee), 1);
 }
 
@@ -209,6 +216,8 @@ static void refused_pointers(void)
     struct tcpcore_arrive_report report;
     struct tcpcore_connection_segment segment;
     size_t count;
+    tcpcore_addr addr;
+    uint16_t port;
     void *over = &a;
     open_both();
     tcpcore_connection was = a;
@@ -243,6 +252,11 @@ static void refused_pointers(void)
     CHECK(tcpcore_connection_consume(&a, 0, 1, over), TCPCORE_OVERLAP);
     CHECK(tcpcore_connection_status(&a, NULL), TCPCORE_NULL);
     CHECK(tcpcore_connection_status(&a, over), TCPCORE_OVERLAP);
+    CHECK(tcpcore_connection_peer(&a, NULL, &port), TCPCORE_NULL);
+    CHECK(tcpcore_connection_peer(&a, &addr, NULL), TCPCORE_NULL);
+    CHECK(tcpcore_connection_peer(&a, over, &port), TCPCORE_OVERLAP);
+    CHECK(tcpcore_connection_peer(&a, &addr, over), TCPCORE_OVERLAP);
+    CHECK(tcpcore_connection_peer(&a, (tcpcore_addr *)(void *)buffer, (uint16_t *)(void *)buffer), TCPCORE_OVERLAP);
     CHECK(memcmp(&a, &was, sizeof a), 0);
     free_both();
 }
@@ -346,6 +360,89 @@ static void expires(void)
     free_both();
 }
 
+/* The peer is known from its opening or its SYN on, also behind the end (RFC 9293, 3.10.6). */
+static void peers(void)
+{
+    tcpcore_addr addr = HERE;
+    uint16_t port = 7;
+    open_both();
+    CHECK(tcpcore_connection_peer(&b, &addr, &port), TCPCORE_NOT_CONNECTED);
+    CHECK(memcmp(&addr, &NOWHERE, sizeof addr), 0);
+    CHECK(port, 0);
+    CHECK(tcpcore_connection_peer(&a, &addr, &port), TCPCORE_DONE);
+    CHECK(memcmp(&addr, &THERE, sizeof addr), 0);
+    CHECK(port, 9);
+    CHECK(carry(&a, HERE, &b, 0), 1);
+    CHECK(tcpcore_connection_abort(&b, 0), TCPCORE_DONE);
+    port = 7;
+    CHECK(tcpcore_connection_peer(&b, &addr, &port), TCPCORE_DONE);
+    CHECK(memcmp(&addr, &HERE, sizeof addr), 0);
+    CHECK(port, 9);
+    free_both();
+}
+
+/* Sends text at 5 s that is lost, of so many bytes in each of two segments. */
+static void lose_text(void)
+{
+    unsigned char bytes[TCPCORE_EMIT_ROOM];
+    struct tcpcore_connection_segment segment;
+    size_t count;
+    for (int i = 0; i < 2; i++) {
+        CHECK(tcpcore_connection_send(&a, 5 * SECOND, "hello", 5, &count), TCPCORE_DONE);
+        CHECK(tcpcore_connection_emit(&a, 5 * SECOND, UINT64_MAX, bytes, sizeof bytes, &segment), TCPCORE_DONE);
+    }
+}
+
+/* A round trip of 0 makes a timeout of a second, which doubles (RFC 6298, 2.4 and 5.5): it expires after 1, 3 and 7 s, and then the path is
+   suspect. The user timeout counts from when the text was sent (RFC 9293, 3.8.3). */
+static void user_timeouts(void)
+{
+    unsigned char bytes[TCPCORE_EMIT_ROOM];
+    struct tcpcore_connection_segment segment;
+    uint32_t timer;
+    establish(0);
+    lose_text();
+    CHECK(tcpcore_connection_set_user_timeout(&a, 10 * SECOND), TCPCORE_DONE);
+    for (uint64_t after = 1; after <= 7; after = 2 * after + 1) {
+        CHECK(poll_at(&a), (5 + after) * SECOND);
+        CHECK(tcpcore_connection_timeout(&a, (5 + after) * SECOND, &timer), TCPCORE_DONE);
+        CHECK(timer, TCPCORE_TIMER_RETRANSMIT);
+        while (tcpcore_connection_emit(&a, (5 + after) * SECOND, UINT64_MAX, bytes, sizeof bytes, &segment) == TCPCORE_DONE)
+            continue;
+    }
+    CHECK(poll_at(&a), 15 * SECOND);
+    CHECK(tcpcore_connection_set_user_timeout(&a, TCPCORE_NEVER), TCPCORE_DONE);
+    CHECK(poll_at(&a), 20 * SECOND);
+    CHECK(tcpcore_connection_set_user_timeout(&a, 6 * SECOND), TCPCORE_DONE);
+    CHECK(poll_at(&a), 11 * SECOND);
+    CHECK(tcpcore_connection_set_user_timeout(&a, 9 * SECOND), TCPCORE_DONE);
+    CHECK(tcpcore_connection_timeout(&a, 14 * SECOND - 1, &timer), TCPCORE_NOT_DUE);
+    CHECK(tcpcore_connection_timeout(&a, 14 * SECOND, &timer), TCPCORE_DONE);
+    CHECK(timer, TCPCORE_TIMER_USER);
+    CHECK(status_of(&a).ending, TCPCORE_ENDING_ABORTED);
+    free_both();
+}
+
+/* The first segment goes out again, with what else one carries, and the timer starts anew when it first does. */
+static void resends(void)
+{
+    unsigned char bytes[TCPCORE_EMIT_ROOM];
+    struct tcpcore_connection_segment segment;
+    establish(0);
+    CHECK(tcpcore_connection_resend_first(&a, SECOND), TCPCORE_NO_RULE);
+    lose_text();
+    CHECK(poll_at(&a), 6 * SECOND);
+    for (uint64_t now = 5500; now < 6000; now += 400) {
+        CHECK(tcpcore_connection_emit(&a, now * 1000, UINT64_MAX, bytes, sizeof bytes, &segment), TCPCORE_NOT_DUE);
+        CHECK(tcpcore_connection_resend_first(&a, now * 1000), TCPCORE_DONE);
+        CHECK(tcpcore_connection_emit(&a, now * 1000, UINT64_MAX, bytes, sizeof bytes, &segment), TCPCORE_DONE);
+        CHECK(segment.position, 1);
+        CHECK(segment.count, 10);
+        CHECK(poll_at(&a), 6500000);
+    }
+    free_both();
+}
+
 /* At each alignment the room is enough, and one byte less isn't; nothing beside it is touched. */
 static void room(void)
 {
@@ -388,6 +485,9 @@ int main(void)
     refused_pointers();
     reports();
     expires();
+    peers();
+    user_timeouts();
+    resends();
     room();
     printf("connection: each call answers and reports what it has to\n");
     return 0;

@@ -55,7 +55,7 @@ class Timed:
 
     def __getattr__(self, name):
         call = getattr(self.end, name)
-        return call if name in ("status", "peek") else lambda now, *args: call(*args)
+        return call if name in ("status", "peek", "peer") else lambda now, *args: call(*args)
 
 
 def as_end():
@@ -76,11 +76,11 @@ def as_end():
             unread = other.peek()
             if unread is not None and not unread.ends:
                 found.append(other.consume(now, chance.randrange(3000)))
-            found += [unread, other.receive(now), other.receive(now), end.status(), other.status()]
+            found += [unread, other.receive(now), other.receive(now), end.status(), other.status(), end.peer(), other.peer()]
         told.append(found)
     check(told[0], told[1])
     # The side that closed last is done (RFC 9293, 3.6).
-    check((told[1][-2].phase, told[1][-1].phase), (Phase.CLOSED, Phase.TIME_WAIT))
+    check((told[1][-4].phase, told[1][-3].phase), (Phase.CLOSED, Phase.TIME_WAIT))
 
 
 def expiries(connection, count):
@@ -120,6 +120,47 @@ def timeouts():
     a.close(1.0)
     check((carry(1.0, a, A, b), carry(1.0, b, B, a), a.poll_at()), ([Answer.DONE], [Answer.DONE], 11.0))
     check((expiries(a, 2), a.status().ending), ([(11.0, Timer.USER)], Ending.ABORTED))
+
+
+def later_limits():
+    """RFC 9293, 3.8.3: a user timeout that is set later counts from when the text was sent; three timeouts, at 6, 8 and 12 s, come first."""
+    for limit, wanted in ((20.0, (25.0, Timer.USER)), (0.0, (12.0, Timer.USER)), (None, (20.0, Timer.RETRANSMIT))):
+        a, _ = pair()
+        check((a.send(5.0, b"x"), len(a.emit_all(5.0))), (1, 1))
+        a.set_user_timeout(limit)
+        check([kind for _, kind in expiries(a, 3)], [Timer.RETRANSMIT] * 3)
+        # What has passed already expires at once.
+        now = max(12.0, a.poll_at())
+        while limit == 20.0 and now < 25.0:
+            check((a.timeout(now), len(a.emit_all(now))), (Timer.RETRANSMIT, 1))
+            now = a.poll_at()
+        check((now, a.timeout(now)), wanted)
+    check(raised(ValueError, a.set_user_timeout, -1.0) != "nothing", True)
+
+
+def first_again():
+    """RFC 5681, 3.2: the first segment goes out again at once, and RFC 6298, 5.3: its timer starts anew."""
+    a, b = pair()
+    check((a.resend_first(1.0), a.send(5.0, bytes(2500))), (False, 2500))
+    sent = a.emit_all(5.0)
+    check((len(sent), a.poll_at(), a.resend_first(5.5)), (3, 6.0, True))
+    again = a.emit_all(5.5)
+    # The same bytes from SND.UNA on (the acknowledgement and the window in its header are the same, too).
+    check((again, a.poll_at()), (sent[:1], 6.5))
+    check([b.arrive(6.0, A, to, segment) for to, segment in again + sent[1:]], [Answer.DONE] * 3)
+    check((carry(6.0, b, B, a), a.resend_first(6.0), b.receive(6.0)), ([Answer.DONE], False, bytes(2500)))
+
+
+def peers():
+    """RFC 9293, 3.10.6: known from the opening, or from the SYN that came, on, also behind the end."""
+    b = Connection.listen(0.0, CONFIGS[1])
+    a = Connection.connect(0.0, CONFIGS[0], B, 2)
+    check((a.peer(), b.peer()), ((B, 2), None))
+    carry(0.0, a, A, b)
+    b.abort(0.0)
+    check(b.peer(), (A, 1))
+    b.free()
+    check(raised(Refused, b.peer) != "nothing", True)
 
 
 def time_wait():
@@ -279,6 +320,9 @@ def hostile():
 def main():
     as_end()
     timeouts()
+    later_limits()
+    first_again()
+    peers()
     time_wait()
     orders()
     reports()

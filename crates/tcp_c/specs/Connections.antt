@@ -1,5 +1,5 @@
 -- What the calls of a connection, an end with its timers, report and do.
-use Rattle.std.specs.Prelude.{◌≡◌, ◌≢◌, ◌↔◌, ◌⊎◌, ℕ, ◌-◌, ◌^◌, ◌==◌, nat_lt, ◌||◌, if◌then◌else◌, List, length, IsSome, IsNone, Option, Some, None, Result, Ok, Err}
+use Rattle.std.specs.Prelude.{◌≡◌, ◌≢◌, ◌↔◌, ◌⊎◌, ℕ, ◌-◌, ◌^◌, ◌==◌, nat_lt, if◌then◌else◌, List, length, IsSome, IsNone, Option, Some, None, Result}
 use Rattle.region_heap.specs.declared.region.Region.{Region}
 use Rattle.tcp_timing.specs.declared.rules.Rules.{Rules}
 use Rattle.tcp_timing.specs.Rules.{IsSound}
@@ -21,7 +21,7 @@ use Rattle.tcp_conn.specs.NewEnd.{end_with_runs}
 use Rattle.tcp_conn.specs.State.{State}
 use Rattle.tcp_end.specs.declared.wired.Wired.{Wired}
 use Rattle.tcp_end.specs.Wired.{connected, driven, listening, machine, taken_of}
-use Rattle.tcp_c.specs.Answers.{done, bad_rules, bad_runs, emit_first, in_use, little_room, nothing_due, withheld, arrival_number, due_number}
+use Rattle.tcp_c.specs.Answers.{done, bad_rules, bad_runs, emit_first, in_use, little_room, nothing_due, withheld, arrival_number}
 use Rattle.tcp_c.specs.Configs.{config_of, runs_of, HasBadRuns, HasGoodRuns}
 use Rattle.tcp_c.specs.Reports.{brought_number, no_arrive_report, rule_told}
 use Rattle.tcp_c.specs.Segments.{nowhere}

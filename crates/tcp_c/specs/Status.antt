@@ -99,8 +99,11 @@ status_of (Some s) = record {
 }
 
 -- THE PEER (RFC 9293, 3.10.6), once it is known
+abbrev pub peer_found : Option Peer → ℕ
+peer_found peer = if is_some peer then done else call_error_number NotConnected
+
 abbrev pub peer_number : State → ℕ
-peer_number s = if is_some (peer_of s) then done else call_error_number NotConnected
+peer_number s = peer_found (peer_of s)
 
 abbrev pub address_told : Option Peer → List ℕ
 address_told None = nowhere

@@ -147,6 +147,9 @@
 //! uint32_t tcp_c_connection_close(tcp_c_connection *handle, uint64_t now);
 //! uint32_t tcp_c_connection_abort(tcp_c_connection *handle, uint64_t now);
 //! uint32_t tcp_c_connection_status(tcp_c_connection *handle, tcp_c_status_record *status);
+//! uint32_t tcp_c_connection_peer(tcp_c_connection *handle, tcp_c_addr *addr, uint16_t *port);
+//! uint32_t tcp_c_connection_set_user_timeout(tcp_c_connection *handle, uint64_t limit);
+//! uint32_t tcp_c_connection_resend_first(tcp_c_connection *handle, uint64_t now);
 //! ```
 //!
 //! Each returns a number of the table in `answers`, or that of a refusal: 1 to 6 for bytes that are no segment
@@ -210,12 +213,16 @@ pub use connection::making::{
     tcp_c_connection_connect, tcp_c_connection_free, tcp_c_connection_listen, tcp_c_connection_room,
 };
 pub use connection::rules::NEVER;
-pub use connection::segments::{tcp_c_connection_arrive, tcp_c_connection_emit};
-pub use connection::timing::{tcp_c_connection_poll_at, tcp_c_connection_timeout};
+pub use connection::segments::{
+    tcp_c_connection_arrive, tcp_c_connection_emit, tcp_c_connection_resend_first,
+};
+pub use connection::timing::{
+    tcp_c_connection_poll_at, tcp_c_connection_set_user_timeout, tcp_c_connection_timeout,
+};
 pub use connection::user::{
     tcp_c_connection_abort, tcp_c_connection_acknowledge, tcp_c_connection_close,
-    tcp_c_connection_consume, tcp_c_connection_peek, tcp_c_connection_receive,
-    tcp_c_connection_send, tcp_c_connection_status,
+    tcp_c_connection_consume, tcp_c_connection_peek, tcp_c_connection_peer,
+    tcp_c_connection_receive, tcp_c_connection_send, tcp_c_connection_status,
 };
 pub use emission::{tcp_c_emit, tcp_c_emit_acknowledgement, tcp_c_emit_partial};
 pub use handle::{Handle, MARK_OF_LIVE};

@@ -2,13 +2,13 @@
 ghost use Rattle.std.specs.Prelude.{◌≡◌, Some};
 ghost use Rattle.tcp_conn.specs.Status.{peer_of};
 ghost use Rattle.tcp_c.specs.Answers.{done, answer_of, number_written};
-ghost use Rattle.tcp_c.specs.Status.{phase_number, ending_number, agreed, no_status, status_of, peer_number, peer_address, port_told, length_due};
+ghost use Rattle.tcp_c.specs.Status.{phase_number, ending_number, agreed, address_told, no_status, status_of, peer_found, peer_number, peer_address, port_told, length_due};
 
 use crate::answers::{DONE, NO_END};
 use crate::handle::Handle;
 use crate::records::{CAddr, CStatus};
 use region_heap::Region;
-use tcp_conn::{CallError, Ending, Endpoint, Negotiated, Phase};
+use tcp_conn::{CallError, Ending, Endpoint, Negotiated, Peer, Phase};
 use tcp_wire::Addr;
 
 /// The number of a phase, in the order of RFC 9293, 3.3.2.
@@ -129,6 +129,23 @@ pub extern "C" fn tcp_c_status(handle: &mut Handle, status: &mut CStatus) -> u32
     DONE
 }
 
+/// Reports this peer, if one is known; else zeros.
+pub(crate) fn report_peer(peer: Option<Peer>, addr: &mut CAddr, port: &mut u16) -> u32
+    ensures answer { result ≡ peer_found peer }
+    ensures addr { addr.new.byte ≡ address_told peer }
+    ensures port { port.new ≡ port_told peer }
+{
+    addr.byte = [0; 4];
+    *port = 0;
+    let Some(peer) = peer else {
+        return u32::from(CallError::NotConnected.number());
+    };
+    let Addr(byte) = peer.addr;
+    addr.byte = byte;
+    *port = peer.port;
+    DONE
+}
+
 /// Reports the peer's address and port: from `tcp_c_connect` on, or from the SYN that came in LISTEN on, also after the
 /// connection has ended (RFC 9293, 3.10.6). 16, and zeros, before.
 #[unsafe(no_mangle)]
@@ -138,20 +155,14 @@ pub extern "C" fn tcp_c_peer(handle: &mut Handle, addr: &mut CAddr, port: &mut u
     ensures port { port.new ≡ number_written (λ s. port_told (peer_of s)) handle.old.held.end }
     ensures state { handle.new.held.end ≡ handle.old.held.end }
 {
-    addr.byte = [0; 4];
-    *port = 0;
     let Some(end) = handle.take() else {
+        addr.byte = [0; 4];
+        *port = 0;
         return NO_END;
     };
     let peer = end.peer();
     handle.put(end);
-    let Some(peer) = peer else {
-        return u32::from(CallError::NotConnected.number());
-    };
-    let Addr(byte) = peer.addr;
-    addr.byte = byte;
-    *port = peer.port;
-    DONE
+    report_peer(peer, addr, port)
 }
 
 /// Reports the length of the segment that `tcp_c_emit` would write now, 0 where none is due.

@@ -2,7 +2,7 @@
 use core::ffi::c_void;
 use core::ptr;
 
-pub(crate) const VERSION: u32 = 11;
+pub(crate) const VERSION: u32 = 12;
 pub(crate) const END_SIZE: usize = 416;
 pub(crate) const CONNECTION_SIZE: usize = 720;
 pub(crate) const RUN_SIZE: usize = 8;
@@ -288,6 +288,9 @@ extern "C" {
     pub fn tcpcore_connection_close(connection: *mut Connection, now: u64) -> u32;
     pub fn tcpcore_connection_abort(connection: *mut Connection, now: u64) -> u32;
     pub fn tcpcore_connection_status(connection: *const Connection, status: *mut Status) -> u32;
+    pub fn tcpcore_connection_peer(connection: *const Connection, addr: *mut Addr, port: *mut u16) -> u32;
+    pub fn tcpcore_connection_set_user_timeout(connection: *mut Connection, limit: u64) -> u32;
+    pub fn tcpcore_connection_resend_first(connection: *mut Connection, now: u64) -> u32;
     pub fn tcpcore_strerror(answer: u32) -> *const u8;
     pub fn tcpcore_version() -> u32;
     pub fn tcpcore_build() -> *const u8;

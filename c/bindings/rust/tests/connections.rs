@@ -219,6 +219,55 @@ fn rules_of_the_callers() {
     assert_eq!(ends[0].status().ending, Ending::Aborted);
 }
 
+/// RFC 6298, 2.4 and 5.5: after a round trip of no time the timer expires 1, 3 and 7 s after what is lost; RFC 9293, 3.8.3: a user timeout
+/// that is set later counts from then, too, and gives no connection up before that.
+#[test]
+fn a_user_timeout_is_set() {
+    let sent = seconds(10);
+    let mut ends = established(sent);
+    let end = &mut ends[0];
+    assert_eq!((end.send(sent, b"x"), emitted(end, sent).len()), (Ok(1), 1));
+    end.set_user_timeout(Some(2 * SECOND));
+    for after in [1, 3, 7] {
+        let now = sent + after * SECOND;
+        assert_eq!((end.poll_timeout(), end.handle_timeout(now)), (Some(now), Some(Expired::Retransmit)));
+        assert_eq!(emitted(end, now).len(), 1);
+    }
+    assert_eq!(end.poll_timeout(), Some(sent + 2 * SECOND));
+    end.set_user_timeout(None);
+    assert_eq!(end.poll_timeout(), Some(sent + 15 * SECOND));
+    end.set_user_timeout(Some(9 * SECOND));
+    assert_eq!(end.handle_timeout(sent + 9 * SECOND), Some(Expired::User));
+    assert_eq!(end.status().ending, Ending::Aborted);
+}
+
+/// RFC 5681, 3.2: the first segment goes out again at once; RFC 6298, 5.3: the timer starts anew with it, and with no later one.
+#[test]
+fn the_first_goes_out_again() {
+    let now = seconds(10);
+    let mut ends = established(now);
+    let end = &mut ends[0];
+    assert_eq!((end.resend_first(now), end.send(now, &[7; 3000])), (false, Ok(3000)));
+    let sent = emitted(end, now);
+    for millis in [500, 900] {
+        let later = now + Duration::from_millis(millis);
+        assert!(end.resend_first(later));
+        assert_eq!(emitted(end, later), sent[..1]);
+        assert_eq!(end.poll_timeout(), Some(now + Duration::from_millis(1500)));
+    }
+}
+
+/// RFC 9293, 3.10.6: known from the opening, or from the SYN that came, on, also behind the end.
+#[test]
+fn peers_are_known() {
+    let now = seconds(1);
+    let mut ends = pair(&Rules::new(), now);
+    assert_eq!((ends[0].peer(), ends[1].peer()), (Some((ADDRS[1], 2)), None));
+    exchange(&mut ends, now);
+    ends[1].abort(now).unwrap();
+    assert_eq!(ends[1].peer(), Some((ADDRS[0], 1)));
+}
+
 /// Between an expiry and its emissions nothing is taken.
 #[test]
 fn what_is_due_goes_out_first() {
@@ -414,7 +463,8 @@ fn any_calls_at_any_times() {
                     }
                     assert!(read[side] <= given[1 - side]);
                 }
-                10 => ends[side].acknowledge(now),
+                10 if any.below(2) == 0 => ends[side].acknowledge(now),
+                10 => drop(ends[side].resend_first(now)),
                 _ if any.below(200) == 0 => drop(ends[side].close(now)),
                 _ => assert!(ends[side].consume(now, 0).map_or(true, |taken| taken == 0)),
             }

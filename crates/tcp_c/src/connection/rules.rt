@@ -10,7 +10,7 @@ use tcp_timing::Rules;
 pub const NEVER: u64 = u64::MAX;
 
 /// A limit, if it is one.
-fn limit_of(time: u64) -> Option<u64>
+pub(crate) fn limit_of(time: u64) -> Option<u64>
     ensures { result ≡ limit_of time }
 {
     if time == NEVER { None } else { Some(time) }

@@ -1,12 +1,14 @@
 //! Segments that come in and go out, each at its time.
 ghost use Rattle.std.specs.Prelude.{◌≡◌, length, option_map};
+ghost use Rattle.tcp_conn.specs.Timers.{after_resend_first};
 ghost use Rattle.tcp_driver.specs.Driver.{after_arrival, at};
 ghost use Rattle.tcp_end.specs.Wired.{machine};
 ghost use Rattle.tcp_c.specs.Answers.{answer_of};
-ghost use Rattle.tcp_c.specs.Connections.{arrival_told, emission_told, emitted_within, no_segment, report_told, segment_reported, segment_told, sent_number, taken_by, taken_report, written_within};
+ghost use Rattle.tcp_c.specs.Connections.{arrival_told, emission_told, emitted_within, end_of, no_segment, report_told, segment_reported, segment_told, sent_number, taken_by, taken_report, used, written_within};
+ghost use Rattle.tcp_c.specs.Pacing.{resend_number};
 
 use crate::answers::{
-    DONE, EMIT_FIRST, LITTLE_ROOM, NO_END, NOTHING_DUE, WITHHELD, arrival_number,
+    DONE, EMIT_FIRST, LITTLE_ROOM, NO_END, NO_RULE, NOTHING_DUE, WITHHELD, arrival_number,
 };
 use crate::connection::driven_handle::DrivenHandle;
 use crate::records::{CAddr, CArriveReport, CConnectionSegment};
@@ -116,4 +118,20 @@ pub extern "C" fn tcp_c_connection_emit(
     let (answer, found) = emission_told(sent);
     *segment = found;
     answer
+}
+
+/// Of what is in flight, as much as one segment carries must be sent again at once, as of
+/// [`tcp_c_resend_first`](crate::tcp_c_resend_first) (RFC 5681, 3.2; RFC 6675, 5): for a sender that finds losses by itself. 54
+/// where nothing is in flight.
+#[unsafe(no_mangle)]
+pub extern "C" fn tcp_c_connection_resend_first(handle: &mut DrivenHandle, now: u64) -> u32
+    ensures answer { result ≡ answer_of (λ d. resend_number (end_of d)) handle.old.held.end }
+    ensures state { handle.new.held.end ≡ option_map (λ d. used d now (after_resend_first (end_of d))) handle.old.held.end }
+{
+    let Some(mut driven) = handle.take() else {
+        return NO_END;
+    };
+    let again = driven.end.resend_first(now);
+    handle.put(driven);
+    if again { DONE } else { NO_RULE }
 }

@@ -1,14 +1,14 @@
 //! When a timer expires, and what then happens (RFC 9293, 3.10.8).
 ghost use Rattle.std.specs.Prelude.{◌≡◌, option_map};
-ghost use Rattle.tcp_driver.specs.Driver.{after_time, at};
+ghost use Rattle.tcp_driver.specs.Driver.{after_time, after_user_timeout, at};
 ghost use Rattle.tcp_driver.specs.Times.{expiry, next_expiry};
 ghost use Rattle.tcp_end.specs.Wired.{machine};
 ghost use Rattle.tcp_c.specs.Answers.{done, due_number, answer_of, number_written};
-ghost use Rattle.tcp_c.specs.Connections.{time_number, timer_number, timer_told};
+ghost use Rattle.tcp_c.specs.Connections.{limit_of, time_number, timer_number, timer_told};
 
 use crate::answers::{DONE, NO_END, NOTHING_DUE};
 use crate::connection::driven_handle::DrivenHandle;
-use crate::connection::rules::NEVER;
+use crate::connection::rules::{NEVER, limit_of};
 use tcp_driver::Timer;
 
 /// A time, or that there is none.
@@ -73,5 +73,20 @@ pub extern "C" fn tcp_c_connection_timeout(
         return NOTHING_DUE;
     };
     *timer = timer_number(expired);
+    DONE
+}
+
+/// Sets the user timeout: how long what was sent may be without an answer before the connection is aborted, of which the time that
+/// has passed already counts (RFC 9293, 3.8.3 and 3.10.2); 2^64 - 1 is forever. A SYN has the limit of the rules.
+#[unsafe(no_mangle)]
+pub extern "C" fn tcp_c_connection_set_user_timeout(handle: &mut DrivenHandle, limit: u64) -> u32
+    ensures answer { result ≡ answer_of (λ _. done) handle.old.held.end }
+    ensures state { handle.new.held.end ≡ option_map (λ d. record { end = after_user_timeout d.end (limit_of limit) }) handle.old.held.end }
+{
+    let Some(mut driven) = handle.take() else {
+        return NO_END;
+    };
+    driven.end.set_user_timeout(limit_of(limit));
+    handle.put(driven);
     DONE
 }

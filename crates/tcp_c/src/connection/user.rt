@@ -2,17 +2,18 @@
 ghost use Rattle.std.specs.Prelude.{◌≡◌, ◌+◌, ◌<◌, ◌++◌, length, drop, option_map};
 ghost use Rattle.tcp_conn.specs.Calls.{abort_answer, after_abort, after_acknowledge, after_close, after_receive, after_send, close_answer, receive_answer, send_answer};
 ghost use Rattle.tcp_conn.specs.Lending.{consume_answer};
+ghost use Rattle.tcp_conn.specs.Status.{peer_of};
 ghost use Rattle.tcp_c.specs.Answers.{done, answer_of, number_written, call_number, received_number};
 ghost use Rattle.tcp_c.specs.Calls.{taken_count, received_count, handed_bytes};
 ghost use Rattle.tcp_c.specs.Connections.{end_of, used};
 ghost use Rattle.tcp_c.specs.Lent.{IsNullIfEmpty, peek_ends, peek_length, peek_number};
-ghost use Rattle.tcp_c.specs.Status.{status_of};
+ghost use Rattle.tcp_c.specs.Status.{peer_address, peer_number, port_told, status_of};
 
 use crate::answers::{DONE, NO_END, call_number, received_number};
 use crate::connection::driven_handle::DrivenHandle;
 use crate::lending::{lent_of, nothing_lent};
-use crate::records::{CLent, CStatus};
-use crate::status::{no_status, status_of};
+use crate::records::{CAddr, CLent, CStatus};
+use crate::status::{no_status, report_peer, status_of};
 use crate::user::{received_count, taken_count};
 
 /// Accepts text as [`tcp_c_send`](crate::tcp_c_send) does (RFC 9293, 3.10.2).
@@ -159,4 +160,26 @@ pub extern "C" fn tcp_c_connection_status(handle: &mut DrivenHandle, status: &mu
     *status = status_of(&driven.end.core().end);
     handle.put(driven);
     DONE
+}
+
+/// Reports the peer's address and port, as [`tcp_c_peer`](crate::tcp_c_peer) does (RFC 9293, 3.10.6). 16, and zeros, before it is known.
+#[unsafe(no_mangle)]
+pub extern "C" fn tcp_c_connection_peer(
+    handle: &mut DrivenHandle,
+    addr: &mut CAddr,
+    port: &mut u16,
+) -> u32
+    ensures answer { result ≡ answer_of (λ d. peer_number (end_of d)) handle.old.held.end }
+    ensures addr { addr.new.byte ≡ peer_address (option_map end_of handle.old.held.end) }
+    ensures port { port.new ≡ number_written (λ d. port_told (peer_of (end_of d))) handle.old.held.end }
+    ensures state { handle.new.held.end ≡ handle.old.held.end }
+{
+    let Some(driven) = handle.take() else {
+        addr.byte = [0; 4];
+        *port = 0;
+        return NO_END;
+    };
+    let peer = driven.end.core().end.peer();
+    handle.put(driven);
+    report_peer(peer, addr, port)
 }

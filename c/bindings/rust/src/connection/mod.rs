@@ -11,6 +11,7 @@ use core::fmt;
 use core::marker::PhantomData;
 use core::mem::MaybeUninit;
 use core::ptr::NonNull;
+use core::time::Duration;
 use rules::NEVER;
 
 /// One end of one TCP connection, with its clock: an end that keeps its own timers. These are the retransmission timeout by measured
@@ -204,6 +205,27 @@ impl Connection<'_> {
     /// [`Error::Ended`].
     pub fn abort(&mut self, now: Time) -> Result<(), Error> {
         done(unsafe { sys::tcpcore_connection_abort(self.raw.as_ptr(), now.as_micros()) })
+    }
+
+    /// Sets the user timeout in the place of [`Rules::user`] (RFC 9293, 3.8.3): how long what was sent may be without an answer before the
+    /// connection is aborted; none is forever. The time that has passed already counts, so that [`Connection::poll_timeout`] may be another
+    /// then. A SYN keeps the limit [`Rules::handshake`].
+    pub fn set_user_timeout(&mut self, limit: Option<Duration>) {
+        unsafe { sys::tcpcore_connection_set_user_timeout(self.raw.as_ptr(), rules::limit(limit)) };
+    }
+
+    /// Of what is in flight the first segment must be sent again at once, for a caller who finds losses before the timers do (RFC 5681, 3.2;
+    /// RFC 6675, 5): whether anything is in flight. The retransmission timer starts anew when it goes out, once until something is
+    /// acknowledged.
+    pub fn resend_first(&mut self, now: Time) -> bool {
+        unsafe { sys::tcpcore_connection_resend_first(self.raw.as_ptr(), now.as_micros()) == 0 }
+    }
+
+    /// The peer's address and port, once they are known.
+    pub fn peer(&self) -> Option<(Addr, u16)> {
+        let (mut addr, mut port) = (sys::Addr::default(), 0);
+        let answer = unsafe { sys::tcpcore_connection_peer(self.raw.as_ptr(), &mut addr, &mut port) };
+        (answer == 0).then_some((addr.byte, port))
     }
 
     /// What it tells of itself.

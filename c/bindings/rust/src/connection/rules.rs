@@ -22,7 +22,7 @@ pub struct Rules(pub(crate) sys::ConnectionRules);
 pub(crate) const NEVER: u64 = u64::MAX;
 
 /// A limit as C has it.
-const fn limit(duration: Option<Duration>) -> u64 {
+pub(crate) const fn limit(duration: Option<Duration>) -> u64 {
     match duration {
         Some(duration) => micros(duration),
         None => NEVER,

@@ -1,4 +1,4 @@
-use Rattle.std.proofs.Common.{rules, ◌≡◌, ◌≢◌, ◌↔◌, ◌⊎◌, ◌≤◌, ◌∙◌, subst, IsSome, IsNone, Some, None, Err, IfOk, ℕ, ◌<◌, refl}
+use Rattle.std.proofs.Common.{rules, ◌∙◌, subst, Some, refl}
 use Rattle.tcp_conn.specs.NewEnd.{end_with_runs}
 use Rattle.tcp_halves.specs.Config.{IsGoodConfig}
 use Rattle.tcp_c.specs.Configs.{HasGoodRuns}
