@@ -1,3 +1,5 @@
+pub mod Expiring
+pub mod Standing
 mod Bursts
 mod InTime
 mod InTwo

@@ -1,5 +1,5 @@
 -- When a timer expires (RFC 6298, 5.1 to 5.3).
-use Rattle.std.specs.Prelude.{ℕ, ◌^◌, Bool, true, false, min, nat_le, if◌then◌else◌, Option, Some, None}
+use Rattle.std.specs.Prelude.{ℕ, ◌^◌, Bool, true, false, not, min, nat_le, if◌then◌else◌, Option, Some, None, is_some}
 use Rattle.tcp_driver.specs.declared.deadlines.Deadlines.{Deadlines}
 use Rattle.tcp_driver.specs.declared.machine.Timer.{Timer}
 use Rattle.tcp_driver.specs.declared.machine.Timer.TheVariants.{Retransmit, Reorder, TimeWait, User}
@@ -16,6 +16,10 @@ kept_or same before new = Some new
 -- A TIME IS KEPT while its timer runs and nothing starts it anew
 abbrev pub kept : Bool → Bool → Option ℕ → ℕ → Option ℕ
 kept runs same before new = if runs then kept_or same before new else None
+
+-- so it is what it has to be already where it is set while its timer runs, and else isn't
+abbrev pub is_kept : Bool → Option ℕ → Bool
+is_kept runs before = if runs then is_some before else not (is_some before)
 
 abbrev pub no_deadlines : Deadlines
 no_deadlines = record { retransmit = None; reorder = None; time_wait = None }

@@ -12,7 +12,7 @@ use Rattle.tcp_driver.specs.declared.machine.Sent.{Sent}
 use Rattle.tcp_driver.specs.declared.machine.Timer.{Timer}
 use Rattle.tcp_driver.specs.declared.machine.Timer.TheVariants.{Retransmit, Reorder, TimeWait, User}
 use Rattle.tcp_driver.specs.declared.machine.Wants.{Wants}
-use Rattle.tcp_driver.specs.Deadlines.{earlier, kept, last, no_deadlines, no_later, soonest, without}
+use Rattle.tcp_driver.specs.Deadlines.{earlier, is_kept, kept, last, no_deadlines, no_later, soonest, without}
 use Rattle.tcp_driver.specs.Limits.{limit_of}
 
 pub record Times : Type 0 where
@@ -88,6 +88,18 @@ followed t w una now = record t {
   span = span_after (una == t.una) t.span t.estimate;
   clock = now;
 }
+
+-- THE TIMERS STAND where they run as the end wants them already, and nothing was acknowledged: then only time passes
+abbrev pub waits_on : Times → Bool → Bool
+waits_on t runs =
+    is_kept runs t.deadlines.retransmit && (is_kept runs t.since && (runs || (t.resent == 0 && not t.restarted)))
+
+abbrev pub stands : Times → Wants → ℕ → Bool
+stands t w una =
+    una == t.una
+    && (waits_on t w.retransmit
+    && (is_kept w.reorder t.deadlines.reorder
+    && (is_kept w.time_wait t.deadlines.time_wait && is_kept w.fin_wait_2 t.left)))
 
 abbrev pub first_times : Rules → Limits → ℕ → ℕ → Times
 first_times rules limits una now = record {

@@ -1,5 +1,5 @@
 ghost use Rattle.std.specs.Prelude.{◌≡◌};
-ghost use Rattle.tcp_driver.specs.Deadlines.{earlier, kept, no_deadlines, no_later, soonest, without};
+ghost use Rattle.tcp_driver.specs.Deadlines.{earlier, is_kept, kept, no_deadlines, no_later, soonest, without};
 
 use crate::machine::Timer;
 
@@ -71,6 +71,13 @@ pub fn no_later(deadline: Option<u64>, now: u64) -> bool
         Some(time) => time <= now,
         None => false,
     }
+}
+
+/// Whether a time is what it has to be already: set while it runs, and else not set.
+pub fn is_kept(runs: bool, before: Option<u64>) -> bool
+    ensures { result ≡ is_kept runs before }
+{
+    runs == before.is_some()
 }
 
 /// A time that is kept while it runs and nothing starts it anew.

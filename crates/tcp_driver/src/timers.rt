@@ -3,7 +3,7 @@ ghost use Rattle.tcp_driver.specs.Deadlines.{last};
 ghost use Rattle.tcp_driver.specs.Limits.{limit_of};
 ghost use Rattle.tcp_driver.specs.Times.{goes_again, is_shut, later_by, opens, restarts, round_trip, shut_after, still};
 
-use crate::deadlines::{Deadlines, LAST, earlier, kept, no_later};
+use crate::deadlines::{Deadlines, LAST, earlier, is_kept, kept, no_later};
 use crate::limits::Limits;
 use crate::machine::{Report, Sent, Timer, Wants};
 use std::marker::Model;
@@ -47,7 +47,7 @@ impl Model for Timers {
 }
 
 impl Timers {
-    ghost use Rattle.tcp_driver.specs.Times.{IsSoon, after_expiry, after_segment, after_window, expiry, first_times, followed, is_suspect, measured, next_expiry, taken, time_at, user_deadline, with_user_timeout};
+    ghost use Rattle.tcp_driver.specs.Times.{IsSoon, after_expiry, after_segment, after_window, expiry, first_times, followed, is_suspect, measured, next_expiry, stands, taken, time_at, user_deadline, waits_on, with_user_timeout};
     ghost use Rattle.tcp_timing.specs.Rules.{IsSound};
 
     /// No timer runs.
@@ -108,8 +108,51 @@ impl Timers {
         }
     }
 
-    /// The timers run as the end wants them, and start anew where something was acknowledged.
+    /// Whether the retransmission timer runs as the end wants it already, and where it doesn't nothing is left of an earlier
+    /// wait.
+    fn waits_on(&self, runs: bool) -> bool
+        ensures { result ≡ waits_on self.now runs }
+    {
+        is_kept(runs, self.deadlines.retransmit)
+            && (is_kept(runs, self.since) && (runs || (self.resent == 0 && !self.restarted)))
+    }
+
+    /// Whether the timers run as the end wants them already, and nothing was acknowledged.
+    fn stands(&self, wants: Wants, una: u64) -> bool
+        ensures { result ≡ stands self.now wants una }
+    {
+        una == self.una
+            && (self.waits_on(wants.retransmit)
+                && (is_kept(wants.reorder, self.deadlines.reorder)
+                    && (is_kept(wants.time_wait, self.deadlines.time_wait)
+                        && is_kept(wants.fin_wait_2, self.left))))
+    }
+
+    /// The timers run as the end wants them, and start anew where something was acknowledged. Mostly they do already, and
+    /// nothing was: then only time passes.
+    #[inline]
     pub fn follow(&mut self, wants: Wants, una: u64, now: u64)
+        requires early { now ≤ last }
+        requires later { self.old.clock ≤ now }
+        ensures state { self.new ≡ followed self.old wants una now }
+        ensures soon { IsSoon self.new }
+        ensures una { self.new.una ≡ una }
+        ensures retransmit { is_some self.new.deadlines.retransmit ≡ wants.retransmit }
+        ensures since { is_some self.new.since ≡ wants.retransmit }
+        ensures left { is_some self.new.left ≡ wants.fin_wait_2 }
+        ensures reorder { is_some self.new.deadlines.reorder ≡ wants.reorder }
+        ensures time_wait { is_some self.new.deadlines.time_wait ≡ wants.time_wait }
+    {
+        if self.stands(wants, una) {
+            self.pass(now);
+        } else {
+            self.start(wants, una, now);
+        }
+    }
+
+    /// As `follow`, whether they do already or not.
+    #[inline(never)]
+    fn start(&mut self, wants: Wants, una: u64, now: u64)
         requires early { now ≤ last }
         requires later { self.old.clock ≤ now }
         ensures state { self.new ≡ followed self.old wants una now }
@@ -244,16 +287,23 @@ impl Timers {
     pub fn next_expiry(&self) -> Option<u64>
         ensures { result ≡ next_expiry self.now }
     {
-        earlier(self.user_deadline(), self.deadlines.soonest())
+        let soonest = self.deadlines.soonest();
+        // Mostly nothing waits for the user.
+        if !self.is_suspect() && self.left.is_none() {
+            return soonest;
+        }
+        earlier(self.user_deadline(), soonest)
     }
 
     /// The timer that has expired, if one has. None does in a burst.
+    #[tactic(auto, using(crate::proofs::Expiring::none_expires))]
     pub fn expiry(&self, now: u64) -> Option<Timer>
         ensures { result ≡ expiry self.now now }
     {
-        if self.bursting {
-            None
-        } else if no_later(self.user_deadline(), now) {
+        if self.bursting || !no_later(self.next_expiry(), now) {
+            return None;
+        }
+        if no_later(self.user_deadline(), now) {
             Some(Timer::User)
         } else if no_later(self.deadlines.retransmit, now) {
             Some(Timer::Retransmit)
@@ -295,7 +345,8 @@ impl Timers {
     pub fn pass(&mut self, now: u64)
         requires early { now ≤ last }
         requires later { self.old.clock ≤ now }
-        ensures { self.new ≡ record self.old { clock = now } }
+        ensures state { self.new ≡ record self.old { clock = now } }
+        ensures soon { IsSoon self.new }
     {
         self.clock = now;
     }
