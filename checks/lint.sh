@@ -24,7 +24,10 @@ if has clang-tidy clang-tidy --version; then
         clang-tidy --quiet --warnings-as-errors='*' --checks="$checks" "$source" -- -std=c11 -Ic -Ic/tcpcore -Ic/companions 2>/dev/null
         passed=$((passed + 1))
     done
-    clang-tidy --quiet --warnings-as-errors='*' --checks="$checks" examples/tun_http.c -- -std=c11 -Ic/tcpcore -Ic/companions 2>/dev/null
+    for source in examples/*.c; do
+        clang-tidy --quiet --warnings-as-errors='*' --checks="$checks" "$source" -- -std=c11 -Ic/tcpcore -Ic/companions 2>/dev/null
+        passed=$((passed + 1))
+    done
     # The device's folder has a string.h of its own.
     for source in examples/device/*.c checks/examples/frames.c; do
         clang-tidy --quiet --warnings-as-errors='*' --checks="$checks" "$source" -- -std=c11 -Iexamples/device -Ic/tcpcore -Ic/companions 2>/dev/null
