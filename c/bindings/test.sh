@@ -1,7 +1,8 @@
 #!/usr/bin/env bash
 # C++'s header over the portable file, which c/portable/build.sh makes; Go's package over release/tcpcore.c and over the native library
 # (the first argument, or crates/tcp_c's own); and Python's package as it is installed, over release/tcpcore.c, which has machine code on
-# this machine, the same in C, and the native library: one test each. It installs g++, golang-go and Python's own by apt-get where this
+# this machine, the same in C, and the native library: one test each. Each language runs the scripted world of crates/test_connections, too,
+# and prints the same; hostile.sh is the long form of their tests by hostile calls. It installs g++, golang-go and Python's own by apt-get where this
 # machine lacks them; where that fails it fails, or, with LEAVE_OUT=1 in the environment, says what it leaves out.
 set -euo pipefail
 cd "$(dirname "$0")"
@@ -25,16 +26,40 @@ is_native() {
     if ! grep -q tcp_c_emit out/names || grep -q w2c_ out/names; then echo "bindings: $1 isn't over the machine code"; exit 1; fi
 }
 
-if has g++ g++ --version; then
-    sanitizers="-O1 -fsanitize=address,undefined -fno-sanitize-recover=all"
-    gcc -std=c99 $sanitizers -I../tcpcore -c ../portable/out/tcpcore_portable.c -o cpp/out/tcpcore.o
-    g++ -std=c++17 -Wall -Wextra -Wpedantic -Wshadow -Werror $sanitizers -I../tcpcore cpp/test.cpp cpp/out/tcpcore.o -o cpp/out/test
-    timeout 60 cpp/out/test
+# A program that reads the script of one world of two connections prints what the proved ends themselves do in Rattle.
+world=$PWD/../../crates/test_connections
+in_world() {
+    if ! timeout 60 "$@" <"$world/stdin" >out/world || ! diff out/world "$world/stdout" >out/differs; then
+        echo "bindings: '$*' prints another world:"
+        head out/differs
+        exit 1
+    fi
     passed=$((passed + 1))
+}
+
+sanitizers="-O1 -fsanitize=address,undefined -fno-sanitize-recover=all"
+# shellcheck disable=SC2086
+gcc -std=c99 $sanitizers -I../tcpcore -c ../portable/out/tcpcore_portable.c -o cpp/out/tcpcore.o
+# shellcheck disable=SC2086
+gcc -std=c11 -Wall -Wextra -Wpedantic -Wconversion -Wshadow -Werror $sanitizers -I../tcpcore ../tcpcore/tests/world.c cpp/out/tcpcore.o -o out/world_c
+in_world out/world_c
+gcc -std=c11 -O2 -I../tcpcore ../tcpcore/tests/world.c ../tcpcore/tcpcore.c "$library" -o out/world_native
+in_world out/world_native
+if has g++ g++ --version; then
+    for program in test hostile world; do
+        # shellcheck disable=SC2086
+        g++ -std=c++17 -Wall -Wextra -Wpedantic -Wshadow -Werror $sanitizers -I../tcpcore -Icpp "cpp/$program.cpp" cpp/out/tcpcore.o -o "cpp/out/$program"
+    done
+    timeout 60 cpp/out/test
+    timeout 60 cpp/out/hostile
+    in_world cpp/out/world
+    passed=$((passed + 2))
 fi
 if has golang-go go version; then
     [[ -z $(gofmt -l go) ]] || { echo "bindings: gofmt would change $(gofmt -l go)"; exit 1; }
-    (cd go && GOPROXY=off GOFLAGS=-mod=mod go vet . && GOPROXY=off GOFLAGS=-mod=mod timeout 300 go test -count=1 .)
+    (cd go && GOPROXY=off GOFLAGS=-mod=mod go vet ./... && GOPROXY=off GOFLAGS=-mod=mod timeout 300 go test -count=1 .)
+    (cd go && GOPROXY=off GOFLAGS=-mod=mod go build -o ../out/world_go ./world)
+    in_world out/world_go
     # The same over the native library.
     make --silent -C ../tcpcore OUT="$PWD/out/native" LIBRARY="$library"
     export CGO_LDFLAGS=-L$PWD/out/native
@@ -50,12 +75,13 @@ python_over() {
     TCPCORE_PREBUILT=$2 /usr/bin/python3 -m pip install --quiet --no-index --no-deps --no-build-isolation --root-user-action=ignore \
         --target "$site" ./python
     mkdir -p out/alone/tests out/alone/examples
-    cp ../tcpcore/tests/{calls,batches,connections,simulations,streams}.py out/alone/tests
+    cp ../tcpcore/tests/{calls,batches,connections,simulations,streams,world}.py out/alone/tests
     local name
     for name in calls connections simulations streams; do
         PYTHONPATH=$site timeout 300 /usr/bin/python3 "out/alone/tests/$name.py"
     done
     PYTHONPATH=$site timeout 300 /usr/bin/python3 out/alone/tests/batches.py module
+    in_world env PYTHONPATH="$site" /usr/bin/python3 out/alone/tests/world.py
     said=$(cd / && PYTHONPATH=$site /usr/bin/python3 -c 'import tcpcore; print(tcpcore.build())')
     [[ $said == "$3" ]] || { echo "bindings: Python's package over $1 says '$said'"; exit 1; }
     # The examples by themselves, as a user has them who has installed the package: they find it, and print what they print in the

@@ -63,6 +63,11 @@ cat out/target/debug/build/tcpcore-*/output | grep -q static=tcp_c || { echo "ru
 make --silent -C ../../tcpcore OUT="$PWD/out/native" LIBRARY="$library"
 export TCPCORE_LIB_DIR=$PWD/out/native
 tests 47 --features native
+# The scripted world of two connections is what the proved ends themselves do in Rattle.
+world=../../../crates/test_connections
+passes cargo build --quiet --offline --example world --features native
+out/target/debug/examples/world <"$world/stdin" >out/world
+diff out/world "$world/stdout" || { echo "rust: another world is printed"; exit 1; }
 for example in udp connection; do
     passes timeout 120 cargo run --quiet --offline --example "$example" ../../tcpcore/tcpcore.h
     grep -q ' bytes came as they were sent, in ' out/found
