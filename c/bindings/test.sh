@@ -1,9 +1,10 @@
 #!/usr/bin/env bash
 # C++'s header over the portable file, which c/portable/build.sh makes; Go's package over release/tcpcore.c and over the native library
 # (the first argument, or crates/tcp_c's own); and Python's package as it is installed, over release/tcpcore.c, which has machine code on
-# this machine, the same in C, and the native library: one test each. Each language runs the scripted world of crates/test_connections, too,
-# and prints the same; hostile.sh is the long form of their tests by hostile calls. It installs g++, golang-go and Python's own by apt-get where this
-# machine lacks them; where that fails it fails, or, with LEAVE_OUT=1 in the environment, says what it leaves out.
+# this machine, the same in C, and the native library: one test each. Each language, and C, runs the scripted world of
+# crates/test_connections, too, and prints the same; hostile.sh is the long form of their tests by hostile calls. It installs g++, golang-go
+# and Python's own by apt-get where this machine lacks them; where that fails it fails, or, with LEAVE_OUT=1 in the environment, says what it
+# leaves out.
 set -euo pipefail
 cd "$(dirname "$0")"
 # shellcheck disable=SC2034
@@ -41,14 +42,16 @@ sanitizers="-O1 -fsanitize=address,undefined -fno-sanitize-recover=all"
 # shellcheck disable=SC2086
 gcc -std=c99 $sanitizers -I../tcpcore -c ../portable/out/tcpcore_portable.c -o cpp/out/tcpcore.o
 # shellcheck disable=SC2086
-gcc -std=c11 -Wall -Wextra -Wpedantic -Wconversion -Wshadow -Werror $sanitizers -I../tcpcore ../tcpcore/tests/world.c cpp/out/tcpcore.o -o out/world_c
+gcc -std=c11 -Wall -Wextra -Wpedantic -Wconversion -Wshadow -Werror $sanitizers -I../tcpcore ../tcpcore/tests/world.c cpp/out/tcpcore.o \
+    -o out/world_c
 in_world out/world_c
 gcc -std=c11 -O2 -I../tcpcore ../tcpcore/tests/world.c ../tcpcore/tcpcore.c "$library" -o out/world_native
 in_world out/world_native
 if has g++ g++ --version; then
     for program in test hostile world; do
         # shellcheck disable=SC2086
-        g++ -std=c++17 -Wall -Wextra -Wpedantic -Wshadow -Werror $sanitizers -I../tcpcore -Icpp "cpp/$program.cpp" cpp/out/tcpcore.o -o "cpp/out/$program"
+        g++ -std=c++17 -Wall -Wextra -Wpedantic -Wshadow -Werror $sanitizers -I../tcpcore -Icpp "cpp/$program.cpp" cpp/out/tcpcore.o \
+            -o "cpp/out/$program"
     done
     timeout 60 cpp/out/test
     timeout 60 cpp/out/hostile
