@@ -1,5 +1,5 @@
-"""The judge on rows from the RFCs, on captures of stacks that nobody here wrote, on planted faults, on captures that are cut, on
-random logs, and on logs that grow.
+"""The judge on rows from the RFCs, on captures that are made by hand, on captures of stacks that nobody here wrote, on planted faults, on
+captures that are cut, on random logs, and on logs that grow.
 
     judging.py TCPJUDGE [--netstack PROGRAM] [--peers FOLDER] [--short]
 
@@ -21,6 +21,7 @@ import tempfile
 from twice import Differs, Judges, rules
 
 import capture
+import captures as captures_by_hand
 import growth
 import planting
 import rfc_rows
@@ -140,6 +141,7 @@ def main():
     words, cases = read_words(), Cases()
     judges = Judges(words.tcpjudge)
     rfc_rows.judge_rows(cases, judges)
+    captures_by_hand.judge_captures(cases, words.tcpjudge)
     with tempfile.TemporaryDirectory() as name:
         folder = pathlib.Path(name)
         folder.chmod(0o777)

@@ -1,7 +1,7 @@
 #!/usr/bin/env bash
-# Runs the programs, tcpkit and tcpjudge, on each case of statuses/ and judge_statuses/, and compares the exit status and the line on
-# standard error with what statuses.txt and judge_statuses.txt have: `NAME STATUS LINE`. A case is a file, and NAME.args the
-# program's words, `{}` for that file. The programs are in out/ of their crates then.
+# Runs the programs, tcpkit and tcpjudge, on each case of statuses/, of judge_statuses/, whose files are logs, and of capture_statuses/,
+# and compares the exit status and the line on standard error with what statuses.txt, judge_statuses.txt and capture_statuses.txt have:
+# `NAME STATUS LINE`. A case is a file, and NAME.args the program's words, `{}` for that file. The programs are in out/ of their crates then.
 set -euo pipefail
 here=$(cd "$(dirname "$0")" && pwd)
 passed=0 failed=0
@@ -24,5 +24,6 @@ compare() {
 
 compare tcpkit statuses
 compare tcpjudge judge_statuses
+compare tcpjudge capture_statuses
 echo "$passed passed, $failed failed"
 ((failed == 0))

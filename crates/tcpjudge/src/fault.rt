@@ -1,6 +1,7 @@
 //! Why the program ends without its whole report.
 use kit_io::{ReadError, WriteFault};
 use kit_judge::LogError;
+use std::alloc::AllocError;
 use thiserror::Error;
 
 /// The `Display` text is what the program writes after `tcpjudge: `. Up to 44 the numbers are those of `tcpkit`.
@@ -24,6 +25,18 @@ pub(crate) enum Fault {
     /// The log has no segment that the end sent, so that nothing was judged.
     #[error("45 no segment that the end sent")]
     NothingSent,
+    /// The capture has no segment that could be judged.
+    #[error("45 no segment of TCP over IPv4 that is whole")]
+    NothingJudged,
+    /// The capture ends in a record that is cut short, or damaged: what is before it was judged.
+    #[error("46 the capture is cut short or damaged")]
+    CutCapture,
+    /// The capture is in the pcapng form.
+    #[error("47 a capture in the pcapng form: 'editcap -F pcap' makes one in the pcap form")]
+    NextGeneration,
+    /// Whether a capture is complete isn't the caller's word.
+    #[error("48 --complete is of logs; of a capture --at names the end where it was taken")]
+    CompleteCapture,
 }
 
 impl From<ReadError> for Fault {
@@ -32,6 +45,12 @@ impl From<ReadError> for Fault {
             ReadError::Fault => Fault::ReadFault,
             ReadError::NoMemory => Fault::NoMemory,
         }
+    }
+}
+
+impl From<AllocError> for Fault {
+    fn from(_: AllocError) -> Fault {
+        Fault::NoMemory
     }
 }
 

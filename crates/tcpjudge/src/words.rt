@@ -2,23 +2,29 @@
 use crate::fault::Fault;
 use clap::error::ErrorKind;
 use clap::{Arg, ArgAction, ArgMatches, Command, Error as ParseError};
+use kit_text::read_addr;
 use std::alloc::{AllocError, Global};
+use tcp_wire::Addr;
 
 /// The job that the words request.
 #[derive(Debug, Drop)]
 pub(crate) enum Job {
     /// To print what the program takes.
     Help,
-    /// To judge a log.
+    /// To judge a log or a capture.
     Judge {
-        /// The path of the log, or `-`.
+        /// Its path, or `-`.
         path: String,
-        /// Whether nothing that came is missing in it.
+        /// Of a log: whether nothing that came is missing in it.
         is_complete: bool,
+        /// Of a capture: the address of the end where it was taken.
+        at: Option<Addr>,
     },
 }
 
 const COMPLETE: &str = "complete";
+
+const AT: &str = "at";
 
 /// One form, with one file.
 fn form<'a>(alloc: Global) -> Result<Command<'a>, AllocError> {
@@ -28,7 +34,14 @@ fn form<'a>(alloc: Global) -> Result<Command<'a>, AllocError> {
     let complete = Arg::new(alloc, COMPLETE)
         .long(COMPLETE)
         .action(ArgAction::SetTrue);
-    Command::new(alloc, "tcpjudge").arg(file)?.arg(complete)
+    let at = Arg::new(alloc, AT)
+        .long(AT)
+        .value_name("ADDRESS")
+        .action(ArgAction::Set);
+    Command::new(alloc, "tcpjudge")
+        .arg(file)?
+        .arg(complete)?
+        .arg(at)
 }
 
 /// What a refusal by clap means.
@@ -40,13 +53,29 @@ fn refused(error: &ParseError) -> Result<Job, Fault> {
     }
 }
 
+/// The address of the end where a capture was taken, if the words name one.
+fn place_of(matches: &ArgMatches) -> Result<Option<Addr>, Fault> {
+    let Some(word) = matches.get_str(AT) else {
+        return Ok(None);
+    };
+    match read_addr(word.as_bytes()) {
+        Some(addr) => Ok(Some(addr)),
+        None => Err(Fault::BadWords),
+    }
+}
+
 fn job_of(alloc: Global, matches: &ArgMatches) -> Result<Job, Fault> {
     let is_complete = matches.get_flag(COMPLETE);
+    let at = place_of(matches)?;
     let Some(file) = matches.get_str("FILE") else {
         return Err(Fault::BadWords);
     };
     match String::from_str(alloc, file) {
-        Ok(path) => Ok(Job::Judge { path, is_complete }),
+        Ok(path) => Ok(Job::Judge {
+            path,
+            is_complete,
+            at,
+        }),
         Err(_) => Err(Fault::NoMemory),
     }
 }

@@ -1,0 +1,138 @@
+//! One end of a connection: its judge, and what is found of it.
+use crate::side::Side;
+use kit_judge::{is_against_came, is_damage, rule_of};
+use std::alloc::{AllocError, Global};
+use tcp_judge::{Finding, Judge};
+use tcp_wire::{Addr, RawSegment, Seq};
+
+/// A packet of the capture.
+#[derive(Clone, Copy, PartialEq, Eq)]
+pub(crate) struct Packet {
+    /// Counted from 1.
+    pub(crate) number: usize,
+    /// When it was seen, in nanoseconds from 1970 on.
+    pub(crate) time: u64,
+}
+
+/// The first packet that breaks a rule, and how many do.
+#[derive(Clone, Copy)]
+pub(crate) struct Broken {
+    pub(crate) packet: Packet,
+    pub(crate) finding: Finding,
+    pub(crate) count: usize,
+}
+
+/// How many packets of a kind there are, and the first.
+#[derive(Clone, Copy)]
+pub(crate) struct Note {
+    pub(crate) count: usize,
+    pub(crate) first: usize,
+}
+
+impl Note {
+    pub(crate) fn add(&mut self, number: usize) {
+        if self.count == 0 {
+            self.first = number;
+        }
+        self.count = self.count.saturating_add(1);
+    }
+}
+
+pub(crate) const NONE: Note = Note { count: 0, first: 0 };
+
+/// An end, what is known of it and what it broke.
+#[derive(Drop)]
+pub(crate) struct JudgedEnd {
+    pub(crate) side: Side,
+    judge: Judge,
+    /// The number of its first SYN, from which relative numbers count.
+    pub(crate) initial: Option<Seq>,
+    /// How many segments it sent, and how many bytes of text these had, resent ones among them.
+    pub(crate) segments: usize,
+    pub(crate) text: u64,
+    /// A rule has at most one of these.
+    pub(crate) broken: Vec<Broken>,
+    /// Segments with a wrong checksum that it sent.
+    pub(crate) damaged: Note,
+    /// Whether it acknowledged something before a SYN came to it: then what came before isn't in the capture.
+    pub(crate) lacks_beginning: bool,
+}
+
+/// Adds a finding to those of its rule.
+fn add_finding(
+    broken: &mut Vec<Broken>,
+    packet: Packet,
+    finding: Finding,
+) -> Result<(), AllocError> {
+    for known in broken.iter_mut() {
+        if rule_of(known.finding) == rule_of(finding) {
+            known.count = known.count.saturating_add(1);
+            return Ok(());
+        }
+    }
+    broken.push(Broken {
+        packet,
+        finding,
+        count: 1,
+    })?;
+    Ok(())
+}
+
+impl JudgedEnd {
+    pub(crate) fn new(alloc: Global, side: Side) -> Self {
+        JudgedEnd {
+            side,
+            judge: Judge::new(alloc),
+            initial: None,
+            segments: 0,
+            text: 0,
+            broken: Vec::new(alloc),
+            damaged: NONE,
+            lacks_beginning: false,
+        }
+    }
+
+    /// What a segment that can be read tells of the end that sent it, `came` being whether a SYN came to that.
+    fn tell(&mut self, segment: &RawSegment<'_>, has_peer: bool) {
+        let flags = segment.header.flags;
+        self.text = self.text.saturating_add(segment.text.len() as u64);
+        if flags.is_syn() && self.initial.is_none() {
+            self.initial = Some(segment.header.seq);
+        }
+        if flags.is_ack() && !flags.is_rst() && !has_peer {
+            self.lacks_beginning = true;
+        }
+    }
+
+    /// It sent a segment. `has_peer` says that a SYN came to it before.
+    pub(crate) fn went(
+        &mut self,
+        packet: Packet,
+        dst: Addr,
+        bytes: &[u8],
+        has_peer: bool,
+    ) -> Result<(), AllocError> {
+        let src = self.side.addr;
+        self.segments = self.segments.saturating_add(1);
+        if let Ok(segment) = RawSegment::parse(src, dst, bytes) {
+            self.tell(&segment, has_peer);
+        }
+        let Some(finding) = self.judge.went(src, dst, bytes)? else {
+            return Ok(());
+        };
+        if is_damage(finding) {
+            self.damaged.add(packet.number);
+        }
+        add_finding(&mut self.broken, packet, finding)
+    }
+
+    /// A segment came to it.
+    pub(crate) fn came(&mut self, src: Addr, bytes: &[u8]) -> Result<(), AllocError> {
+        self.judge.came(src, self.side.addr, bytes)
+    }
+}
+
+/// Whether a finding counts, where all rules may be tried and where they mayn't.
+pub(crate) fn counts(finding: Finding, is_complete: bool) -> bool {
+    is_complete || (!is_against_came(finding) && !is_damage(finding))
+}
