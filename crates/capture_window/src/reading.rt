@@ -161,7 +161,13 @@ mod tests {
         let (found, left) = lengths(&rt, &bytes)?;
         assert_eq!(rt; found.as_slice(), [60, 60].as_slice());
         assert_eq!(rt; left, 0);
-        let (found, left) = lengths(&rt, &bytes[..61])?;
+        Ok(())
+    }
+
+    #[test]
+    fn stops_at_a_cut(rt: HostRuntime) -> Result<(), ReadError> {
+        let bytes = capture(&rt, &[&HEAD, &RECORD, &RECORD[..18]]).expect(&rt, "memory");
+        let (found, left) = lengths(&rt, &bytes)?;
         assert_eq!(rt; found.as_slice(), [60].as_slice());
         assert_eq!(rt; left, 18);
         Ok(())
