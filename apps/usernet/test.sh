@@ -27,6 +27,7 @@ sshd openssh-server
 scp openssh-client
 nc netcat-openbsd
 socat socat
+ping iputils-ping
 traceroute traceroute
 LIST
 has libseccomp-dev test -e /usr/include/seccomp.h || export WITHOUT_SECCOMP=1

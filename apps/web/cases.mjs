@@ -55,6 +55,7 @@ export function is_text(bytes) {
 }
 
 const EMIT = /^\d+ emit ([AB]) (\d+) flags (\S+) seq (\d+) ack (\d+) window (\d+) text (\d+) sack (\S+)$/;
+const EMITS = /^\d+ repeat \d+ emit ([AB]) done (\d+) /;
 const CARRY = /^\d+ (?:repeat (\d+) )?(deliver|damage) ([AB]) (\d+)(?: \d+ \d+)? (.*)$/;
 const CALL = /^\d+ (?:repeat \d+ )?(connect|listen|close|abort|send|receive|timer) /;
 const IDLE = /^\d+ emit [AB] none$| refused [1-9]\d$/;
@@ -82,14 +83,18 @@ export function changes(report) {
 // What the picture of a report has to show.
 export function wanted(report) {
     const lines = report.split("\n").slice(0, -1), events = lines.slice(0, -2);
-    const sent = Object.fromEntries(
-        lines.slice(-2).map(line => [line.split(" ")[1], Number(/ sent (\d+) /.exec(line)[1])]));
     const arrived = { A: new Set(), B: new Set() }, begun = { A: new Set(), B: new Set() };
+    // What each event emitted, as the first number and the next one.
+    const sent = { A: [], B: [] };
     const told = { arrows: 0, crosses: 0, damaged: 0, dropped: 0, again: 0, repeated: 0, resent: 0, blocks: 0, marks: 0,
         labels: [] };
     for (const line of events) {
         told.marks += CALL.test(line) || IDLE.test(line) ? 1 : 0;
-        const emitted = EMIT.exec(line), carried = CARRY.exec(line);
+        const emitted = EMIT.exec(line), emits = EMITS.exec(line), carried = CARRY.exec(line);
+        for (const [, side, count] of [emitted && [null, emitted[1], 1], emits].filter(one => one)) {
+            const first = sent[side].at(-1)?.[1] ?? 0;
+            sent[side].push([first, first + Number(count)]);
+        }
         if (emitted) {
             const [, side, number, flags, seq, ack, window, text, sack] = emitted;
             told.blocks += sack === "-" ? 0 : sack.split("+").length;
@@ -113,9 +118,11 @@ export function wanted(report) {
             arrived[side].add(Number(number) + turn);
         }
     }
+    // One cross for what is lost of an event's segments.
     for (const side of ["A", "B"]) {
-        for (let number = 0; number < sent[side]; number += 1) {
-            told.crosses += arrived[side].has(number) ? 0 : 1;
+        for (const [first, next] of sent[side]) {
+            const numbers = Array.from({ length: next - first }, (_, at) => first + at);
+            told.crosses += numbers.every(number => arrived[side].has(number)) ? 0 : 1;
         }
     }
     return told;

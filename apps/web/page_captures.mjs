@@ -59,7 +59,7 @@ async function judged(tab, expect, open) {
     const faults = await open("faults.pcap", capture_of_log(log)), accent = await tab.run(() => getComputedStyle(
         document.querySelector("#heads .phase")).fill);
     expect("planted faults", faults, {
-        is_shown: true, told: "6 findings in 26 segments: 0 of A's, 6 of B's", heads: ["A 10.0.0.1:1", "B 10.0.0.2:2"], segments: 25, connections: 1,
+        is_shown: true, told: "6 findings in 26 segments: 0 of A's, 6 of B's", heads: ["A 10.0.0.1:1", "B 10.0.0.2:2"], segments: 26, connections: 1,
         times: places.map(place => `${place - places[0]}.000000 s`), findings: lines_of(form), accused: arrows_of(form), is_crowded: false, colour: accent,
     });
     await check("complete-A", true);

@@ -15,8 +15,8 @@ import { long_scripts } from "./page_long.mjs";
 
 const [page, command, draw] = process.argv.slice(2);
 const address = pathToFileURL(path.resolve(page)).href;
-// A quiet machine takes 60 ms; one whose processors others use, or a slower one, may take four times as long.
-const TEN_THOUSAND = 10000, MOST_MS = 250, MOST_FRAME = 50, MOST_NODES = 3000;
+// A row of the picture is no higher than so many pixels. A quiet machine takes 60 ms for 10,000 events; one whose processors others use, or a slower one, may take four times as long.
+const ROW = 60, TEN_THOUSAND = 10000, MOST_MS = 250, MOST_FRAME = 50, MOST_NODES = 3000;
 let passed = 0, failed = 0;
 
 function expect(name, found, asked) {
@@ -30,7 +30,7 @@ function expect(name, found, asked) {
 }
 
 // The bytes of every script give the program's report; and so does every text in the editor.
-async function reports(tools, all) {
+async function reports(tab, tools, all) {
     const told = await tools.run(scripts => scripts.map(script => replay_bytes(
         Uint8Array.from(atob(script), letter => letter.charCodeAt(0)))), all.map(one => one.bytes.toString("base64")));
     all.forEach((one, number) => {
@@ -49,12 +49,15 @@ async function reports(tools, all) {
             expect(`${one.name}: its line`, line === undefined || shown.cause.startsWith(`Line ${line}: `), true);
         } else {
             expect(`${one.name}: edited`, [shown.is_fault, shown.report], [false, one.report]);
+            // Only the rows that are seen are drawn.
+            const height = ROW * one.report.split("\n").length;
+            await tab.size(1600, Math.max(6000, height));
             await pictures(tools, one);
         }
     }
 }
 
-// What is drawn is what the report says. The window is high enough for all rows.
+// What is drawn is what the report says, in a window that is high enough for all rows.
 async function pictures(tools, { name, report }) {
     const asked = wanted(report), found = await tools.drawn();
     for (const part of ["arrows", "crosses", "damaged", "dropped", "again", "repeated", "resent", "blocks", "marks"]) {
@@ -154,7 +157,8 @@ try {
     await tab.size(1600, 6000);
     await tab.open(address);
     const tools = await setup(tab), all = cases();
-    await reports(tools, all);
+    await reports(tab, tools, all);
+    await tab.size(1600, 6000);
     await refused(tools, all);
     await stored(tools);
     await photographed(tab, tools);

@@ -24,7 +24,7 @@ const side = one_of("A", "B"), capacity = number(0, 4294967295), segment = numbe
 const KEYS = {
     isn: number(0, 4294967295), mss: number(0, 65535), send: capacity, recv: capacity,
     shift: word => word === "none" ? null : number(0, 255)(word), sack: one_of("on", "off"),
-    limit: number(0, "9223372036854775807"),
+    limit: number(0, "9223372036854775807"), runs: number(1, 4096),
 };
 
 // The words behind the first, in order: a name for the reader, and the test.
