@@ -1,5 +1,6 @@
 // An echo server for many clients on a TUN device of Linux: a connection for each, which keeps its own times. Without congestion control and
-// delayed acknowledgements, which tun_http.c has.
+// delayed acknowledgements, and for a network that is trusted: who sends SYNs from many addresses takes all places for the three minutes
+// that a SYN may be without an answer. tun_http.c has all three.
 //
 //     cc -std=c11 -O2 -Irelease -Ic/companions examples/tun_echo.c c/companions/ip.c release/tcpcore.c -o tun_echo
 //     sudo ./tun_echo tun0 10.9.0.2/24 7 &
@@ -20,9 +21,10 @@
 #include <time.h>
 #include <unistd.h>
 
-enum { CLIENTS = 128, CAPACITY = 65535, HEADER = 20, SYN = 2 };
+enum { CLIENTS = 128, CAPACITY = 65535, HEADER = 20, SYN = 2, RST = 4, ACK = 16, AT_ONCE = 256 };
 
 struct client {
+    int is_used;
     tcpcore_connection connection;
     tcpcore_addr addr;
     unsigned char port[2];
@@ -51,24 +53,22 @@ static void send_segment(int device, const void *segment, size_t length, tcpcore
         perror("lost");
 }
 
-static int is_used(const struct client *client) { return client->connection.opaque[0] != 0; }
-
 /* The client that a segment is from; for a SYN from somebody else one that listens from now on, if there is room; else NULL. */
 static struct client *client_of(tcpcore_addr src, const unsigned char *segment, uint64_t now)
 {
     struct client *client = NULL;
     for (size_t i = 0; i < CLIENTS; i++) {
-        if (!is_used(&clients[i]))
+        if (!clients[i].is_used)
             client = &clients[i];
         else if (memcmp(&clients[i].addr, &src, sizeof src) == 0 && memcmp(clients[i].port, segment, 2) == 0)
             return &clients[i];
     }
-    if (client == NULL || segment[13] != SYN || getentropy(&config.isn, sizeof config.isn) != 0)
+    if (client == NULL || (segment[13] & (SYN | RST | ACK)) != SYN || getentropy(&config.isn, sizeof config.isn) != 0)
         return NULL;
     client->addr = src;
     memcpy(client->port, segment, 2);
-    return tcpcore_connection_listen(&client->connection, &config, &rules, now, client->memory, sizeof client->memory) == TCPCORE_DONE ? client
-                                                                                                                                     : NULL;
+    client->is_used = tcpcore_connection_listen(&client->connection, &config, &rules, now, client->memory, sizeof client->memory) == TCPCORE_DONE;
+    return client->is_used ? client : NULL;
 }
 
 /* Sends back what came, as far as there is room; behind the last of it closes. */
@@ -105,12 +105,14 @@ static uint64_t turn(struct client *client, int device, uint64_t now)
     tcpcore_connection_status(&client->connection, &status);
     tcpcore_connection_poll_at(&client->connection, &at);
     /* One that still listens was no client's: its SYN had a fault. */
-    if (status.phase == TCPCORE_PHASE_CLOSED || status.phase == TCPCORE_PHASE_LISTEN)
+    if (status.phase == TCPCORE_PHASE_CLOSED || status.phase == TCPCORE_PHASE_LISTEN) {
         tcpcore_connection_free(&client->connection);
+        client->is_used = 0;
+    }
     return at;
 }
 
-/* Hands over what has come, each segment to its client; where there is none a reset answers it. */
+/* Hands over what has come, each segment to its client; where there is none a reset answers it. Then timers and users have their turn. */
 static void read_device(int device, uint64_t now)
 {
     static unsigned char bytes[65535], reset[TCPCORE_EMIT_ROOM];
@@ -118,7 +120,7 @@ static void read_device(int device, uint64_t now)
     struct ip_packet packet;
     ssize_t length;
     size_t written;
-    while ((length = read(device, bytes, sizeof bytes)) > 0) {
+    for (int i = 0; i < AT_ONCE && (length = read(device, bytes, sizeof bytes)) > 0; i++) {
         if (ip_read(own, bytes, (size_t)length, &packet) != IP_DONE || packet.length < HEADER)
             continue;
         const unsigned char *segment = packet.segment;
@@ -159,7 +161,7 @@ int main(int count, char **words)
         read_device(device, now);
         next = TCPCORE_NEVER;
         for (size_t i = 0; i < CLIENTS; i++) {
-            uint64_t at = is_used(&clients[i]) ? turn(&clients[i], device, now) : TCPCORE_NEVER;
+            uint64_t at = clients[i].is_used ? turn(&clients[i], device, now) : TCPCORE_NEVER;
             next = at < next ? at : next;
         }
     }

@@ -12,6 +12,7 @@
 #include <stdlib.h>
 #include <sys/socket.h>
 #include <time.h>
+#include <unistd.h>
 
 /* What the two sides are called in TCP; UDP's addresses are the carrier's alone. */
 static const tcpcore_addr SIDES[2] = {{{10, 0, 0, 1}}, {{10, 0, 0, 2}}};
@@ -48,7 +49,7 @@ static int send_input(uint64_t now)
     size_t count, room = (size_t)status().room;
     count = fread(bytes, 1, room < sizeof bytes ? room : sizeof bytes, stdin);
     tcpcore_connection_send(&connection, now, bytes, count, &count);
-    return feof(stdin) && status().phase >= TCPCORE_PHASE_ESTABLISHED;
+    return (feof(stdin) || ferror(stdin)) && status().phase >= TCPCORE_PHASE_ESTABLISHED;
 }
 
 static void emit(uint64_t now, int carrier)
@@ -60,7 +61,7 @@ static void emit(uint64_t now, int carrier)
             perror("lost"); /* It is sent again. */
 }
 
-/* Waits for a datagram, or until a timer expires; a server sends to where the first one came from. */
+/* Waits for a datagram, or until a timer expires; a server sends to where the SYN came from. */
 static void wait_and_arrive(int carrier, int is_client)
 {
     struct tcpcore_arrive_report report;
@@ -73,9 +74,10 @@ static void wait_and_arrive(int carrier, int is_client)
     ssize_t length = recvfrom(carrier, bytes, sizeof bytes, MSG_DONTWAIT, (struct sockaddr *)&from, &size);
     if (length < 0)
         return;
-    if (status().phase == TCPCORE_PHASE_LISTEN && connect(carrier, (struct sockaddr *)&from, size) != 0)
-        perror("connect");
+    int listens = status().phase == TCPCORE_PHASE_LISTEN;
     tcpcore_connection_arrive(&connection, microseconds(), SIDES[is_client], SIDES[!is_client], bytes, (size_t)length, &report);
+    if (listens && status().phase != TCPCORE_PHASE_LISTEN && connect(carrier, (struct sockaddr *)&from, size) != 0)
+        perror("connect");
 }
 
 /* Makes the connection and its carrier. Whether that could be done. */
@@ -84,9 +86,10 @@ static int set_up(int is_client, const char *host, const char *port, int carrier
     struct sockaddr_in at = {.sin_family = AF_INET, .sin_port = htons((uint16_t)atoi(port))};
     struct tcpcore_connection_rules rules = TCPCORE_CONNECTION_RULES_DEFAULT;
     tcpcore_config config = TCPCORE_CONFIG_DEFAULT;
-    config.addr = SIDES[!is_client], config.port = 7, config.isn = (uint32_t)microseconds();
+    config.addr = SIDES[!is_client], config.port = 7;
+    config.mss = 1452; /* A segment, and UDP's and IPv4's headers, are a packet of 1,500 bytes. */
     rules.least = 50000, rules.time_wait = 1000000; /* The way is short. */
-    if (carrier < 0 || inet_pton(AF_INET, host, &at.sin_addr) != 1)
+    if (carrier < 0 || inet_pton(AF_INET, host, &at.sin_addr) != 1 || getentropy(&config.isn, sizeof config.isn) != 0)
         return 0;
     if ((is_client ? connect(carrier, (struct sockaddr *)&at, sizeof at) : bind(carrier, (struct sockaddr *)&at, sizeof at)) != 0)
         return 0;
@@ -110,5 +113,5 @@ int main(int count, char **words)
         if (status().phase != TCPCORE_PHASE_CLOSED)
             wait_and_arrive(carrier, is_client);
     }
-    return status().ending == TCPCORE_ENDING_ORDERLY ? 0 : 1;
+    return status().ending == TCPCORE_ENDING_ORDERLY && !ferror(stdin) && fflush(stdout) == 0 && !ferror(stdout) ? 0 : 1;
 }

@@ -281,6 +281,8 @@ class Simulator:
     def save(self, path: str, at: Optional[str] = None) -> None:
         """Writes the segments of the record into a pcap file, each with the time at which it was sent; or, at "client" or "server", what that
         side sent, and what came to it when it came. release/tcp.html opens it, where it is dropped, and shows and judges each segment."""
+        if at not in (None, *(side.name for side in self.sides)):
+            raise ValueError(f"no side is called {at!r}")
         with open(path, "wb") as file:
             file.write(struct.pack("<IHHiIII", 0xA1B2C3D4, 2, 4, 0, 0, 65_535, 101))
             for packet in self.packets:

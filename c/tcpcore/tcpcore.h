@@ -936,7 +936,7 @@ struct tcpcore_connection_segment {
  * due. All of it lies in the `length` bytes at `block`. *config and *rules are read and not kept.
  *   DONE; IN_USE; BAD_ADDR, BAD_PORT, BAD_RULES, BAD_CAPACITY, BAD_MSS, BAD_SHIFT, BAD_LIMIT, BAD_RUNS, NO_MEMORY, the first that
  *   applies; NULL; LENGTH; OVERLAP (the block lies over the struct); COPIED (the struct is neither TCPCORE_CONNECTION_INIT nor one that
- *   was freed). Of version 11, as all that follow.
+ *   was freed). Of version 11, as the calls of a connection behind it up to tcpcore_connection_status.
  */
 uint32_t tcpcore_connection_connect(tcpcore_connection *connection, const tcpcore_config *config,
                                     const struct tcpcore_connection_rules *rules, tcpcore_addr addr, uint16_t port, uint64_t now,
@@ -1020,7 +1020,7 @@ uint32_t tcpcore_connection_abort(tcpcore_connection *connection, uint64_t now);
 /* Reports phase, ending, counts, and what the two SYNs agreed on, as tcpcore_status. */
 uint32_t tcpcore_connection_status(const tcpcore_connection *connection, struct tcpcore_status *status);
 
-/* Reports the peer's address and port, as tcpcore_peer. Of version 12, as all that follow. */
+/* Reports the peer's address and port, as tcpcore_peer. Of version 12, as the two behind it. */
 uint32_t tcpcore_connection_peer(const tcpcore_connection *connection, tcpcore_addr *addr, uint16_t *port);
 
 /*

@@ -48,7 +48,7 @@ const (
 const Never time.Duration = math.MaxInt64
 
 // Rules is how the retransmission timeout of a connection is made (RFC 6298, 2 and 5), and how long it waits (RFC 9293, 3.8.3). Whole
-// microseconds count. DefaultRules has the values of the standards.
+// microseconds count, and a negative duration is 0. DefaultRules has the values of the standards.
 type Rules struct {
 	// First is the timeout before any round trip was measured: 1 s (RFC 6298, 2.1).
 	First time.Duration
@@ -163,18 +163,25 @@ func (connection *Connection) Free() {
 	connection.raw, connection.block = new(C.tcpcore_connection), nil
 }
 
-// since is a time as C has it.
+// since is a time as C has it. What is further away than a Duration can say goes by the wall clock.
 func (connection *Connection) since(now time.Time) C.uint64_t {
-	return micros(now.Sub(connection.began))
+	passed := now.Sub(connection.began)
+	if passed == math.MaxInt64 {
+		return C.uint64_t(now.UnixMicro() - connection.began.UnixMicro())
+	}
+	return micros(passed)
 }
 
-// timeOf is the time that C tells; the zero Time where there is none. What is further away than a Duration can say is as far as that.
+// timeOf is the time that C tells; the zero Time where there is none.
 func (connection *Connection) timeOf(at uint64) time.Time {
 	if at == C.TCPCORE_NEVER {
 		return time.Time{}
 	}
+	if at > math.MaxInt64/2 {
+		at = math.MaxInt64 / 2 // In the year 146,000 or so.
+	}
 	if at > uint64(math.MaxInt64/time.Microsecond) {
-		return connection.began.Add(math.MaxInt64)
+		return time.UnixMicro(connection.began.UnixMicro() + int64(at))
 	}
 	return connection.began.Add(time.Duration(at) * time.Microsecond)
 }

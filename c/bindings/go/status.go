@@ -5,6 +5,8 @@ package tcpcore
 */
 import "C"
 
+import "fmt"
+
 // Phase is a state of a connection (RFC 9293, 3.3.2).
 type Phase uint32
 
@@ -27,7 +29,12 @@ var phaseNames = [...]string{"CLOSED", "LISTEN", "SYN-SENT", "SYN-RECEIVED", "ES
 	"CLOSING", "LAST-ACK", "TIME-WAIT"}
 
 // String is the phase's name in RFC 9293.
-func (phase Phase) String() string { return phaseNames[phase] }
+func (phase Phase) String() string {
+	if int(phase) >= len(phaseNames) {
+		return fmt.Sprintf("Phase(%d)", uint32(phase))
+	}
+	return phaseNames[phase]
+}
 
 // Ending is how a connection ended.
 type Ending uint32
@@ -45,7 +52,12 @@ const (
 
 var endingNames = [...]string{"not ended", "orderly", "reset", "aborted"}
 
-func (ending Ending) String() string { return endingNames[ending] }
+func (ending Ending) String() string {
+	if int(ending) >= len(endingNames) {
+		return fmt.Sprintf("Ending(%d)", uint32(ending))
+	}
+	return endingNames[ending]
+}
 
 // Status is what an end or a connection tells of itself. Positions don't wrap: a direction's SYN is at 0, byte i at 1 + i.
 type Status struct {

@@ -93,6 +93,24 @@ fn number_of(bytes: &[u8]) -> Seq {
     Seq(u32::from(field_at(bytes, 4)) * 65_536 + u32::from(field_at(bytes, 6)))
 }
 
+/// A SYN without RST: its number, and whether it answers another.
+#[derive(Clone, Copy)]
+struct Opening {
+    number: Seq,
+    is_answer: bool,
+}
+
+fn opening_of(bytes: &[u8]) -> Option<Opening> {
+    let bits = bits_of(bytes);
+    if bits & (SYN | RST) != SYN {
+        return None;
+    }
+    Some(Opening {
+        number: number_of(bytes),
+        is_answer: bits & ACK != 0,
+    })
+}
+
 /// After so long a silence no segment of a connection is on its way any more, and its ports may be used again (RFC 9293,
 /// 3.4.2): two minutes.
 const LIFETIME: u64 = 120_000_000_000;
@@ -109,8 +127,8 @@ impl Connection {
     }
 
     /// Whether a SYN from this side with this number begins another connection: the side had another number, and the
-    /// connection is over, was never answered, or was silent for long.
-    fn is_left_by(&self, packet: Packet, from: Side, number: Seq) -> bool {
+    /// connection is over, was silent for long, or was never answered, unless the SYN is an answer itself.
+    fn is_left_by(&self, packet: Packet, from: Side, opening: Opening) -> bool {
         let (initial, answers) = if from == self.first.side {
             (self.first.initial, self.second.segments)
         } else {
@@ -119,22 +137,25 @@ impl Connection {
         let silence = packet.time.saturating_sub(self.end.time);
         match initial {
             Some(known) => {
-                known != number && (self.is_over || answers == 0 || silence > LIFETIME)
+                let is_unanswered = answers == 0 && !opening.is_answer;
+                known != opening.number && (self.is_over || is_unanswered || silence > LIFETIME)
             }
-            None => self.is_over,
+            // What answers a SYN whose sender has reset it is of the same connection.
+            None => self.is_over && !opening.is_answer,
         }
     }
 
-    /// Takes a segment from one side to the other.
+    /// Takes a segment from one side to the other; one whose checksum is wrong ends nothing.
     fn take(
         &mut self,
         packet: Packet,
         from: Side,
         to: Side,
         bytes: &[u8],
+        is_right: bool,
     ) -> Result<(), AllocError> {
         self.end = packet;
-        if bits_of(bytes) & (FIN | RST) != 0 {
+        if is_right && bits_of(bytes) & (FIN | RST) != 0 {
             self.is_over = true;
         }
         if from == self.first.side {
@@ -181,12 +202,12 @@ impl Connections {
         packet: Packet,
         from: Side,
         to: Side,
-        opening: Option<Seq>,
+        opening: Option<Opening>,
     ) -> Option<usize> {
         let place = self.places.get(&key_of(from, to)).copied()?;
         let connection = self.list.get(place)?;
         match opening {
-            Some(number) if connection.is_left_by(packet, from, number) => None,
+            Some(syn) if connection.is_left_by(packet, from, syn) => None,
             _ => Some(place),
         }
     }
@@ -198,7 +219,7 @@ impl Connections {
         packet: Packet,
         from: Side,
         to: Side,
-        opening: Option<Seq>,
+        opening: Option<Opening>,
     ) -> Result<usize, AllocError> {
         if let Some(place) = self.place_of(packet, from, to, opening) {
             return Ok(place);
@@ -232,16 +253,16 @@ impl Connections {
             self.left_out.strays = self.left_out.strays.saturating_add(1);
             return Ok(());
         }
-        let opens = sum != Sum::Wrong && bits_of(bytes) & (SYN | ACK) == SYN;
-        let opening = if opens { Some(number_of(bytes)) } else { None };
+        let is_right = sum != Sum::Wrong;
+        let opening = if is_right { opening_of(bytes) } else { None };
         let place = self.place(alloc, packet, from, to, opening)?;
         let Some(connection) = self.list.get_mut(place) else {
             return Ok(());
         };
         if sum == Sum::LeftToDevice {
             mend(&mut self.mended, src, dst, bytes)?;
-            return connection.take(packet, from, to, &self.mended);
+            return connection.take(packet, from, to, &self.mended, is_right);
         }
-        connection.take(packet, from, to, bytes)
+        connection.take(packet, from, to, bytes, is_right)
     }
 }

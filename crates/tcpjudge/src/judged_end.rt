@@ -54,8 +54,22 @@ pub(crate) struct JudgedEnd {
     pub(crate) broken: Vec<Broken>,
     /// Segments with a wrong checksum that it sent.
     pub(crate) damaged: Note,
-    /// Whether it acknowledged something before a SYN came to it: then what came before isn't in the capture.
+    /// Whether what it acknowledges can't be compared with what came: it acknowledged something before a SYN came to it or it
+    /// sent one, so that what came before isn't in the capture; or too many SYNs came.
     pub(crate) lacks_beginning: bool,
+    /// How many SYNs came to it.
+    syns: usize,
+}
+
+/// So many SYNs that come are compared with what an end acknowledges; a connection has one, or two (RFC 9293, 3.5). Each
+/// costs as much as all that came.
+const MOST_SYNS: usize = 16;
+
+fn has_syn(bytes: &[u8]) -> bool {
+    match bytes.get(13) {
+        Some(bits) => bits & 2 != 0,
+        None => false,
+    }
 }
 
 /// Adds a finding to those of its rule.
@@ -89,6 +103,7 @@ impl JudgedEnd {
             broken: Vec::new(alloc),
             damaged: NONE,
             lacks_beginning: false,
+            syns: 0,
         }
     }
 
@@ -99,7 +114,8 @@ impl JudgedEnd {
         if flags.is_syn() && self.initial.is_none() {
             self.initial = Some(segment.header.seq);
         }
-        if flags.is_ack() && !flags.is_rst() && !has_peer {
+        // Before its own SYN it is still in an earlier connection (RFC 9293, 3.5, figure 9).
+        if flags.is_ack() && !flags.is_rst() && (!has_peer || self.initial.is_none()) {
             self.lacks_beginning = true;
         }
     }
@@ -126,8 +142,15 @@ impl JudgedEnd {
         add_finding(&mut self.broken, packet, finding)
     }
 
-    /// A segment came to it.
+    /// A segment came to it. Behind too many SYNs what comes isn't compared with any more.
     pub(crate) fn came(&mut self, src: Addr, bytes: &[u8]) -> Result<(), AllocError> {
+        if has_syn(bytes) {
+            self.syns = self.syns.saturating_add(1);
+        }
+        if self.syns > MOST_SYNS {
+            self.lacks_beginning = true;
+            return Ok(());
+        }
         self.judge.came(src, self.side.addr, bytes)
     }
 }
