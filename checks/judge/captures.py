@@ -78,6 +78,7 @@ def own(tried=ALL, words="clean", segments=2, text=0):
     return f"{OWN}: {words} ({tried}), {segments} segments, {text} bytes of text"
 
 
+SILENT = f"{PEER}: sent nothing, nothing judged"
 CLEAN = f"packets 5, connections 1\n{connection(1, 1, 5, [peer(), own()])}{verdict(2, 0, 0, 1)}"
 WRONG_ACK = "   packet 6, 0.005000 s: an acknowledgement of 106, up to which not all came (RFC 9293, 3.4) [relative number 7], and 1 more like it"
 WRONG_SYN = "   packet 6, 0.005000 s: a SYN at 500, and the first at 99 (RFC 9293, 3.4)"
@@ -103,6 +104,23 @@ CASES = {
         capture_of([packet_of(row) for row in [*ROWS, *CLOSED, "came 4000 SYN", "went 9000/4001 SYN,ACK"]]), AT,
         "packets 10, connections 2\n" + connection(1, 1, 8, [peer(segments=5), own(segments=3)])
         + connection(2, 9, 10, [peer(segments=1, text=0), own(segments=1)]) + verdict(4, 0, 0, 2), 0),
+    # Who is still in the old connection answers a new SYN by an acknowledgement of the old one (RFC 9293, 3.5, figure 9).
+    "an end in the connection before": (
+        capture_of([packet_of(row) for row in [*ROWS, "came 105/300 FIN,ACK", "went 300/106 ACK", "came 5000 SYN", "went 300/106 ACK", "came 106 RST"]]), AT,
+        "packets 10, connections 2\n" + connection(1, 1, 7, [peer(segments=4), own(segments=3)])
+        + connection(2, 8, 10, [peer(segments=2, text=0), own(FORM, segments=1)]) + verdict(4, 0, 0, 1), 0),
+    "one direction, and the ports again": (
+        capture_of([packet_of(row) for row in ["went 299/100 SYN,ACK", "went 300/105 ACK", "went 300/106 FIN,ACK", "went 9000/4001 SYN,ACK"]]), AT,
+        "packets 4, connections 2\n" + connection(1, 1, 3, [own(FORM, segments=3), SILENT], OWN, PEER)
+        + connection(2, 4, 4, [own(FORM, segments=1), SILENT], OWN, PEER) + verdict(2, 0, 0, 0), 0),
+    "a damaged reset ends nothing": (
+        capture_of([packet_of(row) for row in [*ROWS, "came 105 RST sum=wrong", "came 500 SYN"]]), AT,
+        "packets 7, connections 1\n" + connection(1, 1, 7, [
+            peer(words="findings 1", segments=5), WRONG_SYN.replace("packet 6, 0.005000", "packet 7, 0.006000"),
+            "   note: wrong checksums: 1, the first in packet 6 (RFC 9293, 3.1)", own()]) + verdict(2, 1, 1, 1), 1),
+    "more SYNs than are compared with": (
+        capture_of([packet_of(row) for row in [*["came 99 SYN"] * 17, *OPENED[1:], "went 300/106 ACK"]]), AT,
+        "packets 20, connections 1\n" + connection(1, 1, 20, [peer(segments=18, text=0), own(FORM)]) + verdict(2, 0, 0, 0), 0),
     "a damaged port": (
         capture_of([*HAND, with_port(HAND[3], 9)]), AT,
         "packets 6, connections 1\nleft out: segments of no connection with a wrong checksum: 1\n"

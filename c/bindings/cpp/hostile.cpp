@@ -1,4 +1,4 @@
-// Connections of tcpcore.hpp under hostile calls, drawn from a seed: any call in any order and at any time, of objects that were moved
+// Connections of tcpcore.hpp under hostile calls, drawn from a seed: any call but peer, set_user_timeout and resend_first, in any order and at any time, of objects that were moved
 // from, too; segments that were damaged, cut or come from elsewhere; configs and rules out of their ranges. A call throws `refused` alone,
 // and by an answer that the header has for it. 'hostile SEED CALLS' makes so many; without words it makes 20,000.
 #include "tcpcore.hpp"

@@ -1,8 +1,9 @@
 /*
- * Connections under hostile calls, drawn from a seed: any call in any order, at times that go on, go back and end; segments that were
- * damaged, cut, made anew with a right checksum, or come from elsewhere; lengths that are too long, pointers that are NULL or lie over
- * the struct, structs that were copied or freed, configs and rules out of their ranges. Each call answers what the header says of it,
- * writes zeros where it refuses, and changes nothing then. 'hostile SEED CALLS' makes so many; without words it makes 20,000.
+ * Connections under hostile calls, drawn from a seed: any call but peer, set_user_timeout and resend_first, in any order, at times that go
+ * on, go back and end; segments that were damaged, cut, made anew with a right checksum, or come from elsewhere; lengths that are too
+ * long, pointers that are NULL or lie over the struct, structs that were copied or freed, configs and rules out of their ranges. Each call
+ * answers what the header says of it, writes zeros where it refuses, and changes nothing then. 'hostile SEED CALLS' makes so many; without
+ * words it makes 20,000.
  */
 #include "check.h"
 #include "sums.h"
