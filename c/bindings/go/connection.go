@@ -231,6 +231,24 @@ func (connection *Connection) Timeout(now time.Time) (timer uint32, expired bool
 	return uint32(told.timer), found(told.answer)
 }
 
+// SetUserTimeout takes the place of the User of the Rules (RFC 9293, 3.8.3 and 3.10.2); Never is no limit. The time that has passed already
+// counts, so that PollAt may be another then. A SYN keeps the limit Handshake.
+func (connection *Connection) SetUserTimeout(after time.Duration) error {
+	return done(C.tcpcore_connection_set_user_timeout(connection.raw, limit(after)))
+}
+
+// ResendFirst says that the first segment in flight must be sent again at once, for a caller that finds losses by its own rules (RFC 5681,
+// 3.2), and tells whether anything is in flight.
+func (connection *Connection) ResendFirst(now time.Time) bool {
+	return found(C.tcpcore_connection_resend_first(connection.raw, connection.since(now)))
+}
+
+// Peer is the peer's address and port (RFC 9293, 3.10.6); ErrNotConnected before they are known.
+func (connection *Connection) Peer() (Addr, uint16, error) {
+	told := C.connection_peer(connection.raw)
+	return *(*Addr)(unsafe.Pointer(&told.addr)), uint16(told.port), done(told.answer)
+}
+
 // Send takes the front of the text that fits, and tells its length. Offer the rest once the peer has acknowledged some.
 func (connection *Connection) Send(now time.Time, text []byte) (int, error) {
 	told := C.connection_send(connection.raw, connection.since(now), bytesOf(text), C.size_t(len(text)))

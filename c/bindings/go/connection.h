@@ -37,6 +37,19 @@ static inline struct connection_arrived connection_arrive(tcpcore_connection *co
     return told;
 }
 
+struct connection_peered {
+    tcpcore_addr addr;
+    uint16_t port;
+    uint32_t answer;
+};
+
+static inline struct connection_peered connection_peer(const tcpcore_connection *connection)
+{
+    struct connection_peered told;
+    told.answer = tcpcore_connection_peer(connection, &told.addr, &told.port);
+    return told;
+}
+
 struct connection_emitted {
     struct tcpcore_connection_segment segment;
     uint32_t answer;

@@ -455,7 +455,83 @@ func TestConnectionRefused(t *testing.T) {
 	}
 }
 
-// Times before the beginning count as it, and a limit that no Duration can tell is as far away as one can.
+// TestConnectionPeer: who listens knows the peer by its SYN.
+func TestConnectionPeer(t *testing.T) {
+	listening := opened(t, DefaultRules())
+	if addr, port, err := listening[1].Peer(); err != ErrNotConnected || addr != (Addr{}) || port != 0 {
+		t.Fatal(addr, port, err)
+	}
+	if addr, port, err := listening[0].Peer(); err != nil || addr != b || port != 2 {
+		t.Fatal(addr, port, err)
+	}
+	if addr, port, err := established(t)[1].Peer(); err != nil || addr != a || port != 1 {
+		t.Fatal(addr, port, err)
+	}
+}
+
+// TestConnectionResends: the first segment in flight goes out again, as it did.
+func TestConnectionResends(t *testing.T) {
+	client := established(t)[0]
+	if client.ResendFirst(began) {
+		t.Fatal("nothing is in flight")
+	}
+	if _, err := client.Send(began, []byte("text")); err != nil {
+		t.Fatal(err)
+	}
+	first := emittedBy(client, began)
+	if !client.ResendFirst(began) {
+		t.Fatal("text is in flight")
+	}
+	if again := emittedBy(client, began); len(first) != 1 || !reflect.DeepEqual(again, first) {
+		t.Fatal(first, again)
+	}
+}
+
+// TestConnectionUserTimeout: a limit that is set later counts from where the text went out.
+func TestConnectionUserTimeout(t *testing.T) {
+	client := established(t)[0]
+	if err := client.SetUserTimeout(100 * time.Second); err != nil {
+		t.Fatal(err)
+	}
+	if _, err := client.Send(began, []byte("text")); err != nil {
+		t.Fatal(err)
+	}
+	for now, last := began, began.Add(1000*time.Second); ; now = client.PollAt() {
+		emittedBy(client, now)
+		if timer, expired := client.Timeout(now); expired && timer == UserTimeout {
+			if now.Sub(began) < 100*time.Second || client.Status().Ending != WasAborted {
+				t.Fatal(now.Sub(began), client.Status())
+			}
+			return
+		}
+		emittedBy(client, now)
+		if now.After(last) || client.PollAt().IsZero() {
+			t.Fatal("never given up")
+		}
+	}
+}
+
+// TestConnectionFarTimes: times that lie further apart than a Duration can say are told apart, too.
+func TestConnectionFarTimes(t *testing.T) {
+	config := DefaultConfig(a, 1, 1000)
+	connection, err := Connect(config, DefaultRules(), b, 2, time.Time{})
+	if err != nil {
+		t.Fatal(err)
+	}
+	for turn := 0; turn < 2; turn++ {
+		emittedBy(connection, began)
+		connection.Timeout(began)
+	}
+	at := connection.PollAt()
+	if !at.After(began) || at.After(began.Add(time.Minute)) {
+		t.Fatal(at)
+	}
+	if timer, expired := connection.Timeout(at); !expired || timer != Retransmit {
+		t.Fatal(timer, expired)
+	}
+}
+
+// Times before the beginning count as it, and a limit that no Duration can tell is further away than any can.
 func TestConnectionTimes(t *testing.T) {
 	client := opened(t, DefaultRules())[0]
 	defer client.Free()
@@ -464,10 +540,13 @@ func TestConnectionTimes(t *testing.T) {
 	if at := client.PollAt(); !at.Equal(began.Add(time.Second)) {
 		t.Fatal(at)
 	}
-	for at, wanted := range map[uint64]time.Time{1500000: began.Add(1500 * time.Millisecond), 1<<64 - 1: {}, 1<<64 - 2: began.Add(1<<63 - 1)} {
+	for at, wanted := range map[uint64]time.Time{1500000: began.Add(1500 * time.Millisecond), 1<<64 - 1: {}} {
 		if found := client.timeOf(at); !found.Equal(wanted) {
 			t.Fatal(at, found)
 		}
+	}
+	if found := client.timeOf(1<<64 - 2); !found.After(began.Add(1<<63 - 1)) {
+		t.Fatal(found)
 	}
 }
 
