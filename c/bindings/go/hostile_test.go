@@ -35,9 +35,13 @@ type hostile struct {
 
 func (it *hostile) rarely() bool { return it.random.Intn(60) == 0 }
 
-// may notes an error, which has to be one that the header has for the call.
-func (it *hostile) may(name string, err error, allowed ...error) {
+// may notes an error, which has to be one that the header has for the call; ErrNoEnd is told where the connection was freed, and nowhere
+// else.
+func (it *hostile) may(side int, name string, err error, allowed ...error) {
 	it.answers[err]++
+	if (err == ErrNoEnd) != it.freed[side] {
+		it.t.Fatal(name, err, it.freed[side])
+	}
 	for _, it := range append(allowed, nil, ErrNoEnd) {
 		if err == it {
 			return
@@ -89,7 +93,10 @@ func (it *hostile) make(side int) {
 		connection.Free()
 		connection, err = Listen(config, rules, it.now)
 	}
-	it.may("making", err, Refused(21), Refused(23), Refused(24), Refused(26), Refused(28), Refused(29))
+	was := it.freed[side]
+	it.freed[side] = false
+	it.may(side, "making", err, Refused(21), Refused(23), Refused(24), Refused(26), Refused(28), Refused(29))
+	it.freed[side] = was
 	if err == nil {
 		if it.ends[side] != nil {
 			it.ends[side].Free()
@@ -107,7 +114,7 @@ func (it *hostile) exchange(side int, in, out *Batch) {
 	}
 	text, read := make([]byte, it.random.Intn(3000)), make([]byte, it.random.Intn(3000))
 	turned, err := it.ends[side].Exchange(it.now, addrs[1-side], addrs[side], in, out, text, read)
-	it.may("Exchange", err, ErrEnded, ErrClosing, ErrNotConnected, ErrStreamFull)
+	it.may(side, "Exchange", err, ErrEnded, ErrClosing, ErrNotConnected, ErrStreamFull)
 	if turned.Sent > len(text) || turned.Got > len(read) || (it.freed[side] && (err != ErrNoEnd || out.Len() > 0)) {
 		it.t.Fatal(turned, err)
 	}
@@ -115,7 +122,7 @@ func (it *hostile) exchange(side int, in, out *Batch) {
 		it.seen = append(it.seen, append([]byte{}, out.Segment(i)...))
 	}
 	for i := 0; i < in.Len() && err != ErrNoEnd; i++ {
-		it.may("Exchange", in.Err(i), Refused(1), Refused(2), Refused(3), Refused(4), Refused(5), Refused(6), ErrDropped, ErrNotMine, ErrWithheld)
+		it.may(side, "Exchange", in.Err(i), Refused(1), Refused(2), Refused(3), Refused(4), Refused(5), Refused(6), ErrDropped, ErrNotMine, ErrWithheld)
 	}
 }
 
@@ -130,7 +137,7 @@ func (it *hostile) call(side int) {
 	switch it.random.Intn(12) {
 	case 0, 1, 2:
 		_, err := end.Arrive(now, addrs[1-side], addrs[side], it.bytes())
-		it.may("Arrive", err, Refused(1), Refused(2), Refused(3), Refused(4), Refused(5), Refused(6), ErrDropped, ErrNotMine, ErrEmitFirst, ErrWithheld)
+		it.may(side, "Arrive", err, Refused(1), Refused(2), Refused(3), Refused(4), Refused(5), Refused(6), ErrDropped, ErrNotMine, ErrEmitFirst, ErrWithheld)
 	case 3, 4, 5:
 		end.Window = uint64(it.random.Intn(3)-1) * uint64(length)
 		it.panics(side, func() {
@@ -141,17 +148,17 @@ func (it *hostile) call(side int) {
 		end.Window = 1<<64 - 1
 	case 6:
 		n, err := end.Send(now, make([]byte, length))
-		if it.may("Send", err, ErrEnded, ErrClosing, ErrNotConnected, ErrStreamFull); n > length {
+		if it.may(side, "Send", err, ErrEnded, ErrClosing, ErrNotConnected, ErrStreamFull); n > length {
 			it.t.Fatal(n, length)
 		}
 	case 7:
 		n, err := end.Receive(now, make([]byte, length))
-		if it.may("Receive", err, ErrEnded, io.EOF); n > length {
+		if it.may(side, "Receive", err, ErrEnded, io.EOF); n > length {
 			it.t.Fatal(n, length)
 		}
 	case 8:
 		first, second, err := end.Peek()
-		it.may("Peek", err, ErrEnded, io.EOF)
+		it.may(side, "Peek", err, ErrEnded, io.EOF)
 		if n, err := end.Consume(now, length-10); err == nil && (n > len(first)+len(second) || n > length) {
 			it.t.Fatal(n, len(first), len(second))
 		}
@@ -182,11 +189,11 @@ func (it *hostile) use(end *Connection, side int, now time.Time) {
 		end.Free()
 		it.freed[side] = true
 	case 1:
-		it.may("Abort", end.Abort(now), ErrEnded)
+		it.may(side, "Abort", end.Abort(now), ErrEnded)
 	case 2, 3, 4:
-		it.may("Close", end.Close(now), ErrEnded, ErrClosing)
+		it.may(side, "Close", end.Close(now), ErrEnded, ErrClosing)
 	default:
-		it.may("Acknowledge", end.Acknowledge(now))
+		it.may(side, "Acknowledge", end.Acknowledge(now))
 	}
 }
 
