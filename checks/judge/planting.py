@@ -32,7 +32,7 @@ LEAST, PLANTED = 95, 90
 
 def base_logs():
     """The log of each capture's end, by the capture's name."""
-    for path in sorted((HERE / "data").glob("*.pcap")):
+    for path in sorted((HERE / "data").glob("*-[AB].pcap")):
         found = capture.segments(path)
         yield path.stem, [line for line in capture.judge_lines(found, None, path.stem.rsplit("-", 1)[1], False) if line]
 
