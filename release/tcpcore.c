@@ -309,6 +309,9 @@ MODULE uint32_t tcp_c_connection_acknowledge(struct handle *, uint64_t);
 MODULE uint32_t tcp_c_connection_close(struct handle *, uint64_t);
 MODULE uint32_t tcp_c_connection_abort(struct handle *, uint64_t);
 MODULE uint32_t tcp_c_connection_status(struct handle *, struct tcpcore_status *);
+MODULE uint32_t tcp_c_connection_peer(struct handle *, tcpcore_addr *, uint16_t *);
+MODULE uint32_t tcp_c_connection_set_user_timeout(struct handle *, uint64_t);
+MODULE uint32_t tcp_c_connection_resend_first(struct handle *, uint64_t);
 
 STEP struct handle *handle(tcpcore_end *end) { return (struct handle *)end->opaque; }
 
@@ -406,6 +409,13 @@ STEP uint32_t refusal_with_two(const tcpcore_end *end, const void *bytes, size_t
 {
     uint32_t answer = refusal_beside_two(end_at(end), bytes, length, one, other);
     return answer != TCPCORE_DONE ? answer : refusal(end);
+}
+
+STEP uint32_t connection_refusal_with_two(const tcpcore_connection *connection, const void *bytes, size_t length, struct place one,
+                                          struct place other)
+{
+    uint32_t answer = refusal_beside_two(connection_at(connection), bytes, length, one, other);
+    return answer != TCPCORE_DONE ? answer : connection_refusal(connection);
 }
 
 /* Writes what a call would have found that was refused, but over the struct or the buffer. */
@@ -1102,6 +1112,33 @@ uint32_t tcpcore_connection_status(const tcpcore_connection *connection, struct 
     return answer;
 }
 
+uint32_t tcpcore_connection_peer(const tcpcore_connection *connection, tcpcore_addr *addr, uint16_t *port)
+{
+    tcpcore_addr address = {{0, 0, 0, 0}};
+    uint16_t found = 0;
+    struct place where = {addr, sizeof *addr}, place = {port, sizeof *port};
+    uint32_t refused = connection_refusal_with_two(connection, NULL, 0, where, place), answer = refused;
+    if (refused == TCPCORE_DONE) {
+        struct handle copy = copy_in(connection->opaque);
+        answer = tcp_c_connection_peer(&copy, &address, &found);
+    }
+    put(refused, where, connection_at(connection), NULL, 0, &address);
+    put(refused, place, connection_at(connection), NULL, 0, &found);
+    return answer;
+}
+
+uint32_t tcpcore_connection_set_user_timeout(tcpcore_connection *connection, uint64_t limit)
+{
+    uint32_t answer = connection_refusal(connection);
+    return answer != TCPCORE_DONE ? answer : tcp_c_connection_set_user_timeout(handle_in(connection), limit);
+}
+
+uint32_t tcpcore_connection_resend_first(tcpcore_connection *connection, uint64_t now)
+{
+    uint32_t answer = connection_refusal(connection);
+    return answer != TCPCORE_DONE ? answer : tcp_c_connection_resend_first(handle_in(connection), now);
+}
+
 /* The texts, by their answers. */
 static const char *const TEXTS[] = {
     [TCPCORE_DONE] = "done",
@@ -1467,7 +1504,7 @@ __asm__(
     ".octa 0xf3c0ef0f66db894900000160978b4c00,0xff56e9ffffff3c850fe4854d037f0f41,0xffff71e908247c8b4802b0f63145ffff\n"
     ".byte 0xff\n"
     ".reloc .Ltcp14+628,R_X86_64_PLT32,.Ltcp15-4\n"
-    ".reloc .Ltcp14+880,R_X86_64_PC32,.Ltcp100-4\n"
+    ".reloc .Ltcp14+880,R_X86_64_PC32,.Ltcp104-4\n"
     ".reloc .Ltcp14+892,R_X86_64_PLT32,.Ltcp16-4\n"
     ".reloc .Ltcp14+1346,R_X86_64_PLT32,.Ltcp15-4\n"
     ".reloc .Ltcp14+1788,R_X86_64_PLT32,.Ltcp18-4\n"
@@ -1765,9 +1802,9 @@ __asm__(
     ".section .text.tcp.26,\"ax\",%progbits\n"
     ".balign 16\n"
     ".Ltcp26:\n"
-    ".type \"tcp_driver::timers::Timers::follow\",%function\n"
-    ".size \"tcp_driver::timers::Timers::follow\",491\n"
-    "\"tcp_driver::timers::Timers::follow\":\n"
+    ".type \"tcp_driver::timers::Timers::start\",%function\n"
+    ".size \"tcp_driver::timers::Timers::start\",491\n"
+    "\"tcp_driver::timers::Timers::start\":\n"
     ".octa 0xd8878b4853544155415641574155,0x1075c23948f024448948e82454894800,0x24eb000000f8978b4800000080978b4c\n"
     ".octa 0x80978b4c70578b48147501687f80,0x80978b4c0aebd2430f49d2394c00,0xbb49078b4806b60f44d2894c00\n"
     ".octa 0xa1c8d49d8420f4cd8394c4000000000,0xb0af8b4c0775dd894901000000a8bf80,0xd2394c0276b60f44017eb60f44000000\n"
@@ -1863,7 +1900,7 @@ __asm__(
     ".long 0xfcc3e9c0\n"
     ".short 0xffff\n"
     ".reloc .Ltcp27+670,R_X86_64_PLT32,.Ltcp28-4\n"
-    ".reloc .Ltcp27+728,R_X86_64_PC32,.Ltcp102-4\n"
+    ".reloc .Ltcp27+728,R_X86_64_PC32,.Ltcp106-4\n"
     ".reloc .Ltcp27+1382,R_X86_64_PLT32,.Ltcp29-4\n"
     ".section .text.tcp.28,\"ax\",%progbits\n"
     ".balign 16\n"
@@ -1943,42 +1980,51 @@ __asm__(
     ".balign 16\n"
     ".Ltcp29:\n"
     ".type \"tcp_driver::driver::Driver::new::<#d2d8538547da228f>\",%function\n"
-    ".size \"tcp_driver::driver::Driver::new::<#d2d8538547da228f>\",1553\n"
+    ".size \"tcp_driver::driver::Driver::new::<#d2d8538547da228f>\",1879\n"
     "\"tcp_driver::driver::Driver::new::<#d2d8538547da228f>\":\n"
-    ".octa 0x158ec814853544155415641574155,0x894848468b48407e8b4c304eb60f4400,0x68468b48a02444894850468b48882444\n"
-    ".octa 0x24448948000000a0868b48a824448948,0x140868b4884244489000000e0868bb0,0x8b4c085a8b4c1a8b48b8244489480000\n"
-    ".octa 0xc74800000000972444c748318b4c1052,0x1402484290fc0570f00000000902444,0x1202484290f000001102484290f0000\n"
-    ".octa 0x290f2404290f000001302484290f0000,0x302444c748202444290f102444,0xb02484290f000000a02484290f00\n"
-    ".octa 0xd02484290f000000c02484290f00,0xec2484110f000000e02484290f00,0x290f702444290f000000802484290f00\n"
-    ".octa 0x84c748402444290f502444290f602444,0x290fe02444290f000000000000009024,0xf02444c748c02444290fd02444\n"
-    ".octa 0xed8941e9b60f41000001002484290f00,0xe43145607402fd804101b441fee58041,0x4c01b4415173eda30f41000003b0bd41\n"
-    ".octa 0x3b4cc4940f4106f98041477288247c3b,0x24448b482e75e50845c5950f4188247c,0xbd41e8294cf8894ce4314501688d4ca0\n"
-    ".octa 0x830e76a8246c394ce8430f4c00000000,0xed3145e4314503ebc4940f410084247c,0xb0247c83480a72e8a30f0000044fb8\n"
-    ".octa 0x246c8948386e8b4831468b48c5950f41,0x1402484290f5846100f902444894897,0x96100f000000808e100f7046100f0000\n"
-    ".octa 0x248c290f000001302494290f00000090,0xa886100f000001102484290f00000120,0xc896100f000000b88e100f000000\n"
-    ".octa 0x48202454290f10244c290f2404290f00,0x13086100f3024448948000000d8868b,0x12486100f000000ec2484110f0000\n"
-    ".octa 0xe486100f000000e02484290f00,0x100f0000010496100f000000f48e100f,0x94290f000000d0249c290f000001149e\n"
-    ".octa 0x84290f000000b0248c290f000000c024,0x588e100f0000014886100f000000a024,0x1789e100f0000016896100f000001\n"
-    ".octa 0x602454290f50244c290f402444290f00,0x2484290f0000018886100f70245c290f,0x902484894800000198868b4800000080\n"
-    ".octa 0xf2851100f1849100f0841100f000000,0x8b48e02454290fd0244c290fc0244429,0x2484290f1842100ff0244489483841\n"
-    ".octa 0x110f2056100f104e100f06100f000001,0x448b48304f884407110f104f110f2057,0x4c384f89483147894897244c8b489024\n"
-    ".octa 0x48484789488824448b48407f894cfd89,0x402484280fdb394c50478948a024448b,0x68478948a824448b485847110f000001\n"
-    ".octa 0x280fca430f49d1394ccb470f48d9894c,0x280f00000120248c280f000001102484,0x808f110f7047110f000001302494\n"
-    ".octa 0x878948b024448b480000009097110f00,0x54280f10244c280f2404280f000000a0,0xb88f110f000000a887110f2024\n"
-    ".octa 0xd88789483024448b48000000c897110f,0xf039494000000000000000be48000000,0xe087898424448b06f98041c6430f4c\n"
-    ".octa 0xc2940fff854db8247c8b4cc0940f0000,0xec2484100ff6420f49f63949c220,0xe02484280f0000013087110f00\n"
-    ".octa 0xf000000a02484280f0000012487110f,0xf000000c02494280f000000b0248c28,0x110f000001149f110f000000d0249c28\n"
-    ".octa 0xe487110f000000f48f110f0000010497,0x9024848b4800000140bf894c000000,0x84280f013c8d4e000001988789480000\n"
-    ".octa 0x2444280f0000018887110f0000008024,0x70245c280f602454280f50244c280f40,0x110f0000016897110f000001789f110f\n"
-    ".octa 0xa0b7894c0000014887110f000001588f,0x54280fd0244c280fc02444280f000001,0x1c897110f000001b88f110fe024\n"
-    ".octa 0x45f63145000001d8878948f024448b48,0x1e09f8948000001a887110fed84,0x1e89f894cc7450f4900000000b8\n"
-    ".octa 0xf98041d23145000001f097894cc6014c,0xfe440f4de48445f6450f49c2940f410a,0xf887110f000001002484280fccb60f45\n"
-    ".octa 0x87c7480000020887110fc0570f000001,0xf000002208f89480000000000000218,0x8f894c0000022887110f000002388711\n"
-    ".octa 0x4cddb60f4500000250bf894c00000248,0x97894c00000260878948000002589f89,0x278af894800000270b7894800000268\n"
-    ".octa 0xf4900000000b8000002808f894c0000,0x29087c74800000288878948c045,0x450f4dd284000002988f894800000000\n"
-    ".octa 0x4800000000000002a087c748c2b60ff0,0x87c748000002b0b7894c000002a88789,0x48000002c087894c00000000000002b8\n"
-    ".octa 0x5d5f415e415d415c415b00000158c481\n"
-    ".byte 0xc3\n"
+    ".octa 0x2a8ec814853544155415641574155,0x4c306eb60f44fb8948f78949c8894800,0x20244c8948504e8b48484e8b4c40768b\n"
+    ".octa 0xe0a68b44000000a09e8b4c686e8b48,0xb9483a8b4800000140968b4c0000,0x728b48c8420f49c83949400000000000\n"
+    ".octa 0x48107a8b4802100ff7470f48f7394808,0x102444c74800000000172444c7,0x248c290f00000170248c290fc9570f00\n"
+    ".octa 0x248c290f00000150248c290f00000140,0x290f50244c290f40244c290f00000160,0x248c290f00000000702444c74860244c\n"
+    ".octa 0x248c290f000000f0248c290f000000e0,0x248c290f00000110248c290f00000100,0x248c290f0000012c248c110f00000120\n"
+    ".octa 0x248c290f000000b0248c290f000000c0,0x248c290f00000090248c290f000000a0,0xd02484c74800000080\n"
+    ".octa 0x100f1058100f10100ff7430f48fe3948,0x1b024ac290fc5b60f453068100f2060,0x190249c290f000001a024a4290f0000\n"
+    ".octa 0x1c02484290f000001802494290f0000,0x110f1852100f000001d024bc89480000,0xc748000001e8248c110f000001d82494\n"
+    ".octa 0x20024b4894800000000000001f82484,0x218248c110f00000208248c110f0000,0x238248c110f00000228248c110f0000\n"
+    ".octa 0x25824b4894c00000248248c110f0000,0x2702484c74800000260248c290f0000,0x290f0000027824b48948000000000000\n"
+    ".octa 0x894800000280248c290f00000290248c,0x1b8fee280c28944000002a0248c,0x3b0ba517428244c894c02fa8000\n"
+    ".octa 0xf06fd80414172ce394d4473c2a30f44,0x7500000000b8c208c2950fce394dc094,0x49f1894dc03101508d482024448b482b\n"
+    ".octa 0xc76d53948d1430f4900000000bad129,0x246c8948c03102ebc0940fe48545c031,0x824648944d231000001d824ac8d4830\n"
+    ".octa 0x854dd2310b72c1a30f450000044fb941,0xf4106fd8041dc894d08e2c1c2950fdb,0x2045c0940f41d2854d382454894cc194\n"
+    ".octa 0xd0b60f45c1940f410afd8041c93145c8,0x941d3094510e3c141cb894518e2c141,0x2282494b60f440c245c8944d30941c3\n"
+    ".octa 0x2494b60f445f7501c2f641c230410000,0x774c3084101e38041d3894500000260,0x75000000027024bc8343eb1675c28441\n"
+    ".octa 0x943208eac12f75000000027424bc8039,0x248248c3244207501c2f60000023824,0x28824843244127501c1f6410000\n"
+    ".octa 0x18024bc8d4800000412840f01c0f641,0xf00000000e8f2894c0c24748d480000,0x48000001d024bc8b48000001c0248428\n"
+    ".octa 0x480000025824848b480000020024948b,0x4d000002a0248c8b480000027824b48b,0x2444894c17244c894c384f8b4d31478b\n"
+    ".octa 0xf4100000170248c290f584f100f4110,0x909f100f410000008097100f41704f10,0x502494290f00000160249c290f000000\n"
+    ".octa 0xa88f100f4100000140248c290f000001,0xc89f100f41000000b897100f41000000,0x5c290f502454290f40244c290f000000\n"
+    ".octa 0xf41702444894c000000d8878b4d6024,0xf41000000f497100f41000000e48f10,0x290f00000114a7100f41000001049f10\n"
+    ".octa 0x290f000000f02494290f000000e0248c,0xf410000011024a4290f00000100249c,0xf4100000120248c290f000001248f10\n"
+    ".octa 0xf410000012c248c110f000001308f10,0xf410000015897100f41000001488f10,0x290f00000178a7100f41000001689f10\n"
+    ".octa 0x290f000000902494290f00000080248c,0xf41000000b024a4290f000000a0249c,0x8b4d000000c0248c290f000001888f10\n"
+    ".octa 0x100f41000000d02484894c0000019887,0xf205b110f205f100f411057100f410f,0x4c1024448b4c306b88440b110f105311\n"
+    ".octa 0x4073894c384b894c3143894c17244c8b,0x894c2024448b4c4843894c2824448b4c,0x8b4c584b110f00000170248c280f5043\n"
+    ".octa 0xf00000140248c280f6843894c302444,0xf00000160249c280f00000150249428,0x909b110f0000008093110f704b11\n"
+    ".octa 0x54280f40244c280f000000a0a3894c00,0x110f000000a88b110f60245c280f5024,0x24448b4c000000c89b110f000000b893\n"
+    ".octa 0x8389440824448b44000000d883894c70,0x308b110f0000012c248c100f000000e0,0x1248b110f00000120248c280f000001\n"
+    ".octa 0xf02494280f000000e0248c280f0000,0x11024a4280f00000100249c280f0000,0x1049b110f00000114a3110f0000\n"
+    ".octa 0x8b4c000000e48b110f000000f493110f,0xd024848b4c0000014083894c382444,0xc0248c280f0000019883894c0000\n"
+    ".octa 0x80248c280f000001888b110f00,0xa0249c280f000000902494280f,0xf00000178a3110f000000b024a4280f\n"
+    ".octa 0x8b110f0000015893110f000001689b11,0x2494280f00000180248c280f00000148,0x24a4280f000001a0249c280f00000190\n"
+    ".octa 0x1b093110f000001a08b110f000001b0,0x1d0a3110f000001c09b110f0000,0x100f000001f0bb8948000001e083110f\n"
+    ".octa 0xbb8948207d8b48000001f883110f0045,0x480000020883110f1045100f00000218,0x26883110f7045100f000002209389\n"
+    ".octa 0x5d100f5055100f404d100f3045100f00,0xf0000024893110f000002589b110f60,0x8389480000022883110f000002388b11\n"
+    ".octa 0x29083894800000098858b4800000278,0x28083110f0000008885100f0000,0x100f000000a885100f00000298b38948\n"
+    ".octa 0xa083110f000002b08b110f000000b88d,0x2a8c48148000002c08b8948000002,0x48f0894cc35d5f415e415d415c415b00\n"
+    ".long 0x28e9f289\n"
+    ".short 0xfffc\n"
+    ".byte 0xff\n"
+    ".reloc .Ltcp29+843,R_X86_64_PLT32,.Ltcp26-4\n"
     ".section .text.tcp.30,\"ax\",%progbits\n"
     ".balign 16\n"
     ".Ltcp30:\n"
@@ -2287,6 +2333,21 @@ __asm__(
     ".section .text.tcp.39,\"ax\",%progbits\n"
     ".balign 16\n"
     ".Ltcp39:\n"
+    ".type \"tcp_driver::timers::Timers::next_expiry\",%function\n"
+    ".size \"tcp_driver::timers::Timers::next_expiry\",392\n"
+    "\"tcp_driver::timers::Timers::next_expiry\":\n"
+    ".octa 0x48000000c887b60f44000000a887b60f,0x484e7501000000b8bf80000000d0978b,0x20850f01f8804101b640000000c08f8b\n"
+    ".octa 0xf1893674013cd1430f48ca3948000001,0xf0b73b4000000000000000b84808778b,0xdf850f0100000108bf804e76000000\n"
+    ".octa 0xc6894400000082e9c0314501b6400000,0xfe804001b1000000b0878b48ca75013c,0x778bd0430f48c23948000000dc850f01\n"
+    ".octa 0xf0b73b4000000000000000b84808,0xbf8348c03145000000e0b7b60fb27700,0x4c8b4d04e0c141c0950f4100000000d8\n"
+    ".octa 0x1f2804101f68040103854b60f451838,0xe88f034cc8430f4cc13949f20841,0x44c1440f4dc6950f40d28445c0314500\n"
+    ".octa 0x385f8b4c3057b60f44000001088fb60f,0xf49c33949ca084501f2804101f18041,0x48c7894cc0394c00000110870348c342\n"
+    ".octa 0x440f4cc2950f41d28445c93145f8420f,0x74f28441f9450f49f68440f8450f49c8,0xf48fa3948397501f98001b0c3c88903\n"
+    ".octa 0xdbe9ffffff16840f013cca8948c3d743,0xb84808778bc28948fffffe,0xe9fffffed6870f000000f0b73b400000\n"
+    ".quad 0xc3fa8948ffffff1f\n"
+    ".section .text.tcp.40,\"ax\",%progbits\n"
+    ".balign 16\n"
+    ".Ltcp40:\n"
     ".type \"tcp_numbers::parts::checksum_in_parts\",%function\n"
     ".size \"tcp_numbers::parts::checksum_in_parts\",2608\n"
     "\"tcp_numbers::parts::checksum_in_parts\":\n"
@@ -2345,15 +2406,15 @@ __asm__(
     ".octa 0xc40f660c24448b0824446e0f66c40141,0x500380f6603c0c40f6610e8c102c0,0xc1700f66c8fe0f66eec8700f66000000\n"
     ".octa 0x144e50145d801c07e0f66c1fe0f6655,0xe9c148c8af0f4880008001b906c083e8,0x440fd0f7c889c101d12910e2c1ca892f\n"
     ".octa 0xc35d5f415e415d415c415b18c48348c1\n"
-    ".reloc .Ltcp39+83,R_X86_64_PLT32,.Ltcp1-4\n"
-    ".reloc .Ltcp39+662,R_X86_64_PLT32,.Ltcp1-4\n"
-    ".reloc .Ltcp39+675,R_X86_64_PLT32,.Ltcp1-4\n"
-    ".reloc .Ltcp39+1165,R_X86_64_PLT32,.Ltcp1-4\n"
-    ".reloc .Ltcp39+2054,R_X86_64_PLT32,.Ltcp1-4\n"
-    ".reloc .Ltcp39+2527,R_X86_64_PC32,.Ltcp10+108\n"
-    ".section .text.tcp.40,\"ax\",%progbits\n"
+    ".reloc .Ltcp40+83,R_X86_64_PLT32,.Ltcp1-4\n"
+    ".reloc .Ltcp40+662,R_X86_64_PLT32,.Ltcp1-4\n"
+    ".reloc .Ltcp40+675,R_X86_64_PLT32,.Ltcp1-4\n"
+    ".reloc .Ltcp40+1165,R_X86_64_PLT32,.Ltcp1-4\n"
+    ".reloc .Ltcp40+2054,R_X86_64_PLT32,.Ltcp1-4\n"
+    ".reloc .Ltcp40+2527,R_X86_64_PC32,.Ltcp10+108\n"
+    ".section .text.tcp.41,\"ax\",%progbits\n"
     ".balign 16\n"
-    ".Ltcp40:\n"
+    ".Ltcp41:\n"
     ".globl tcp_c_abort\n"
     ".hidden tcp_c_abort\n"
     ".type tcp_c_abort,%function\n"
@@ -2364,10 +2425,10 @@ __asm__(
     ".octa 0x1888b890000018c938966000000,0x19483c748000001908389,0x894d00000000e800000003bedf894800\n"
     ".octa 0xbb8c35f415e415bc031085f894937\n"
     ".long 0x8aeb0000\n"
-    ".reloc .Ltcp40+138,R_X86_64_PLT32,.Ltcp0-4\n"
-    ".section .text.tcp.41,\"ax\",%progbits\n"
+    ".reloc .Ltcp41+138,R_X86_64_PLT32,.Ltcp0-4\n"
+    ".section .text.tcp.42,\"ax\",%progbits\n"
     ".balign 16\n"
-    ".Ltcp41:\n"
+    ".Ltcp42:\n"
     ".globl tcp_c_acknowledge\n"
     ".hidden tcp_c_acknowledge\n"
     ".type tcp_c_acknowledge,%function\n"
@@ -2376,9 +2437,9 @@ __asm__(
     ".octa 0x1fb808578b48744350526174746cb948,0x1b0257507110fc0570f0f3948000000,0x3cfc043042b60f0b750000000181ba80\n"
     ".octa 0x5789480f8948000001818288c0920f03\n"
     ".long 0xc3c03108\n"
-    ".section .text.tcp.42,\"ax\",%progbits\n"
+    ".section .text.tcp.43,\"ax\",%progbits\n"
     ".balign 16\n"
-    ".Ltcp42:\n"
+    ".Ltcp43:\n"
     ".globl tcp_c_arrive\n"
     ".hidden tcp_c_arrive\n"
     ".type tcp_c_arrive,%function\n"
@@ -2439,24 +2500,24 @@ __asm__(
     ".quad 0x31c03100000000e8\n"
     ".long 0xff47e9c9\n"
     ".short 0xffff\n"
-    ".reloc .Ltcp42+207,R_X86_64_PLT32,.Ltcp1-4\n"
-    ".reloc .Ltcp42+720,R_X86_64_PC32,.Ltcp10+124\n"
-    ".reloc .Ltcp42+1441,R_X86_64_PLT32,.Ltcp20-4\n"
-    ".reloc .Ltcp42+2206,R_X86_64_PLT32,.Ltcp20-4\n"
-    ".reloc .Ltcp42+2227,R_X86_64_PLT32,.Ltcp3-4\n"
-    ".reloc .Ltcp42+2249,R_X86_64_PLT32,.Ltcp20-4\n"
-    ".reloc .Ltcp42+2298,R_X86_64_PLT32,.Ltcp20-4\n"
-    ".reloc .Ltcp42+2349,R_X86_64_PLT32,.Ltcp4-4\n"
-    ".reloc .Ltcp42+2362,R_X86_64_PLT32,.Ltcp5-4\n"
-    ".reloc .Ltcp42+2370,R_X86_64_PLT32,.Ltcp12-4\n"
-    ".reloc .Ltcp42+2435,R_X86_64_PLT32,.Ltcp4-4\n"
-    ".reloc .Ltcp42+2451,R_X86_64_PLT32,.Ltcp5-4\n"
-    ".reloc .Ltcp42+2459,R_X86_64_PLT32,.Ltcp12-4\n"
-    ".reloc .Ltcp42+2470,R_X86_64_PLT32,.Ltcp14-4\n"
-    ".reloc .Ltcp42+2481,R_X86_64_PLT32,.Ltcp19-4\n"
-    ".section .text.tcp.43,\"ax\",%progbits\n"
+    ".reloc .Ltcp43+207,R_X86_64_PLT32,.Ltcp1-4\n"
+    ".reloc .Ltcp43+720,R_X86_64_PC32,.Ltcp10+124\n"
+    ".reloc .Ltcp43+1441,R_X86_64_PLT32,.Ltcp20-4\n"
+    ".reloc .Ltcp43+2206,R_X86_64_PLT32,.Ltcp20-4\n"
+    ".reloc .Ltcp43+2227,R_X86_64_PLT32,.Ltcp3-4\n"
+    ".reloc .Ltcp43+2249,R_X86_64_PLT32,.Ltcp20-4\n"
+    ".reloc .Ltcp43+2298,R_X86_64_PLT32,.Ltcp20-4\n"
+    ".reloc .Ltcp43+2349,R_X86_64_PLT32,.Ltcp4-4\n"
+    ".reloc .Ltcp43+2362,R_X86_64_PLT32,.Ltcp5-4\n"
+    ".reloc .Ltcp43+2370,R_X86_64_PLT32,.Ltcp12-4\n"
+    ".reloc .Ltcp43+2435,R_X86_64_PLT32,.Ltcp4-4\n"
+    ".reloc .Ltcp43+2451,R_X86_64_PLT32,.Ltcp5-4\n"
+    ".reloc .Ltcp43+2459,R_X86_64_PLT32,.Ltcp12-4\n"
+    ".reloc .Ltcp43+2470,R_X86_64_PLT32,.Ltcp14-4\n"
+    ".reloc .Ltcp43+2481,R_X86_64_PLT32,.Ltcp19-4\n"
+    ".section .text.tcp.44,\"ax\",%progbits\n"
     ".balign 16\n"
-    ".Ltcp43:\n"
+    ".Ltcp44:\n"
     ".globl tcp_c_arrive_vouched\n"
     ".hidden tcp_c_arrive_vouched\n"
     ".type tcp_c_arrive_vouched,%function\n"
@@ -2504,22 +2565,22 @@ __asm__(
     ".octa 0x28244c8b4800000000e8744350526174\n"
     ".quad 0xffff1de9d231c031\n"
     ".byte 0xff\n"
-    ".reloc .Ltcp43+755,R_X86_64_PLT32,.Ltcp20-4\n"
-    ".reloc .Ltcp43+1547,R_X86_64_PLT32,.Ltcp20-4\n"
-    ".reloc .Ltcp43+1568,R_X86_64_PLT32,.Ltcp3-4\n"
-    ".reloc .Ltcp43+1590,R_X86_64_PLT32,.Ltcp20-4\n"
-    ".reloc .Ltcp43+1654,R_X86_64_PLT32,.Ltcp20-4\n"
-    ".reloc .Ltcp43+1723,R_X86_64_PLT32,.Ltcp4-4\n"
-    ".reloc .Ltcp43+1736,R_X86_64_PLT32,.Ltcp5-4\n"
-    ".reloc .Ltcp43+1744,R_X86_64_PLT32,.Ltcp12-4\n"
-    ".reloc .Ltcp43+1823,R_X86_64_PLT32,.Ltcp4-4\n"
-    ".reloc .Ltcp43+1839,R_X86_64_PLT32,.Ltcp5-4\n"
-    ".reloc .Ltcp43+1847,R_X86_64_PLT32,.Ltcp12-4\n"
-    ".reloc .Ltcp43+1858,R_X86_64_PLT32,.Ltcp14-4\n"
-    ".reloc .Ltcp43+1879,R_X86_64_PLT32,.Ltcp19-4\n"
-    ".section .text.tcp.44,\"ax\",%progbits\n"
+    ".reloc .Ltcp44+755,R_X86_64_PLT32,.Ltcp20-4\n"
+    ".reloc .Ltcp44+1547,R_X86_64_PLT32,.Ltcp20-4\n"
+    ".reloc .Ltcp44+1568,R_X86_64_PLT32,.Ltcp3-4\n"
+    ".reloc .Ltcp44+1590,R_X86_64_PLT32,.Ltcp20-4\n"
+    ".reloc .Ltcp44+1654,R_X86_64_PLT32,.Ltcp20-4\n"
+    ".reloc .Ltcp44+1723,R_X86_64_PLT32,.Ltcp4-4\n"
+    ".reloc .Ltcp44+1736,R_X86_64_PLT32,.Ltcp5-4\n"
+    ".reloc .Ltcp44+1744,R_X86_64_PLT32,.Ltcp12-4\n"
+    ".reloc .Ltcp44+1823,R_X86_64_PLT32,.Ltcp4-4\n"
+    ".reloc .Ltcp44+1839,R_X86_64_PLT32,.Ltcp5-4\n"
+    ".reloc .Ltcp44+1847,R_X86_64_PLT32,.Ltcp12-4\n"
+    ".reloc .Ltcp44+1858,R_X86_64_PLT32,.Ltcp14-4\n"
+    ".reloc .Ltcp44+1879,R_X86_64_PLT32,.Ltcp19-4\n"
+    ".section .text.tcp.45,\"ax\",%progbits\n"
     ".balign 16\n"
-    ".Ltcp44:\n"
+    ".Ltcp45:\n"
     ".globl tcp_c_arrive_vouched_with_report\n"
     ".hidden tcp_c_arrive_vouched_with_report\n"
     ".type tcp_c_arrive_vouched_with_report,%function\n"
@@ -2580,48 +2641,48 @@ __asm__(
     ".octa 0xb33be6d35824748b483d4bb60fc0940f,0x1778d4920247c894cc1940f000000e0,0x48df430f4df7294908247c8b4cdb3145\n"
     ".octa 0x950f41db854dde420f4cde394c68738b,0xe9d48945f8b60f44d82044c820d020c3\n"
     ".long 0xfffff933\n"
-    ".reloc .Ltcp44+905,R_X86_64_PLT32,.Ltcp20-4\n"
-    ".reloc .Ltcp44+991,R_X86_64_PC32,.Ltcp45-4\n"
-    ".reloc .Ltcp44+1049,R_X86_64_PC32,.Ltcp45-4\n"
-    ".reloc .Ltcp44+1381,R_X86_64_PLT32,.Ltcp4-4\n"
-    ".reloc .Ltcp44+1394,R_X86_64_PLT32,.Ltcp5-4\n"
-    ".reloc .Ltcp44+1404,R_X86_64_PLT32,.Ltcp12-4\n"
-    ".reloc .Ltcp44+1479,R_X86_64_PC32,.Ltcp45-4\n"
-    ".reloc .Ltcp44+1713,R_X86_64_PLT32,.Ltcp4-4\n"
-    ".reloc .Ltcp44+1726,R_X86_64_PLT32,.Ltcp5-4\n"
-    ".reloc .Ltcp44+1736,R_X86_64_PLT32,.Ltcp12-4\n"
-    ".reloc .Ltcp44+1749,R_X86_64_PLT32,.Ltcp14-4\n"
-    ".reloc .Ltcp44+1766,R_X86_64_PLT32,.Ltcp19-4\n"
-    ".reloc .Ltcp44+1794,R_X86_64_PC32,.Ltcp45-4\n"
-    ".reloc .Ltcp44+2189,R_X86_64_PC32,.Ltcp45-4\n"
-    ".reloc .Ltcp44+2407,R_X86_64_PLT32,.Ltcp3-4\n"
-    ".section .rodata.tcp.45,\"a\",%progbits\n"
+    ".reloc .Ltcp45+905,R_X86_64_PLT32,.Ltcp20-4\n"
+    ".reloc .Ltcp45+991,R_X86_64_PC32,.Ltcp46-4\n"
+    ".reloc .Ltcp45+1049,R_X86_64_PC32,.Ltcp46-4\n"
+    ".reloc .Ltcp45+1381,R_X86_64_PLT32,.Ltcp4-4\n"
+    ".reloc .Ltcp45+1394,R_X86_64_PLT32,.Ltcp5-4\n"
+    ".reloc .Ltcp45+1404,R_X86_64_PLT32,.Ltcp12-4\n"
+    ".reloc .Ltcp45+1479,R_X86_64_PC32,.Ltcp46-4\n"
+    ".reloc .Ltcp45+1713,R_X86_64_PLT32,.Ltcp4-4\n"
+    ".reloc .Ltcp45+1726,R_X86_64_PLT32,.Ltcp5-4\n"
+    ".reloc .Ltcp45+1736,R_X86_64_PLT32,.Ltcp12-4\n"
+    ".reloc .Ltcp45+1749,R_X86_64_PLT32,.Ltcp14-4\n"
+    ".reloc .Ltcp45+1766,R_X86_64_PLT32,.Ltcp19-4\n"
+    ".reloc .Ltcp45+1794,R_X86_64_PC32,.Ltcp46-4\n"
+    ".reloc .Ltcp45+2189,R_X86_64_PC32,.Ltcp46-4\n"
+    ".reloc .Ltcp45+2407,R_X86_64_PLT32,.Ltcp3-4\n"
+    ".section .rodata.tcp.46,\"a\",%progbits\n"
     ".balign 4\n"
-    ".Ltcp45:\n"
+    ".Ltcp46:\n"
     ".octa 0x0,0x0,0x0\n"
     ".octa 0x0\n"
     ".quad 0x0\n"
-    ".reloc .Ltcp45+0,R_X86_64_PC32,.Ltcp44+2225\n"
-    ".reloc .Ltcp45+4,R_X86_64_PC32,.Ltcp44+2227\n"
-    ".reloc .Ltcp45+8,R_X86_64_PC32,.Ltcp44+2231\n"
-    ".reloc .Ltcp45+12,R_X86_64_PC32,.Ltcp44+2237\n"
-    ".reloc .Ltcp45+16,R_X86_64_PC32,.Ltcp44+2239\n"
-    ".reloc .Ltcp45+20,R_X86_64_PC32,.Ltcp44+2243\n"
-    ".reloc .Ltcp45+24,R_X86_64_PC32,.Ltcp44+2249\n"
-    ".reloc .Ltcp45+28,R_X86_64_PC32,.Ltcp44+2251\n"
-    ".reloc .Ltcp45+32,R_X86_64_PC32,.Ltcp44+2255\n"
-    ".reloc .Ltcp45+36,R_X86_64_PC32,.Ltcp44+2261\n"
-    ".reloc .Ltcp45+40,R_X86_64_PC32,.Ltcp44+2263\n"
-    ".reloc .Ltcp45+44,R_X86_64_PC32,.Ltcp44+2267\n"
-    ".reloc .Ltcp45+48,R_X86_64_PC32,.Ltcp44+2273\n"
-    ".reloc .Ltcp45+52,R_X86_64_PC32,.Ltcp44+2275\n"
-    ".reloc .Ltcp45+56,R_X86_64_PC32,.Ltcp44+2279\n"
-    ".reloc .Ltcp45+60,R_X86_64_PC32,.Ltcp44+2283\n"
-    ".reloc .Ltcp45+64,R_X86_64_PC32,.Ltcp44+2390\n"
-    ".reloc .Ltcp45+68,R_X86_64_PC32,.Ltcp44+2385\n"
-    ".section .text.tcp.46,\"ax\",%progbits\n"
+    ".reloc .Ltcp46+0,R_X86_64_PC32,.Ltcp45+2225\n"
+    ".reloc .Ltcp46+4,R_X86_64_PC32,.Ltcp45+2227\n"
+    ".reloc .Ltcp46+8,R_X86_64_PC32,.Ltcp45+2231\n"
+    ".reloc .Ltcp46+12,R_X86_64_PC32,.Ltcp45+2237\n"
+    ".reloc .Ltcp46+16,R_X86_64_PC32,.Ltcp45+2239\n"
+    ".reloc .Ltcp46+20,R_X86_64_PC32,.Ltcp45+2243\n"
+    ".reloc .Ltcp46+24,R_X86_64_PC32,.Ltcp45+2249\n"
+    ".reloc .Ltcp46+28,R_X86_64_PC32,.Ltcp45+2251\n"
+    ".reloc .Ltcp46+32,R_X86_64_PC32,.Ltcp45+2255\n"
+    ".reloc .Ltcp46+36,R_X86_64_PC32,.Ltcp45+2261\n"
+    ".reloc .Ltcp46+40,R_X86_64_PC32,.Ltcp45+2263\n"
+    ".reloc .Ltcp46+44,R_X86_64_PC32,.Ltcp45+2267\n"
+    ".reloc .Ltcp46+48,R_X86_64_PC32,.Ltcp45+2273\n"
+    ".reloc .Ltcp46+52,R_X86_64_PC32,.Ltcp45+2275\n"
+    ".reloc .Ltcp46+56,R_X86_64_PC32,.Ltcp45+2279\n"
+    ".reloc .Ltcp46+60,R_X86_64_PC32,.Ltcp45+2283\n"
+    ".reloc .Ltcp46+64,R_X86_64_PC32,.Ltcp45+2390\n"
+    ".reloc .Ltcp46+68,R_X86_64_PC32,.Ltcp45+2385\n"
+    ".section .text.tcp.47,\"ax\",%progbits\n"
     ".balign 16\n"
-    ".Ltcp46:\n"
+    ".Ltcp47:\n"
     ".globl tcp_c_arrive_with_at_once\n"
     ".hidden tcp_c_arrive_with_at_once\n"
     ".type tcp_c_arrive_with_at_once,%function\n"
@@ -2686,26 +2747,26 @@ __asm__(
     ".long 0x72e9c031\n"
     ".short 0xfff9\n"
     ".byte 0xff\n"
-    ".reloc .Ltcp46+207,R_X86_64_PLT32,.Ltcp1-4\n"
-    ".reloc .Ltcp46+701,R_X86_64_PC32,.Ltcp10+140\n"
-    ".reloc .Ltcp46+913,R_X86_64_PLT32,.Ltcp2-4\n"
-    ".reloc .Ltcp46+1425,R_X86_64_PLT32,.Ltcp20-4\n"
-    ".reloc .Ltcp46+2215,R_X86_64_PLT32,.Ltcp20-4\n"
-    ".reloc .Ltcp46+2249,R_X86_64_PLT32,.Ltcp3-4\n"
-    ".reloc .Ltcp46+2276,R_X86_64_PLT32,.Ltcp20-4\n"
-    ".reloc .Ltcp46+2327,R_X86_64_PLT32,.Ltcp20-4\n"
-    ".reloc .Ltcp46+2353,R_X86_64_PC32,.Ltcp101-4\n"
-    ".reloc .Ltcp46+2402,R_X86_64_PLT32,.Ltcp4-4\n"
-    ".reloc .Ltcp46+2415,R_X86_64_PLT32,.Ltcp5-4\n"
-    ".reloc .Ltcp46+2423,R_X86_64_PLT32,.Ltcp12-4\n"
-    ".reloc .Ltcp46+2512,R_X86_64_PLT32,.Ltcp4-4\n"
-    ".reloc .Ltcp46+2528,R_X86_64_PLT32,.Ltcp5-4\n"
-    ".reloc .Ltcp46+2536,R_X86_64_PLT32,.Ltcp12-4\n"
-    ".reloc .Ltcp46+2547,R_X86_64_PLT32,.Ltcp14-4\n"
-    ".reloc .Ltcp46+2558,R_X86_64_PLT32,.Ltcp19-4\n"
-    ".section .text.tcp.47,\"ax\",%progbits\n"
+    ".reloc .Ltcp47+207,R_X86_64_PLT32,.Ltcp1-4\n"
+    ".reloc .Ltcp47+701,R_X86_64_PC32,.Ltcp10+140\n"
+    ".reloc .Ltcp47+913,R_X86_64_PLT32,.Ltcp2-4\n"
+    ".reloc .Ltcp47+1425,R_X86_64_PLT32,.Ltcp20-4\n"
+    ".reloc .Ltcp47+2215,R_X86_64_PLT32,.Ltcp20-4\n"
+    ".reloc .Ltcp47+2249,R_X86_64_PLT32,.Ltcp3-4\n"
+    ".reloc .Ltcp47+2276,R_X86_64_PLT32,.Ltcp20-4\n"
+    ".reloc .Ltcp47+2327,R_X86_64_PLT32,.Ltcp20-4\n"
+    ".reloc .Ltcp47+2353,R_X86_64_PC32,.Ltcp105-4\n"
+    ".reloc .Ltcp47+2402,R_X86_64_PLT32,.Ltcp4-4\n"
+    ".reloc .Ltcp47+2415,R_X86_64_PLT32,.Ltcp5-4\n"
+    ".reloc .Ltcp47+2423,R_X86_64_PLT32,.Ltcp12-4\n"
+    ".reloc .Ltcp47+2512,R_X86_64_PLT32,.Ltcp4-4\n"
+    ".reloc .Ltcp47+2528,R_X86_64_PLT32,.Ltcp5-4\n"
+    ".reloc .Ltcp47+2536,R_X86_64_PLT32,.Ltcp12-4\n"
+    ".reloc .Ltcp47+2547,R_X86_64_PLT32,.Ltcp14-4\n"
+    ".reloc .Ltcp47+2558,R_X86_64_PLT32,.Ltcp19-4\n"
+    ".section .text.tcp.48,\"ax\",%progbits\n"
     ".balign 16\n"
-    ".Ltcp47:\n"
+    ".Ltcp48:\n"
     ".globl tcp_c_arrive_with_report\n"
     ".hidden tcp_c_arrive_with_report\n"
     ".type tcp_c_arrive_with_report,%function\n"
@@ -2780,51 +2841,51 @@ __asm__(
     ".long 0x60e9d589\n"
     ".short 0xfff9\n"
     ".byte 0xff\n"
-    ".reloc .Ltcp47+218,R_X86_64_PLT32,.Ltcp1-4\n"
-    ".reloc .Ltcp47+713,R_X86_64_PC32,.Ltcp10+156\n"
-    ".reloc .Ltcp47+922,R_X86_64_PLT32,.Ltcp2-4\n"
-    ".reloc .Ltcp47+1489,R_X86_64_PLT32,.Ltcp20-4\n"
-    ".reloc .Ltcp47+1565,R_X86_64_PC32,.Ltcp48-4\n"
-    ".reloc .Ltcp47+1623,R_X86_64_PC32,.Ltcp48-4\n"
-    ".reloc .Ltcp47+2387,R_X86_64_PLT32,.Ltcp4-4\n"
-    ".reloc .Ltcp47+2400,R_X86_64_PLT32,.Ltcp5-4\n"
-    ".reloc .Ltcp47+2411,R_X86_64_PLT32,.Ltcp12-4\n"
-    ".reloc .Ltcp47+2482,R_X86_64_PC32,.Ltcp48-4\n"
-    ".reloc .Ltcp47+2569,R_X86_64_PLT32,.Ltcp4-4\n"
-    ".reloc .Ltcp47+2585,R_X86_64_PLT32,.Ltcp5-4\n"
-    ".reloc .Ltcp47+2596,R_X86_64_PLT32,.Ltcp12-4\n"
-    ".reloc .Ltcp47+2607,R_X86_64_PLT32,.Ltcp14-4\n"
-    ".reloc .Ltcp47+2621,R_X86_64_PLT32,.Ltcp19-4\n"
-    ".reloc .Ltcp47+2641,R_X86_64_PC32,.Ltcp48-4\n"
-    ".reloc .Ltcp47+2730,R_X86_64_PC32,.Ltcp48-4\n"
-    ".reloc .Ltcp47+2958,R_X86_64_PLT32,.Ltcp3-4\n"
-    ".section .rodata.tcp.48,\"a\",%progbits\n"
+    ".reloc .Ltcp48+218,R_X86_64_PLT32,.Ltcp1-4\n"
+    ".reloc .Ltcp48+713,R_X86_64_PC32,.Ltcp10+156\n"
+    ".reloc .Ltcp48+922,R_X86_64_PLT32,.Ltcp2-4\n"
+    ".reloc .Ltcp48+1489,R_X86_64_PLT32,.Ltcp20-4\n"
+    ".reloc .Ltcp48+1565,R_X86_64_PC32,.Ltcp49-4\n"
+    ".reloc .Ltcp48+1623,R_X86_64_PC32,.Ltcp49-4\n"
+    ".reloc .Ltcp48+2387,R_X86_64_PLT32,.Ltcp4-4\n"
+    ".reloc .Ltcp48+2400,R_X86_64_PLT32,.Ltcp5-4\n"
+    ".reloc .Ltcp48+2411,R_X86_64_PLT32,.Ltcp12-4\n"
+    ".reloc .Ltcp48+2482,R_X86_64_PC32,.Ltcp49-4\n"
+    ".reloc .Ltcp48+2569,R_X86_64_PLT32,.Ltcp4-4\n"
+    ".reloc .Ltcp48+2585,R_X86_64_PLT32,.Ltcp5-4\n"
+    ".reloc .Ltcp48+2596,R_X86_64_PLT32,.Ltcp12-4\n"
+    ".reloc .Ltcp48+2607,R_X86_64_PLT32,.Ltcp14-4\n"
+    ".reloc .Ltcp48+2621,R_X86_64_PLT32,.Ltcp19-4\n"
+    ".reloc .Ltcp48+2641,R_X86_64_PC32,.Ltcp49-4\n"
+    ".reloc .Ltcp48+2730,R_X86_64_PC32,.Ltcp49-4\n"
+    ".reloc .Ltcp48+2958,R_X86_64_PLT32,.Ltcp3-4\n"
+    ".section .rodata.tcp.49,\"a\",%progbits\n"
     ".balign 4\n"
-    ".Ltcp48:\n"
+    ".Ltcp49:\n"
     ".octa 0x0,0x0,0x0\n"
     ".octa 0x0\n"
     ".quad 0x0\n"
-    ".reloc .Ltcp48+0,R_X86_64_PC32,.Ltcp47+2766\n"
-    ".reloc .Ltcp48+4,R_X86_64_PC32,.Ltcp47+2768\n"
-    ".reloc .Ltcp48+8,R_X86_64_PC32,.Ltcp47+2772\n"
-    ".reloc .Ltcp48+12,R_X86_64_PC32,.Ltcp47+2778\n"
-    ".reloc .Ltcp48+16,R_X86_64_PC32,.Ltcp47+2780\n"
-    ".reloc .Ltcp48+20,R_X86_64_PC32,.Ltcp47+2784\n"
-    ".reloc .Ltcp48+24,R_X86_64_PC32,.Ltcp47+2790\n"
-    ".reloc .Ltcp48+28,R_X86_64_PC32,.Ltcp47+2792\n"
-    ".reloc .Ltcp48+32,R_X86_64_PC32,.Ltcp47+2796\n"
-    ".reloc .Ltcp48+36,R_X86_64_PC32,.Ltcp47+2802\n"
-    ".reloc .Ltcp48+40,R_X86_64_PC32,.Ltcp47+2804\n"
-    ".reloc .Ltcp48+44,R_X86_64_PC32,.Ltcp47+2808\n"
-    ".reloc .Ltcp48+48,R_X86_64_PC32,.Ltcp47+2814\n"
-    ".reloc .Ltcp48+52,R_X86_64_PC32,.Ltcp47+2816\n"
-    ".reloc .Ltcp48+56,R_X86_64_PC32,.Ltcp47+2820\n"
-    ".reloc .Ltcp48+60,R_X86_64_PC32,.Ltcp47+2824\n"
-    ".reloc .Ltcp48+64,R_X86_64_PC32,.Ltcp47+2939\n"
-    ".reloc .Ltcp48+68,R_X86_64_PC32,.Ltcp47+2934\n"
-    ".section .text.tcp.49,\"ax\",%progbits\n"
+    ".reloc .Ltcp49+0,R_X86_64_PC32,.Ltcp48+2766\n"
+    ".reloc .Ltcp49+4,R_X86_64_PC32,.Ltcp48+2768\n"
+    ".reloc .Ltcp49+8,R_X86_64_PC32,.Ltcp48+2772\n"
+    ".reloc .Ltcp49+12,R_X86_64_PC32,.Ltcp48+2778\n"
+    ".reloc .Ltcp49+16,R_X86_64_PC32,.Ltcp48+2780\n"
+    ".reloc .Ltcp49+20,R_X86_64_PC32,.Ltcp48+2784\n"
+    ".reloc .Ltcp49+24,R_X86_64_PC32,.Ltcp48+2790\n"
+    ".reloc .Ltcp49+28,R_X86_64_PC32,.Ltcp48+2792\n"
+    ".reloc .Ltcp49+32,R_X86_64_PC32,.Ltcp48+2796\n"
+    ".reloc .Ltcp49+36,R_X86_64_PC32,.Ltcp48+2802\n"
+    ".reloc .Ltcp49+40,R_X86_64_PC32,.Ltcp48+2804\n"
+    ".reloc .Ltcp49+44,R_X86_64_PC32,.Ltcp48+2808\n"
+    ".reloc .Ltcp49+48,R_X86_64_PC32,.Ltcp48+2814\n"
+    ".reloc .Ltcp49+52,R_X86_64_PC32,.Ltcp48+2816\n"
+    ".reloc .Ltcp49+56,R_X86_64_PC32,.Ltcp48+2820\n"
+    ".reloc .Ltcp49+60,R_X86_64_PC32,.Ltcp48+2824\n"
+    ".reloc .Ltcp49+64,R_X86_64_PC32,.Ltcp48+2939\n"
+    ".reloc .Ltcp49+68,R_X86_64_PC32,.Ltcp48+2934\n"
+    ".section .text.tcp.50,\"ax\",%progbits\n"
     ".balign 16\n"
-    ".Ltcp49:\n"
+    ".Ltcp50:\n"
     ".globl tcp_c_close\n"
     ".hidden tcp_c_close\n"
     ".type tcp_c_close,%function\n"
@@ -2835,26 +2896,26 @@ __asm__(
     ".octa 0xe800000003bedf8948ff8949e1ffc101,0xaeeb0000000bb811ebff894c00000000,0x5f894837894c053043c604eb093043c6\n"
     ".quad 0x5f415e415bc03108\n"
     ".byte 0xc3\n"
-    ".reloc .Ltcp49+87,R_X86_64_PC32,.Ltcp50-4\n"
-    ".reloc .Ltcp49+112,R_X86_64_PLT32,.Ltcp0-4\n"
-    ".section .rodata.tcp.50,\"a\",%progbits\n"
+    ".reloc .Ltcp50+87,R_X86_64_PC32,.Ltcp51-4\n"
+    ".reloc .Ltcp50+112,R_X86_64_PLT32,.Ltcp0-4\n"
+    ".section .rodata.tcp.51,\"a\",%progbits\n"
     ".balign 4\n"
-    ".Ltcp50:\n"
+    ".Ltcp51:\n"
     ".octa 0x0,0x0\n"
     ".quad 0x0\n"
-    ".reloc .Ltcp50+0,R_X86_64_PC32,.Ltcp49+100\n"
-    ".reloc .Ltcp50+4,R_X86_64_PC32,.Ltcp49+104\n"
-    ".reloc .Ltcp50+8,R_X86_64_PC32,.Ltcp49+146\n"
-    ".reloc .Ltcp50+12,R_X86_64_PC32,.Ltcp49+146\n"
-    ".reloc .Ltcp50+16,R_X86_64_PC32,.Ltcp49+154\n"
-    ".reloc .Ltcp50+20,R_X86_64_PC32,.Ltcp49+158\n"
-    ".reloc .Ltcp50+24,R_X86_64_PC32,.Ltcp49+152\n"
-    ".reloc .Ltcp50+28,R_X86_64_PC32,.Ltcp49+166\n"
-    ".reloc .Ltcp50+32,R_X86_64_PC32,.Ltcp49+170\n"
-    ".reloc .Ltcp50+36,R_X86_64_PC32,.Ltcp49+174\n"
-    ".section .text.tcp.51,\"ax\",%progbits\n"
+    ".reloc .Ltcp51+0,R_X86_64_PC32,.Ltcp50+100\n"
+    ".reloc .Ltcp51+4,R_X86_64_PC32,.Ltcp50+104\n"
+    ".reloc .Ltcp51+8,R_X86_64_PC32,.Ltcp50+146\n"
+    ".reloc .Ltcp51+12,R_X86_64_PC32,.Ltcp50+146\n"
+    ".reloc .Ltcp51+16,R_X86_64_PC32,.Ltcp50+154\n"
+    ".reloc .Ltcp51+20,R_X86_64_PC32,.Ltcp50+158\n"
+    ".reloc .Ltcp51+24,R_X86_64_PC32,.Ltcp50+152\n"
+    ".reloc .Ltcp51+28,R_X86_64_PC32,.Ltcp50+166\n"
+    ".reloc .Ltcp51+32,R_X86_64_PC32,.Ltcp50+170\n"
+    ".reloc .Ltcp51+36,R_X86_64_PC32,.Ltcp50+174\n"
+    ".section .text.tcp.52,\"ax\",%progbits\n"
     ".balign 16\n"
-    ".Ltcp51:\n"
+    ".Ltcp52:\n"
     ".globl tcp_c_connect\n"
     ".hidden tcp_c_connect\n"
     ".type tcp_c_connect,%function\n"
@@ -2864,230 +2925,246 @@ __asm__(
     ".octa 0x41c6068bc3084f894807894c08740030,0x4041c748385189663441890230,0x10000018081c6000000014841c74800\n"
     ".quad 0x31084f894807894c\n"
     ".short 0xc3c0\n"
-    ".section .text.tcp.52,\"ax\",%progbits\n"
-    ".balign 16\n"
-    ".Ltcp52:\n"
-    ".globl tcp_c_connection_abort\n"
-    ".hidden tcp_c_connection_abort\n"
-    ".type tcp_c_connection_abort,%function\n"
-    ".size tcp_c_connection_abort,417\n"
-    "tcp_c_connection_abort:\n"
-    ".octa 0x74746cbf495053544155415641574155,0x394c0000001fbd08778b4c7643505261,0xfb894800000163850f07110fc0570f3f\n"
-    ".octa 0x317e80410000000ebd000002c0a68b4d,0x4f589495a74c0843046b60f41687500,0xb70f41344e8b4108468b413d77043cfd\n"
-    ".octa 0x10000018486c741484603413856,0x1888e89410000018c9689416600,0x19486c74900000190868941\n"
-    ".octa 0x3100000000e800000003bef7894c0000,0x3046b60f410000000bbd05ebee894ced,0xb0b9d231577402f98001b2fee180c189\n"
-    ".octa 0x487e8b49404e8b494b73c1a30f000003,0xf93948c2940f06f8833c72f9394801b2,0xc7ff48507e8b492875d70840c7950f40\n"
-    ".octa 0x3949f9430f4800000000bff92948d231,0xebc2940f00000000e0be83410f76687e,0x831373c1a30f0000044fb9ff31d23102\n"
-    ".octa 0xc0940f410000000140be83491f7506f8,0xf883c7950f4000000000a0be834914eb,0x4000000000000000b948c03145e17406\n"
-    ".octa 0xf883cc460f49e1394cce420f48ce3948,0x49062444940f05247c8840042454880a,0x4840568b490724448844000001a0be8d\n"
-    ".octa 0x873894c3b894c00000000e80424748d,0x5d5f415e415d415c415b08c48348e889\n"
-    ".byte 0xc3\n"
-    ".reloc .Ltcp52+155,R_X86_64_PLT32,.Ltcp0-4\n"
-    ".reloc .Ltcp52+389,R_X86_64_PLT32,.Ltcp26-4\n"
     ".section .text.tcp.53,\"ax\",%progbits\n"
     ".balign 16\n"
     ".Ltcp53:\n"
-    ".globl tcp_c_connection_acknowledge\n"
-    ".hidden tcp_c_connection_acknowledge\n"
-    ".type tcp_c_connection_acknowledge,%function\n"
-    ".size tcp_c_connection_acknowledge,314\n"
-    "tcp_c_connection_acknowledge:\n"
-    ".octa 0x4350526174746cbe4950535641574155,0xc0570f37394c0000001fbd087f8b4c76,0xc0978b49fb894800000104850f07110f\n"
-    ".octa 0x920f03f980fc488d3047b60f41000002,0x1b740fee180c189000001818f0841c1,0x73c1a30f000003b0b9ff315b7402f980\n"
-    ".octa 0x72c1394c01b74048478b4d404f8b494f,0x41c0950f41c1394cc7940f4006f8833f,0xc1294cff31c0ff4950478b4d2a75f808\n"
-    ".octa 0x10766847394dc1430f4c00000000b841,0xff3102ebc7940f4000000000e0bf8341,0xbf83490c72c1a30f0000044fb9c03145\n"
-    ".octa 0xb941ed31c0950f4100000000a0,0xf410000000140bf83490c7506f88300,0x48ce39484000000000000000b948c194\n"
-    ".octa 0x7c88400af883ca460f48d13948ce420f,0xa0bf8d49062444940f05244488440424,0x24748d4840578b4907244c8844000001\n"
-    ".octa 0x48e889087b894c33894c00000000e804\n"
-    ".quad 0x5f415e415b08c483\n"
-    ".short 0xc35d\n"
-    ".reloc .Ltcp53+290,R_X86_64_PLT32,.Ltcp26-4\n"
+    ".globl tcp_c_connection_abort\n"
+    ".hidden tcp_c_connection_abort\n"
+    ".type tcp_c_connection_abort,%function\n"
+    ".size tcp_c_connection_abort,569\n"
+    "tcp_c_connection_abort:\n"
+    ".octa 0x746cbf4910ec83485354415641574155,0x4c0000001fbd08778b4c764350526174,0x8948000001f3850f07110fc0570f3f39\n"
+    ".octa 0xb948000002c0868b49fb,0xc8460f48c13948ce420f48ce39484000,0x46b60f41687500317e80410000000ebd\n"
+    ".octa 0x8b413d77043cfd04cc89495a74c08430,0x41484603413856b70f41344e8b410846,0x18c96894166000000010000018486c7\n"
+    ".octa 0x190868941000001888e89410000,0x3bef7894c000000000000019486c749,0xbd05ebe1894ced3100000000e8000000\n"
+    ".octa 0xb8fee68040d6893056b60f410000000b,0xf000003b0be5a7402fe804000000001,0x72fe3948487e8b4940768b494e73d6a3\n"
+    ".octa 0x840c7950f40fe3948c0940f06fa8343,0x31c7ff48507e8b492c7500000000b8c7,0x7e3949fe430f4800000000bffe2948c0\n"
+    ".octa 0xc0940f00000000e0be8341c031117668,0x4fb841f631000001a0be8d49c03102eb,0xa0be8349f6311172d0a30f41000004\n"
+    ".octa 0x45197506fa8308e6c1c6950f40000000,0xc141c0940f410000000140be8349c031,0xf410afa83c03145c08944c0094118e0\n"
+    ".octa 0xf1094110e1c141c1894540568b49c094,0x7500000278963b490c244c8944c10941,0x1c1f641c13041000002488eb60f456f\n"
+    ".octa 0xc20841ca8945000002808eb60f455e75,0x40750000000290be8341167501c2f641,0x41c1204134eb0b740000000294be8041\n"
+    ".octa 0x4000000258b6324108eec12b7401c1f6,0x1c0f641000002688632451b7501c6f6,0x207401a8000002a886324118e8c10e75\n"
+    ".octa 0x73894c3b894c00000000e80c24748d48,0xc35d5f415e415c415b10c48348e88908\n"
+    ".quad 0xeb000002c08e8949\n"
+    ".byte 0xe1\n"
+    ".reloc .Ltcp53+180,R_X86_64_PLT32,.Ltcp0-4\n"
+    ".reloc .Ltcp53+534,R_X86_64_PLT32,.Ltcp26-4\n"
     ".section .text.tcp.54,\"ax\",%progbits\n"
     ".balign 16\n"
     ".Ltcp54:\n"
+    ".globl tcp_c_connection_acknowledge\n"
+    ".hidden tcp_c_connection_acknowledge\n"
+    ".type tcp_c_connection_acknowledge,%function\n"
+    ".size tcp_c_connection_acknowledge,462\n"
+    "tcp_c_connection_acknowledge:\n"
+    ".octa 0x526174746cbe4910ec83485356415741,0xf37394c0000001fb8087f8b4c764350,0x8b49fb894800000190850f07110fc057\n"
+    ".octa 0x484000000000000000b948000002c087,0xb60f41c8460f48c13948ce420f48ce39,0x181870841c0920f033cfc428d3057\n"
+    ".octa 0x2fe804000000001b8fee68040d68900,0x40778b494e73d6a30f000003b0be5a74,0x48c0940f06fa834372fe3948487f8b49\n"
+    ".octa 0x2c7500000000b8c70840c7950f40fe39,0xbffe2948c031c7ff48507f8b49,0xbf8341c0311176687f3949fe430f4800\n"
+    ".octa 0xa0bf8d49c03102ebc0940f00000000e0,0x72d0a30f410000044fb841f631000001,0xc1c6950f4000000000a0bf8349f63111\n"
+    ".octa 0x140bf8349c03145197506fa8308e6,0xc08944c0094118e0c141c0940f410000,0x894540578b49c0940f410afa83c03145\n"
+    ".octa 0xc244c8944c10941f1094110e1c141c1,0x2488fb60f456f7500000278973b49,0x2808fb60f455e7501c1f641c1304100\n"
+    ".octa 0x8341167501c2f641c20841ca89450000,0x294bf804140750000000290bf,0x8eec12b7401c1f641c1204134eb0b74\n"
+    ".octa 0x8732451b7501c6f64000000258b73241,0x87324118e8c10e7501c0f64100000268,0xe80c24748d481d7401a8000002a8\n"
+    ".octa 0x5b10c48348c031087b894c33894c0000\n"
+    ".quad 0x8f8949c35f415e41\n"
+    ".long 0x2c0\n"
+    ".short 0xe4eb\n"
+    ".reloc .Ltcp54+430,R_X86_64_PLT32,.Ltcp26-4\n"
+    ".section .text.tcp.55,\"ax\",%progbits\n"
+    ".balign 16\n"
+    ".Ltcp55:\n"
     ".globl tcp_c_connection_arrive\n"
     ".hidden tcp_c_connection_arrive\n"
     ".type tcp_c_connection_arrive,%function\n"
-    ".size tcp_c_connection_arrive,4457\n"
+    ".size tcp_c_connection_arrive,4808\n"
     "tcp_c_connection_arrive:\n"
-    ".octa 0xd8ec814853544155415641574155,0x526174746cbf4900000110249c8b4c00,0x85f8b48c2940f41c0854dc031764350\n"
-    ".octa 0xff3c0ef0f66f3440f4c3f394cf63145,0x242444c7298b228b443075077f,0x5f89483f894c2f7501000002b8bb8000\n"
-    ".octa 0xe9f631ed3145d231c9310000003ab808,0xb8037f0f41f310437f0f41f30000072d,0x490ce0c1d0884400000735e90000001f\n"
-    ".octa 0xf9834908750afd8341306bb60f44c001,0x83491b75083cfe24e8894424eb1b730e,0xf6410b740000000140bb834815720ef9\n"
-    ".octa 0x2c0838b48000000a2850f040d40,0x420f48ce39484000000000000000b948,0x8c7f0f66c9ef0f66c8460f48c13948ce\n"
-    ".octa 0xf66000000a0248c7f0f66000000b024,0x84c74800000090248c7f0f663024447f,0x834900000001be00000000000000c024\n"
-    ".octa 0x88248c8948000000d024bc894814f9,0xf9814900000002be000002b4820f0000,0xfff98149000002a2870f0000ffeb\n"
-    ".octa 0x507530c2f6d2f7c289f0418d49297700,0x89483f894c0000008ae9c2894cce894c,0x4cc7894cfffffeeae90000003bb8085f\n"
-    ".octa 0x894cec894148246c894c24248944ce89,0x44e88949f9894d00000000e8cf894dc5,0x1a1e924248b4448246c8b4ce589\n"
-    ".octa 0x401f0fd23103e683c6ff04eec1c689,0x6608d2710f66c2fd0f6610146f0f41f3,0x48ce894ce475ceff4810c28348cafd0f\n"
-    ".octa 0x8348023c8d4a243c8948107e8d48d629,0x441f0f6a7230f88348c2014cf0c7,0xf6620626f0ff3105a6f0ff3126f0ff3\n"
+    ".octa 0xc8ec814853544155415641574155,0x526174746cbe4900000100249c8b4c00,0x85f8b48c2940f41c0854dc031764350\n"
+    ".octa 0x7f0ff3c0ef0f66eb440f4837394ced31,0x4837894c2f7501000002b8bb80237507,0x31ed3145d231c9310000003ab8085f89\n"
+    ".octa 0x7f0f41f310437f0f41f3000007e9e9f6,0xe0c1d08844000007f1e90000001fb803,0x413063b60f44398b442a8b44c001490c\n"
+    ".octa 0xe0894424eb1b730ef9834908750afc83,0x40bb834815720ef983491b75083cfe24,0x92850f040d40f6410b7400000001\n"
+    ".octa 0xb948000002c0838b4800,0xc8460f48c13948ce420f48ce39484000,0x7f0f66000000a0248c7f0f66c9ef0f66\n"
+    ".octa 0x8c7f0f664024447f0f6600000090248c,0xb02484c7480000008024,0x2cb820f14f9834900000001b800\n"
+    ".octa 0x2b9870f0000ffebf9814900000002b8,0x89f0418d492977000000fff981490000,0x9ee9c2894cce894c627530c2f6d2f7c2\n"
+    ".octa 0xe90000003bb8085f894837894c000000,0x4cce894cc7894c58247c8948fffffef4,0x45c4894dcd894928246c894420246489\n"
+    ".octa 0xf78945f9894d00000000e8cf894dfe89,0x2024648b4c28246c8b44e9894ce0894d,0xff04eec1c689000001a5e958247c8b48\n"
+    ".octa 0x841f0f2e66d23103e683c6,0x6608d2710f66c2fd0f6610146f0f41f3,0x48ce894ce475ceff4810c28348cafd0f\n"
+    ".octa 0x14cf0c2834902148d4e105e8d4cd629,0x841f0f666a7230f88348c2,0xf6620626f0ff3105a6f0ff3126f0ff3\n"
     ".octa 0x304a6f0ff3d1fd0f6608d2710f66c2fd,0xfd0f6608d3710f66ebfd0f66ec6f0f66,0xf66e2fd0f66e3fd0f6608d4710f66c5\n"
-    ".octa 0x4840c28348ccfd0f6608d1710f66c1fd,0x468d48f07a8d48a7770ffe8348c0c683,0xf6608f2710f66d16f0f662404894810\n"
-    ".octa 0x66c2690f66d833380f66d2ef0f66c2f9,0xf66e133380f6608f0720f6608f3720f,0xf66e1fe0f66e3fe0f66c8fe0f66ca69\n"
-    ".octa 0x48db314555c8700f66c4fe0f66eec470,0xca0f48128b483debc031047318243c83,0xc149d78949d2b70f4430e8c148d08948\n"
-    ".octa 0xeac1efb70f4108246c8924348b4820ef,0x18c7834808246c8be801d001d0014410,0x7204fe8348c1fe0f66fa8948e8c68348\n"
-    ".octa 0x48fb014110efc1dfb70f44cf0f3a8b16,0x8348d23145c77e0f66fcc6834804c283,0xb70f4508c2c1416612b70f44157202fe\n"
-    ".octa 0x144f801d30145fec6834802c28348d2,0x89c20108e2c112b60f0a7501fe8348d8,0x6e0f416610eac1e2894410efc1ef89d0\n"
-    ".octa 0xf6602c2c40f6624148901c5c40f66c4,0xc8700f66000000000500380f6603c7c4,0xf66c1fe0f6655c1700f66c8fe0f66ee\n"
-    ".octa 0xba41f00110e0c1f089c601ce0144c67e,0x1fa814100000003bec22941fff9fffa,0xf4050fa83410c50b60f453777000100\n"
-    ".octa 0x2e0c148d8894404ebc141d38945c692,0x840c5920f4008246c89c22948ca894c,0xe08b8b000003e4840f00000004bef5\n"
-    ".octa 0x2404c748ed3145e431450000,0x102444c700000000482444c748,0x89c03145ff3100000000082444c74800\n"
-    ".octa 0x4840538b48ca450f4ce48445c93145ca,0xbb833c750000000278bb83484674d285,0x394c00000200938b4c33740000000290\n"
-    ".octa 0x8b4c000001e89b8b4c2373000001e093,0x4dfb394dda470f4dda394d000001f0bb,0x230be8041000002209b894cdf430f\n"
-    ".octa 0xf00000238933948000000e3850f0100,0x88249c8b4cd23145000000d687,0xf4d00000230be8d4d000002409b2b4c\n"
-    ".octa 0x1047c749077f0f41f3c0ef0f66d343,0xda394d0000010000000000bb49000000,0x8b4c36740000000208be8041d3430f4d\n"
-    ".octa 0x4cdd894c00000218bb8b4c000002109b,0xd8294cd5420f4cda294dda048d4bd529,0x4902ebc149d3014d7f1c8d4f03e8c148\n"
-    ".octa 0x20886c749ebd149d3894d06ebc289,0x189b894c0000021093894c0000000100,0x1f0bb8b4c000001e8838b48000002\n"
-    ".octa 0x4ceb394902e3c149000001f8ab8b4800,0xfb394dd8460f4cc33949d3014ddd460f,0xa096b60f45000002209b894cdf430f4d\n"
-    ".octa 0xc9854d6274d284456774e48445000002,0x218838b4843750100000208bb805d74,0xc8394c02e0c148000001f88b8b4c0000\n"
-    ".octa 0x1f09b8b4c000001e88b8b4cc1460f49,0xc1460f49c8394c000002108303480000,0xf6600000220838948c3430f49d8394c\n"
-    ".octa 0x4539ebc9314500000248837f0ff3c0ef,0xc3950f41c1940f41c9854dc0940fe484,0x661975dd0844c50840c5940f40d28548\n"
-    ".octa 0x29083c700000280837f0ff3c0ef0f,0xcab60f45c1b60f4101b1410000000000,0xf640000002a08e8845c8450f44e48445\n"
-    ".octa 0x268837f0ff3c0ef0f660c7401c7,0x2a8837f0ff3c0ef0f660c7401c0f641,0x3c01b141fe24c089443043b60f440000\n"
-    ".octa 0x73c0a30f44000003b0b8c93145577402,0xf883413d72fa394801b141487b8b4849,0x2775c70840c7950f40fa3948c0940f06\n"
-    ".octa 0xc72948d78948c93145c0ff4850438b48,0x850b7668433948c7430f4800000000b8,0x1a0bb8d48c9314503ebc1940f41c9\n"
-    ".octa 0x83480b72c1a30f440000044fb9c03100,0xbeed31f78941c0950f00000000a0bb,0x7500000088248c8b4806f88341000000\n"
-    ".octa 0xf88341c6940f400000000140bb83480c,0x40262444940f2524448824244c88440a,0x8b4800000000e82424748d4827247488\n"
-    ".octa 0x764350526174746cb948000000d02484,0xc6b60f400824748b480870894c088948,0x9c8b4c00000037bd177302f983ff488d\n"
-    ".octa 0x8517eb10244c8b24148b480000011024,0x24148b4800000110249c8b4cf88944c0,0x1c0940f01fe8040c0310b7410244c8b\n"
-    ".octa 0x7c80d231c6fff2b60f01e183c9b60fe8,0x244431380f66f4b60f41d6450f004824,0xd60f4166086b894d045389410b894130\n"
-    ".octa 0x8148000000001c43c741187389411043,0xc35d5f415e415d415c415b000000d8c4,0x1824548948187505fb804148246c894c\n"
-    ".octa 0xaae910244489482824548948ec508d48,0xffd8c6c748ec688d4814588d4d000000,0xc68348fd294dfb014d0cebed8949ffff\n"
-    ".octa 0x1ff83413bb60f457674ed854d617402,0xb60f453f7401fd83495274ff85451b74,0xfd294d3c72fd394d417202ff8349017b\n"
-    ".octa 0x45b87401ff83413bb60f45fb014d4c74,0x49017bb60f45127401fd83492574ff85,0x1bd410deb9d73fd394d147202ff83\n"
-    ".octa 0x333c8041f6311574ed854d05eb0000,0x8948ed75f53949c6ff4800000357850f,0xb70f4128246c89481024448948182454\n"
-    ".octa 0x8b4108c0c16608c6c1660240b70f4130,0xc1660e68b70f410d58b60f45ca0f0450,0xc589415424448920e7c149d7894908c5\n"
-    ".octa 0xf44ee094c38348d4ac6b70f10e5c141,0x30245c894c30e7c14970247c894cfdb7,0xf4108588b45fd094d28e5c149dd894d\n"
-    ".octa 0x14d60245c894c20e2c1490fe28341cb,0x902484881268b70f41ea094dda,0x245489480000009724848818e8c1d089\n"
-    ".octa 0xc148000000952484896608e8c1d08958,0x982494894c0000009124b48908ee,0x408d49000000a024ac896608c5c16600\n"
-    ".octa 0xa42484c70000000000a22484c76614,0x8b48000000a824848948000000000000,0xb0249489482824548b48c0014c102444\n"
-    ".octa 0x1824548b48000000b824848948000000,0x8b4418eec1e68944000000c024948948,0x6608eac141c26e0f4166d08944082454\n"
-    ".octa 0x3a0f6608efc141e7894501c2203a0f41,0xc07e0f6603c0203a0f6618e8c102c720,0x3b665424448b0c75033901b74001b241\n"
-    ".octa 0x4166dcb60f45c7b60f41c7950f400443,0x3a0f662404b60f01c0203a0f66c36e0f,0x7e0f6603c0203a0f66c6b60f4002c020\n"
-    ".octa 0x902484b70f107548246c8b4c344339c0,0xf02fd8041c2950f4138433b66000000,0x8944000000ca840fc70840d02044c093\n"
-    ".octa 0x182454894850568b4950668d4dc031e5,0xf442404894800000158b68b49ff3145,0xc824b48948282464894c11fa8041d0b6\n"
-    ".octa 0x894d54247c8944000001b4830f000000,0x89d68944df894800000090248c8d48c7,0x4ceb894900000000e8d5894ccc894dea\n"
-    ".octa 0x4430244c8b4cc4940f4108fb8041e589,0xf10246c3b4803e180d9f601e180c989,0xfa5eb9d23145d1440f00000003bac9b6\n"
-    ".octa 0x40000000b6830ffe894cd9a30f440001,0x8d4cff7b8d41d2314508247c894802b7,0x247c8b44c7014cb83c63490000000005\n"
-    ".octa 0x83e58944fd458d41e7ff1824448b4c54,0x8b44000000f4b38b000000c6830f08f8,0x45df894500000140a38b44000001389b\n"
-    ".octa 0x44894840438b482824448908438be729,0x893024448b482404894848438b480824,0xfd009f88944fa1101e0ba0f01e783c7\n"
-    ".octa 0xe339450000011e840fd285000000b984,0xc0850f04302444f601b000000126850f,0xfffffeb3840f10302444f609b0fffffe\n"
-    ".octa 0x8b44dfa30f44000005a0bf000001b2e9,0x247c894803b7400000025c830f54247c,0x4900000000058d4cff7b8d41d2314508\n"
-    ".octa 0xfe8348e7ff1824448b4cc7014cb83c63,0x8341fffff7fee900de8300000006be01,0x24548b4801fd83410000022e840f02fd\n"
-    ".octa 0xfe41850f04c2f601b000000242850f30,0xf6fffffe34850f10302444f603b0ffff,0x7439fffffe25e90534c0940f02302444\n"
-    ".octa 0xfa8341000000f5e900000094840f5824,0x48247c8300000177850f682444894c12,0x3243b60f000001fc850f6024548b4803\n"
-    ".octa 0x304388040ce6d37024748b483d4bb60f,0x8b48000000e0b3894043894848438b48,0xc6000000e89389000000e48b8958244c\n"
-    ".octa 0x5824448b48000001c1e9000000018083,0x24448b4800000086e92572f83944f029,0x44d0f7f089d289491472f83944f02958\n"
-    ".octa 0x245c8b4c6673fa3945c2014158245403,0xc3f6410cb0000000da850f04c3f64130,0x840f10302444f60db0fffffd6c850f02\n"
-    ".octa 0x48c6012824748b0824448b48fffffd5f,0xd2311379d285021c8d4cf2296024548b,0x420f4cd3294d0000000100000000ba49\n"
-    ".octa 0x11b2410fb0000003bd850f03fd8041da,0x45fffffd14850f04302444f601b06eeb,0xb0c28404eac03024548b48c0940fe339\n"
-    ".octa 0x850f02302444f609b0fffffcfc840f09,0x48c6012824748b0824448b48fffffcef,0xd2311379d285021c8d4cf2296024548b\n"
-    ".octa 0x420f4cd3294d0000000100000000ba49,0x12b24110b000000348850f03fd8341da,0xfffffca3850fd38949d3394924148b48\n"
-    ".octa 0x90e90b34c0940f5824743900000342e9,0x3f8836024548b484824448b48fffffc,0x8b483d4bb60f3243b60f00000137850f\n"
-    ".octa 0x894848438b48304388040ce6d3702474,0xe48b8958244c8b48000000e0b3894043,0x18083c6000000e89389000000\n"
-    ".octa 0x24448b4c082444894801b0000000fce9,0x8b486024748b48df8948000001f1e918,0x894d00000000e8cf894dc5894d302454\n"
-    ".octa 0xfa80c03104e280fffffc0ae9e8894df9,0x407e8d4940438b48fffffbfbe9011401,0x894cd5894d02348d48ca29c101084b8b\n"
-    ".octa 0x100000000b948c0311379d285cd,0xb48d4800000000e8f0420f48ce294800,0xc4894100000000e8df89480000009024\n"
-    ".octa 0x181be804101b000000000e8df8948,0x181868841c0950f00307b8007750000,0x80d9f601e180c9894430244c8b4c0000\n"
-    ".octa 0xf00000003bac9b60f10246c3b4803e1,0x41eb894dd2314508244c894803b1d144,0x1488e3c634800000000358d48ff4d8d\n"
-    ".octa 0x438b48e7ff1824448b4c6824748b48f7,0x2348d48ca29c101084b8b407e8d4940,0x79782454894c00000080248c894cd285\n"
-    ".octa 0xce29480000000100000000b948c03113,0x9024ac8d4800000000e8f0420f48,0x48c4894100000000e8ee8948df894800\n"
-    ".octa 0xe8ee8948df894800000000e8df89,0xe8ee8948df8948c589410000,0xd23145082444894803b001b23c74c084\n"
-    ".octa 0xd8d48ff438d4178245c8b4c,0x24ac8b486824748b48cf0148813c6348,0xe7ff1824448b4c30244c8b4c00000080\n"
-    ".octa 0xe92044d9f601e180c9894430244c8b4c,0xc9b60f10246c3b480000008024ac8b48,0x314508244c894803b1d1440fd5b60f41\n"
-    ".octa 0x358d48ff4b8d4178245c8b4cd2,0x448b4c6824748b48f701488e3c634800,0x31008b482824448b4801b241e7ff1824\n"
-    ".octa 0x7c83e8430f4c00000000bd41c0294cff,0xd8a30f440001fdffb8ff310d750a4824,0x3a0f66c66e0f66f2b60fc7b60f414f73\n"
-    ".octa 0xbe000000e08b8b3024447f0f6601c020,0xb941c03145482444894801b000000001,0x9c820f1024548944d9a30f450001fdff\n"
-    ".octa 0xfff38ee9e00845c0950f41d284fffff3,0xe90000018193b60f44abeb0d7eb60fff,0x1b7402e750100000181bb80ffffff73\n"
-    ".octa 0x158be83490c7500000000c824bc8348,0xc2950f4110246c3b48c7950f40000000,0x34e9d23145ffffff3ce9ca0845fa2041\n"
-    ".octa 0x1c394c0eb011b24103eb12b241ffffff,0x40c2940f10244c3b4cfffff95c820f24,0xf4108245c3b4cd72040c7940f40ff84\n"
-    ".octa 0x4de6d3d6897024548b483d4bb60fc794,0xc0940f000000e0b33b505e8b4d50668d,0xdb314501738d4918245c894c68538b48\n"
-    ".octa 0xf4cda394cdd430f4df52949242c8b4c,0x2041c72041ff2041c2950fdb854dda42\n"
-    ".quad 0xfff8fae9d08944d7\n"
-    ".byte 0xff\n"
-    ".reloc .Ltcp54+405,R_X86_64_PLT32,.Ltcp1-4\n"
-    ".reloc .Ltcp54+888,R_X86_64_PC32,.Ltcp10+172\n"
-    ".reloc .Ltcp54+1818,R_X86_64_PLT32,.Ltcp26-4\n"
-    ".reloc .Ltcp54+2728,R_X86_64_PLT32,.Ltcp20-4\n"
-    ".reloc .Ltcp54+2817,R_X86_64_PC32,.Ltcp55-4\n"
-    ".reloc .Ltcp54+3019,R_X86_64_PC32,.Ltcp55-4\n"
-    ".reloc .Ltcp54+3642,R_X86_64_PLT32,.Ltcp3-4\n"
-    ".reloc .Ltcp54+3721,R_X86_64_PLT32,.Ltcp4-4\n"
-    ".reloc .Ltcp54+3737,R_X86_64_PLT32,.Ltcp5-4\n"
-    ".reloc .Ltcp54+3748,R_X86_64_PLT32,.Ltcp12-4\n"
-    ".reloc .Ltcp54+3830,R_X86_64_PC32,.Ltcp55-4\n"
-    ".reloc .Ltcp54+3909,R_X86_64_PLT32,.Ltcp4-4\n"
-    ".reloc .Ltcp54+3928,R_X86_64_PLT32,.Ltcp5-4\n"
-    ".reloc .Ltcp54+3939,R_X86_64_PLT32,.Ltcp12-4\n"
-    ".reloc .Ltcp54+3950,R_X86_64_PLT32,.Ltcp14-4\n"
-    ".reloc .Ltcp54+3964,R_X86_64_PLT32,.Ltcp19-4\n"
-    ".reloc .Ltcp54+3996,R_X86_64_PC32,.Ltcp55-4\n"
-    ".reloc .Ltcp54+4093,R_X86_64_PC32,.Ltcp55-4\n"
-    ".section .rodata.tcp.55,\"a\",%progbits\n"
+    ".octa 0x4840c28348ccfd0f6608d1710f66c1fd,0x5e8d4cf0528d4ca7770ffe8348c0c683,0xf66c2f90f6608f2710f66d16f0f6610\n"
+    ".octa 0x8f3720f66c2690f66d833380f66d2ef,0xf66ca690f66e133380f6608f0720f66,0x66eec4700f66e1fe0f66e3fe0f66c8fe\n"
+    ".octa 0x7318fb8349f6314555c8700f66c4fe0f,0xc148d08948ca0f48128b483bebc03104,0x20efc149d78949243c8944f2b70f30e8\n"
+    ".octa 0x8b44f80144d001f00110eac1ffb70f45,0xde894cd2894ce8c3834918c28349243c,0xca0f41128b44197204fe8348c1fe0f66\n"
+    ".octa 0x4804c28348d6014510eac141f2b70f45,0x7202fe8348db3145c27e0f4166fcc683,0x8348dbb70f4508c3c141661ab70f4415\n"
+    ".octa 0x48f00144d00144de0145fec6834802c2,0x45d089c20108e2c112b60f0a7501fe83,0x6e0f416610eac1ea894410eac141fa89\n"
+    ".octa 0x2c2c40f663824548901c7c40f4166c5,0x66000000000500380f6603c2c40f4166,0xfe0f6655c1700f66c8fe0f66eec8700f\n"
+    ".octa 0x110e0c1d089c201ca0144c27e0f66c1,0x1fa8100000003b8c229fff9fffabad0,0x920f50fb83410c58b60f453677000100\n"
+    ".octa 0x4c02e2c148f2894404eec141de8945c0,0xc70841c7920f41243c8944d62948ce89,0xe0838b4400000493840f00000004b8\n"
+    ".octa 0x382444c748ed3145f6310000,0x2404c700000000202444c748,0x182444c74800000000282444c748\n"
+    ".octa 0xdb3145c289440824448944d231450000,0x2788b8b4c40538b48da450f4cf68440,0xc7940f41d28548c6950f41c9854d0000\n"
+    ".octa 0x8b4c39740000000290bb834275f70845,0x8b4c2973000001e0b3394c00000200b3,0x4d000001f0b38b48f08949000001e8bb\n"
+    ".octa 0xc6894cfe430f4cf73949fe470f4dfe39,0x850f0100000230bd8000000220bb894c,0xe0870f00000238933948000000ed\n"
+    ".octa 0x48ce894868244c8948ff3145f4894900,0x430f4c00000230b58d4c00000240b32b,0x1046c749067f0f41f3c0ef0f66fe\n"
+    ".octa 0x4cf739490000010000000000be480000,0x10b38b4836740000000208bd80fe430f,0xf9294cf1894800000218b38b4c000002\n"
+    ".octa 0xc149f02949f9420f4cf72949f7048d4d,0xc7894d02eec149fe014d76348d4f03e8,0x10000020885c748eed149fe894d06eb\n"
+    ".octa 0x218b3894c00000210bb894c000000,0x4c000001f0b38b48000001e88b8b4800,0x460f4dc6394d02e6c149000001f8838b\n"
+    ".octa 0xf4cf63949f1460f4cce3949fe014df0,0x894c68244c8b4800000220b3894cf643,0x84456d74f68440000002a0b5b60f44e6\n"
+    ".octa 0xbb80cc8949f789496374db854d6874f6,0x8b48000002188b8b4843750100000208,0xce460f48f1394802e1c148000001f8b3\n"
+    ".octa 0x348000001f0838b4c000001e8b38b48,0x49c1394cce460f48f13948000002108b,0xff3c0ef0f66000002208b8948c8430f\n"
+    ".octa 0x8949cc89493febdb314500000248837f,0xf40c3940f41db854dc1940ff68440f7,0x75f00841c80841c0940f41d28548c695\n"
+    ".octa 0x9083c700000280837f0ff3c0ef0f6619,0xf41cbb60f4101b34100000000000002,0xf6000002a0b58840f1450fff8445f6b6\n"
+    ".octa 0x268837f0ff3c0ef0f660c7401182444,0x837f0ff3c0ef0f660c7401c2f6410000,0x41fee180d98944305bb60f44000002a8\n"
+    ".octa 0x44000003b0b95d7402f98000000001ba,0x83414972c2394c48438b4c4f73d9a30f,0x41ce0840c6950f40c2394cc1940f06fb\n"
+    ".octa 0x3145c1ff48504b8b48307500000000ba,0xce430f4800000000b9ce2948d68948d2,0xf410008247c83d231451176684b3948\n"
+    ".octa 0xf631000001a0838d4cd2314503ebc294,0xbb8348f6311172d9a30f440000044fb9,0x6fb834108e6c1c6950f4000000000a0\n"
+    ".octa 0xc1c1940f0000000140bb8348c9311675,0x410afb8341f63145ca8941d1094418e1,0x8c89d10944f10910e1c1f18944c6940f\n"
+    ".octa 0x2488bb60f7175ca394c0000008024,0x2808bb60f44627501c1f6d1304400,0x290bb83147501c1f6d10844c9894400\n"
+    ".octa 0x3beb0b740000000294bb804675000000,0x58b3324008eec1327401c1f641d12045,0x268b33244227501c6f640000002\n"
+    ".octa 0x2a893324418eac141157501c6f641,0x8024b48d4800000158840f01c2f64100,0xe8c68941e1894cc7894cfb8948000000\n"
+    ".octa 0x100249c8b4cdf8948f0894400000000,0x480f8948764350526174746cb9480000,0x83ff4a8dd6b60f402824748b48086f89\n"
+    ".octa 0x74d285c93106eb00000037b9077302f9,0x240cb60fc801c0940f01fe8040c0310b,0x20247c80d231c6ff382474b60f01e183\n"
+    ".octa 0x4140244431380f66f7b60f41d6450f00,0x1043d60f4166086b894d045389410b89,0xc8c48148000000001c43c74118738941\n"
+    ".octa 0x8944c35d5f415e415d415c415b000000,0x8948187505fe8041202464894c28246c,0x245489481024448948ec428d48082474\n"
+    ".octa 0xc748ec628d4c14708d4d000000bae918,0xfd294dfe014d0cebe5894dffffffd8c0,0x4500000082840fed854d717402c08348\n"
+    ".octa 0x83495e74ff85451b7401ff83413eb60f,0x4d4d7202ff8349017eb60f454b7401fd,0x3eb60f45fe014d5874fd294d4872fd39\n"
+    ".octa 0x7401fd83493174ff8545b47401ff8341,0x73fd394d207202ff8349017eb60f451e,0x41fffffebbe9000002c0a3894c19eb99\n"
+    ".octa 0x8041c0311574ed854d05eb00000001bd,0x75c53949c0ff480000037d850f00063c,0x102464894c18245489480824748948ed\n"
+    ".octa 0xc2c16608c0c1660250b70f4100b70f41,0x78b70f450d68b60f45ce0f04708b4108,0x24548920e4c149f4894908c7c141660e\n"
+    ".octa 0x4c22048d4ad0b70f10e6c141d6894160,0x4c30e6c149782474894cf7b70f45f009,0x4108608b45f5094d28e5c14940246c89\n"
+    ".octa 0xeb094de3014d20e3c1490fe38341cc0f,0xeac1f289000000802494881270b70f45,0xc1f28930247489480000008724948818\n"
+    ".octa 0x848908e8c148000000852494896608ea,0xc1416600000088249c894c0000008124,0x6614408d490000009024b489446608c6\n"
+    ".octa 0x942484c70000000000922484c7,0x24448b48000000982484894800000000,0xa0249489481024548b48c0014c18\n"
+    ".octa 0x89480824748b48000000a82484894800,0xe8c1f8894428247c8b44000000b024b4,0xebc141c36e0f4166da8944241c8b4418\n"
+    ".octa 0x3a0f416608efc14101c3203a0f416608,0xc27e0f6603c2203a0f6618eac102c220,0x3b666024548b0c75133901b24101b341\n"
+    ".octa 0x282474b60f44d7b60f41c2950f410453,0x382454b60f01c2203a0f66c66e0f4166,0x6603c0203a0f66c0b60f02c2203a0f66\n"
+    ".octa 0x802484b70f1075344339c07e0f,0x2fa802024548b48c3950f4138433b66,0x31000000e1840fc20841d82044c0930f\n"
+    ".octa 0xff3145506d8b4c2414894850558d48c0,0x4c11fe8041f0b60f4400000158b58b48,0x894c3824448948702444894c08247489\n"
+    ".octa 0x1d4830f000000c024b4894860246c,0x248c8d48fd8949cf894930247c894400,0x894d2824548bf68944df894800000080\n"
+    ".octa 0x4c8948c1940f08fe804100000000e8cc,0x80d9f601e180d189444024548b4c1024,0xf00000003bac9b60f1824643b4c03e1\n"
+    ".octa 0xa30f440001fa5eb9e0894cdb3145d144,0xc6830f7024748b48f9894cef894cf1,0x468d45db3145282444894c02b0410000\n"
+    ".octa 0x44c8014d8104634f000000000d8d4cff,0xe0ff41240c8b4c60246c8b4c30247c8b,0x44e7894d000000db830f08f883fd428d\n"
+    ".octa 0xab8b4400000138b38b44000000f49b8b,0x24448908438bec2945f4894500000140,0x44894848438b482404894840438b4810\n"
+    ".octa 0xba0f01e28341c289414024448b483824,0xc5840ff209e28944d6114401e0,0xee394500000123840ff6850824748948\n"
+    ".octa 0xfc894d04402444f601b00000012e850f,0x8e840f10402444f609b0fffffe9b850f,0xf45000005a0b841000001c2e9fffffe\n"
+    ".octa 0x268830f60246c8b4c30247c8b44f0a3,0x468d45db3145282444894c03b0410000,0x4cc8014d8104634f000000000d8d4cff\n"
+    ".octa 0x8300000006b801f88348e0ff41240c8b,0x23a840f02fa83fffff714e900d8,0x1b000000263850f4024548b4801fa83\n"
+    ".octa 0x10402444f603b0fffffe18850f04c2f6,0x534c0940f02402444f6fffffe0b850f,0x98840f30245c3944fffffdfce9\n"
+    ".octa 0x850f68244c894812fe8341000000f9e9,0xf00000221850f0320247c8300000187,0xca80e6d37824748b483d4bb60f3253b6\n"
+    ".octa 0xe0b389404b8948484b8b4830538804,0xa38944000000e493893024548b480000,0x1e4e9000000018083c6000000e8\n"
+    ".octa 0xe92972e23944da2944c2893024448b48,0x3944da2944c2893024448b480000008a,0x2444030824448b48d2f7da89441572e2\n"
+    ".octa 0x4c2f64024548b486673e03944d00130,0x850ffc894d02c2f60cb0000000e3850f,0xfffd30840f10402444f60db0fffffd3d\n"
+    ".octa 0xf029e08944d6011024748b24148b48ff,0x100000000be48c0311379c085c20148,0x3c2024448b48d0420f48f22948000000\n"
+    ".octa 0x1b075eb11b3410fb00000041e850f03,0x3945fffffce3850ffc894d04402444f6,0xb004eac0c2894024448b48c6940f40ee\n"
+    ".octa 0x402444f609b0fffffcc7840ff2844009,0x11024748b24148b48fffffcba850f02,0x48c0311379c085c20148f029e08944d6\n"
+    ".octa 0xd0420f48f229480000000100000000be,0x10b0000003a2850f03f8832024448b48,0x850ff28948f239483824748b4812b341\n"
+    ".octa 0x940f30245c39440000039ce9fffffc6d,0x2024548b48fffffc56e9fc894d0b34c0,0x4bb60f3253b60f00000161850f03fa83\n"
+    ".octa 0x8b4830538804ca80e6d37824748b483d,0x24548b48000000e0b389404b8948484b,0x83c6000000e8a38944000000e4938930\n"
+    ".octa 0x2444894801b000000124e90000000180,0x4858247c894800000231e9240c8b4c28,0xc7894dcd89494024548b48e68944df89\n"
+    ".octa 0x894de1894d00000000e8cc894de6894d,0xfffbc0e958247c8b48e9894cf8894df4,0xfffffbb1e9011401fa80c03104e280ff\n"
+    ".octa 0xd42941ca0108538b40558d4c404b8b48,0x311379e48545fd8949ce894d0c348d49,0xf48d629480000000100000000ba48c9\n"
+    ".octa 0x8024b48d4800000000e8d7894cf142,0x48102444894800000000e8df89480000,0x181bd8001b000000000e8df89\n"
+    ".octa 0x4c000001818588c0950f00307b800775,0x4c03e180d9f601e180d189444024548b,0xf00000003bac9b60f1824743b4cf089\n"
+    ".octa 0x244c8b48db314528244c894803b1d144,0x1498e04634c00000000358d48c9ff08,0x8b4c7024748b4868244c8b48ef894cf0\n"
+    ".octa 0x8d4c404b8b48e0ff41240c8b4c60246c,0x85450c348d49d42941ca0108538b4055,0x1379000000b8248c894c58247c8948e4\n"
+    ".octa 0x48d629480000000100000000ba48c931,0x8024b48d4c00000000e8d7894cf1420f,0x894800000000e8f6894cdf8948000000\n"
+    ".octa 0x894cdf894800000000e8df8948102444,0xe8f6894cdf8948c4894100000000e8f6,0x2444894803b001b24474c08400000000\n"
+    ".octa 0xd8d48c8ff0824448b48db314528,0x8b4858247c8b48c801498104634c0000,0xb824848b487024748b4868244c\n"
+    ".octa 0x24548b4ce0ff41240c8b4c4024548b4c,0x24848b48e12044d9f601e180d1894440,0xd4b60f41c9b60f1824443b48000000b8\n"
+    ".octa 0x4c8b48db314528244c894803b1d1440f,0x498e04634c00000000358d48c9ff0824,0x24748b4868244c8b4858247c8b48f001\n"
+    ".octa 0x3145018b4901b341e0ff41240c8b4c70,0x7c83e8430f4c00000000bd41e8294cc9,0xfdffb80824448b4cc9314513750a2024\n"
+    ".octa 0xb60f4118244c894c6573c0a30f440001,0xf6601c0203a0f66c66e0f66f2b60fc7,0x1b8000000e0838b444024447f\n"
+    ".octa 0x1fdffb941d23145202474894801b640,0xa73241c8944f1a30f410824748b4800,0xc2950f41d284fffff25be91024748b48\n"
+    ".octa 0xb60f44fffff248e9f208411024748b48,0xffff5ae9000001819bb60f4494eb0d4e,0xbc834801b0412e750100000181bb80ff\n"
+    ".octa 0x158bd83480c7500000000c024,0xc32045c3950f411824443b48c0950f41,0xffffff1be9db3145ffffff23e9d30845\n"
+    ".octa 0xf38245439480eb011b34103eb12b341,0xf18244c3b4c08245c8844fffff8cc82,0x24143b48c62040c6940f40d28445c094\n"
+    ".octa 0xd289417824548b483d43b60fc7940f41,0x4850458d48d18948e2d341c189ca8948,0x940f000000e0933b44506d8b4c240489\n"
+    ".octa 0x558d4d38245c8b4cf6314568538b48c0,0x4df2420f4cf2394cf3430f4dd3294d01,0xb60fd72041c72041f72041c2950ff685\n"
+    ".quad 0xfffff858e9082444\n"
+    ".reloc .Ltcp55+390,R_X86_64_PLT32,.Ltcp1-4\n"
+    ".reloc .Ltcp55+891,R_X86_64_PC32,.Ltcp10+172\n"
+    ".reloc .Ltcp55+2016,R_X86_64_PLT32,.Ltcp26-4\n"
+    ".reloc .Ltcp55+2930,R_X86_64_PLT32,.Ltcp20-4\n"
+    ".reloc .Ltcp55+3028,R_X86_64_PC32,.Ltcp56-4\n"
+    ".reloc .Ltcp55+3252,R_X86_64_PC32,.Ltcp56-4\n"
+    ".reloc .Ltcp55+3895,R_X86_64_PLT32,.Ltcp3-4\n"
+    ".reloc .Ltcp55+3990,R_X86_64_PLT32,.Ltcp4-4\n"
+    ".reloc .Ltcp55+4006,R_X86_64_PLT32,.Ltcp5-4\n"
+    ".reloc .Ltcp55+4019,R_X86_64_PLT32,.Ltcp12-4\n"
+    ".reloc .Ltcp55+4102,R_X86_64_PC32,.Ltcp56-4\n"
+    ".reloc .Ltcp55+4199,R_X86_64_PLT32,.Ltcp4-4\n"
+    ".reloc .Ltcp55+4218,R_X86_64_PLT32,.Ltcp5-4\n"
+    ".reloc .Ltcp55+4231,R_X86_64_PLT32,.Ltcp12-4\n"
+    ".reloc .Ltcp55+4242,R_X86_64_PLT32,.Ltcp14-4\n"
+    ".reloc .Ltcp55+4256,R_X86_64_PLT32,.Ltcp19-4\n"
+    ".reloc .Ltcp55+4286,R_X86_64_PC32,.Ltcp56-4\n"
+    ".reloc .Ltcp55+4391,R_X86_64_PC32,.Ltcp56-4\n"
+    ".section .rodata.tcp.56,\"a\",%progbits\n"
     ".balign 4\n"
-    ".Ltcp55:\n"
+    ".Ltcp56:\n"
     ".octa 0x0,0x0,0x0\n"
     ".octa 0x0\n"
     ".quad 0x0\n"
-    ".reloc .Ltcp55+0,R_X86_64_PC32,.Ltcp54+4119\n"
-    ".reloc .Ltcp55+4,R_X86_64_PC32,.Ltcp54+4120\n"
-    ".reloc .Ltcp55+8,R_X86_64_PC32,.Ltcp54+4124\n"
-    ".reloc .Ltcp55+12,R_X86_64_PC32,.Ltcp54+4131\n"
-    ".reloc .Ltcp55+16,R_X86_64_PC32,.Ltcp54+4132\n"
-    ".reloc .Ltcp55+20,R_X86_64_PC32,.Ltcp54+4136\n"
-    ".reloc .Ltcp55+24,R_X86_64_PC32,.Ltcp54+4143\n"
-    ".reloc .Ltcp55+28,R_X86_64_PC32,.Ltcp54+4144\n"
-    ".reloc .Ltcp55+32,R_X86_64_PC32,.Ltcp54+4148\n"
-    ".reloc .Ltcp55+36,R_X86_64_PC32,.Ltcp54+4155\n"
-    ".reloc .Ltcp55+40,R_X86_64_PC32,.Ltcp54+4156\n"
-    ".reloc .Ltcp55+44,R_X86_64_PC32,.Ltcp54+4160\n"
-    ".reloc .Ltcp55+48,R_X86_64_PC32,.Ltcp54+4167\n"
-    ".reloc .Ltcp55+52,R_X86_64_PC32,.Ltcp54+4168\n"
-    ".reloc .Ltcp55+56,R_X86_64_PC32,.Ltcp54+4172\n"
-    ".reloc .Ltcp55+60,R_X86_64_PC32,.Ltcp54+4176\n"
-    ".reloc .Ltcp55+64,R_X86_64_PC32,.Ltcp54+4324\n"
-    ".reloc .Ltcp55+68,R_X86_64_PC32,.Ltcp54+4315\n"
-    ".section .text.tcp.56,\"ax\",%progbits\n"
+    ".reloc .Ltcp56+0,R_X86_64_PC32,.Ltcp55+4427\n"
+    ".reloc .Ltcp56+4,R_X86_64_PC32,.Ltcp55+4428\n"
+    ".reloc .Ltcp56+8,R_X86_64_PC32,.Ltcp55+4432\n"
+    ".reloc .Ltcp56+12,R_X86_64_PC32,.Ltcp55+4439\n"
+    ".reloc .Ltcp56+16,R_X86_64_PC32,.Ltcp55+4440\n"
+    ".reloc .Ltcp56+20,R_X86_64_PC32,.Ltcp55+4444\n"
+    ".reloc .Ltcp56+24,R_X86_64_PC32,.Ltcp55+4451\n"
+    ".reloc .Ltcp56+28,R_X86_64_PC32,.Ltcp55+4452\n"
+    ".reloc .Ltcp56+32,R_X86_64_PC32,.Ltcp55+4456\n"
+    ".reloc .Ltcp56+36,R_X86_64_PC32,.Ltcp55+4463\n"
+    ".reloc .Ltcp56+40,R_X86_64_PC32,.Ltcp55+4464\n"
+    ".reloc .Ltcp56+44,R_X86_64_PC32,.Ltcp55+4468\n"
+    ".reloc .Ltcp56+48,R_X86_64_PC32,.Ltcp55+4475\n"
+    ".reloc .Ltcp56+52,R_X86_64_PC32,.Ltcp55+4476\n"
+    ".reloc .Ltcp56+56,R_X86_64_PC32,.Ltcp55+4480\n"
+    ".reloc .Ltcp56+60,R_X86_64_PC32,.Ltcp55+4484\n"
+    ".reloc .Ltcp56+64,R_X86_64_PC32,.Ltcp55+4657\n"
+    ".reloc .Ltcp56+68,R_X86_64_PC32,.Ltcp55+4648\n"
+    ".section .text.tcp.57,\"ax\",%progbits\n"
     ".balign 16\n"
-    ".Ltcp56:\n"
+    ".Ltcp57:\n"
     ".globl tcp_c_connection_close\n"
     ".hidden tcp_c_connection_close\n"
     ".type tcp_c_connection_close,%function\n"
-    ".size tcp_c_connection_close,429\n"
+    ".size tcp_c_connection_close,585\n"
     "tcp_c_connection_close:\n"
-    ".octa 0x74746cbf495053544155415641574155,0x394c0000001fbd08778b4c7643505261,0xfb89480000015b850f07110fc0570f3f\n"
-    ".octa 0x317e80410000000ebd000002c0a68b4d,0x8001b2fee180c1893046b60f41727400,0xf000003b0b9d231000000b3840f02f9\n"
-    ".octa 0x487e8b49404e8b49000000a3830fc1a3,0x940f06f88300000090820ff9394801b2,0x7e8b497c75d70840c7950f40f93948c2\n"
-    ".octa 0xf4800000000bff92948d231c7ff4850,0xe0be83416376687e3949f943,0xdbd4174c0853046b60f4156ebc2940f\n"
-    ".octa 0xc641ffffff75850f00327e8041000000,0x6348000000000d8d48c8ffed31013246,0x3bef58949f7894ce0ffc801488104\n"
-    ".octa 0xbdffffff44e9ee894c00000000e80000,0x44fb9ff31d231ffffff3ae90000000b,0x40be83491f7506f8831373c1a30f0000\n"
-    ".octa 0xa0be834914ebc0940f4100000001,0xb948c03145e17406f883c7950f400000,0x4cce420f48ce39484000000000000000\n"
-    ".octa 0x7c8840042454880af883cc460f49e139,0x8844000001a0be8d49062444940f0524,0xe80424748d4840568b49072444\n"
-    ".octa 0x415b08c48348e8890873894c3b894c00,0xa0e9093046c641c35d5f415e415d415c\n"
-    ".quad 0x53046c641fffffe\n"
-    ".long 0xfffe96e9\n"
+    ".octa 0x746cbf4910ec83485354415641574155,0x4c0000001fbd08778b4c764350526174,0x8948000001ef850f07110fc0570f3f39\n"
+    ".octa 0xb948000002c0868b49fb,0xc8460f48c13948ce420f48ce39484000,0x56b60f417a7400317e80410000000ebd\n"
+    ".octa 0x2fe804000000001b8fee68040d68930,0x830fd6a30f000003b0be000000b0840f,0xffe3948487e8b4940768b49000000a0\n"
+    ".octa 0xf40fe3948c0940f06fa830000009182,0x507e8b497a7500000000b8c70840c795,0x430f4800000000bffe2948c031c7ff48\n"
+    ".octa 0xe0be8341c0315f76687e3949fe,0xeb840fc0853046b60f4150ebc0940f00,0x69850f00327e80410000000dbd000000\n"
+    ".octa 0x158d48c8ffed31013246c641ffffff,0xbef7894ce0ffd0014882046348000000,0xe9e1894c00000000e8cc894900000003\n"
+    ".octa 0x41f631000001a0be8d49c031ffffff38,0xbe8349f6311172d0a30f410000044fb8,0x7506fa8308e6c1c6950f4000000000a0\n"
+    ".octa 0xc0940f410000000140be8349c0314519,0xafa83c03145c08944c0094118e0c141,0x4110e1c141c1894540568b49c0940f41\n"
+    ".octa 0x278963b490c244c8944c10941f109,0xf641c13041000002488eb60f45797500,0x41ca8945000002808eb60f45687501c1\n"
+    ".octa 0x290be8341207501c2f641c208,0xbbd3eeb15740000000294be80414a75,0x7401c1f641c12041fffffe84e9000000\n"
+    ".octa 0x7501c6f64000000258b6324108eec12b,0xe8c10e7501c0f641000002688632451b,0x24748d48207401a8000002a886324118\n"
+    ".octa 0x48e8890873894c3b894c00000000e80c,0xc08e8949c35d5f415e415c415b10c483,0x41fffffe1de9093046c641e1eb000002\n"
+    ".quad 0xfffe13e9053046c6\n"
     ".byte 0xff\n"
-    ".reloc .Ltcp56+218,R_X86_64_PC32,.Ltcp57-4\n"
-    ".reloc .Ltcp56+243,R_X86_64_PLT32,.Ltcp0-4\n"
-    ".reloc .Ltcp56+381,R_X86_64_PLT32,.Ltcp26-4\n"
-    ".section .rodata.tcp.57,\"a\",%progbits\n"
+    ".reloc .Ltcp57+255,R_X86_64_PC32,.Ltcp58-4\n"
+    ".reloc .Ltcp57+280,R_X86_64_PLT32,.Ltcp0-4\n"
+    ".reloc .Ltcp57+530,R_X86_64_PLT32,.Ltcp26-4\n"
+    ".section .rodata.tcp.58,\"a\",%progbits\n"
     ".balign 4\n"
-    ".Ltcp57:\n"
+    ".Ltcp58:\n"
     ".octa 0x0,0x0\n"
     ".quad 0x0\n"
-    ".reloc .Ltcp57+0,R_X86_64_PC32,.Ltcp56+231\n"
-    ".reloc .Ltcp57+4,R_X86_64_PC32,.Ltcp56+235\n"
-    ".reloc .Ltcp57+8,R_X86_64_PC32,.Ltcp56+75\n"
-    ".reloc .Ltcp57+12,R_X86_64_PC32,.Ltcp56+431\n"
-    ".reloc .Ltcp57+16,R_X86_64_PC32,.Ltcp56+83\n"
-    ".reloc .Ltcp57+20,R_X86_64_PC32,.Ltcp56+87\n"
-    ".reloc .Ltcp57+24,R_X86_64_PC32,.Ltcp56+433\n"
-    ".reloc .Ltcp57+28,R_X86_64_PC32,.Ltcp56+95\n"
-    ".reloc .Ltcp57+32,R_X86_64_PC32,.Ltcp56+99\n"
-    ".reloc .Ltcp57+36,R_X86_64_PC32,.Ltcp56+103\n"
-    ".section .text.tcp.58,\"ax\",%progbits\n"
+    ".reloc .Ltcp58+0,R_X86_64_PC32,.Ltcp57+268\n"
+    ".reloc .Ltcp58+4,R_X86_64_PC32,.Ltcp57+272\n"
+    ".reloc .Ltcp58+8,R_X86_64_PC32,.Ltcp57+100\n"
+    ".reloc .Ltcp58+12,R_X86_64_PC32,.Ltcp57+587\n"
+    ".reloc .Ltcp58+16,R_X86_64_PC32,.Ltcp57+108\n"
+    ".reloc .Ltcp58+20,R_X86_64_PC32,.Ltcp57+112\n"
+    ".reloc .Ltcp58+24,R_X86_64_PC32,.Ltcp57+589\n"
+    ".reloc .Ltcp58+28,R_X86_64_PC32,.Ltcp57+120\n"
+    ".reloc .Ltcp58+32,R_X86_64_PC32,.Ltcp57+124\n"
+    ".reloc .Ltcp58+36,R_X86_64_PC32,.Ltcp57+128\n"
+    ".section .text.tcp.59,\"ax\",%progbits\n"
     ".balign 16\n"
-    ".Ltcp58:\n"
+    ".Ltcp59:\n"
     ".globl tcp_c_connection_connect\n"
     ".hidden tcp_c_connection_connect\n"
     ".type tcp_c_connection_connect,%function\n"
@@ -3096,137 +3173,143 @@ __asm__(
     ".octa 0x45202454b70f442824448b4818ec8348,0x12244c894400000001102444c748098b,0xe810244c8d4c24048948162454894466\n"
     ".quad 0x18c4834800000000\n"
     ".byte 0xc3\n"
-    ".reloc .Ltcp58+48,R_X86_64_PLT32,.Ltcp27-4\n"
-    ".section .text.tcp.59,\"ax\",%progbits\n"
-    ".balign 16\n"
-    ".Ltcp59:\n"
-    ".globl tcp_c_connection_consume\n"
-    ".hidden tcp_c_connection_consume\n"
-    ".type tcp_c_connection_consume,%function\n"
-    ".size tcp_c_connection_consume,662\n"
-    "tcp_c_connection_consume:\n"
-    ".octa 0xb84818ec834853544155415641574155,0x4c0000000001c748764350526174746c,0x110fc0570f0739480000001fbd08678b\n"
-    ".octa 0x4510244c8948fe89490000022f850f07,0x44b60f41fee78040c78944312444b60f,0xe90000000ebddb310c7502ff80403024\n"
-    ".octa 0x840fc00841db310000000bbd000000f1,0x249c8b4d0000013824bc8b41000000e1,0x167501f880413c2444b60f4500000140\n"
-    ".octa 0xf4421244cb60f450120247c8041c931,0xd341d989da2945fa8941d9b60f41c945,0x294dd9894deb420f4dd58949d33949ea\n"
-    ".octa 0x83490f77d3394900000140248c894de9,0x8c8b410000019a840f000000015824bc,0x49dbf741d38941ca29fa890000013c24\n"
-    ".octa 0x13c249c8945eb0145d9420f44d539,0x2575d285452a7702fa80c931fc508d00,0x410120247c8041c9311474c08445c931\n"
-    ".octa 0xefd3cf2944cab60fd1450f212454b60f,0x18124bc8041c9b60fc1950fff85,0x18124948841d1440f00000001ba00\n"
-    ".octa 0x1b2fee78040c789ed314503eb01b300,0xc7a30f000003b0bfd2315c7402ff8040,0x394901b248247c8b494024448b4d5073\n"
-    ".octa 0xc7950f40f83949c2940f06f8833f72f8,0x49d231c7ff4850247c8b492b75d70840,0x68247c3949f8430f4900000000bff829\n"
-    ".octa 0x2ebc2940f00000000e024bc83411076,0x44fb9ff31000002c024848b4dd231,0x4000000000a024bc83490d72c1a30f00\n"
-    ".octa 0x7506f88300000000b941ff3145c7950f,0xb948c1940f41000000014024bc83490d,0x4cce420f48ce39484000000000000000\n"
-    ".octa 0x7c88400c2454880af883c8460f49c139,0x44000001a024bc8d490e2444940f0d24,0xe80c24748d484024548b490f244c88\n"
-    ".octa 0x68949764350526174746cb848000000,0x4c1024448b480866894def440f4ddb84,0x415c415b18c48348e889ef450f412889\n"
-    ".octa 0x13c2484c741c35d5f415e415d,0xfffe7a860f02fa80c931fc508d000000\n"
-    ".long 0xfe9fe9ff\n"
-    ".short 0xffff\n"
-    ".reloc .Ltcp59+575,R_X86_64_PLT32,.Ltcp26-4\n"
+    ".reloc .Ltcp59+48,R_X86_64_PLT32,.Ltcp27-4\n"
     ".section .text.tcp.60,\"ax\",%progbits\n"
     ".balign 16\n"
     ".Ltcp60:\n"
-    ".globl tcp_c_connection_emit\n"
-    ".hidden tcp_c_connection_emit\n"
-    ".type tcp_c_connection_emit,%function\n"
-    ".size tcp_c_connection_emit,3749\n"
-    "tcp_c_connection_emit:\n"
-    ".octa 0x98ec814853544155415641574155,0xed31764350526174746cbf48fe894900,0x417f0f41f3c0ef0f66c5940f41c98548\n"
-    ".octa 0x490000001fb8087e8b4d017f0f41f310,0xf8814900000c7f850f067f0f41f33e39,0x21b8087e894d3e89491177000005ef\n"
-    ".octa 0x49000000001c2444c700000c65e90000,0x4000000000000000bf48000002c0878b,0xf45f8460f48c73948fe420f48fe3948\n"
-    ".octa 0x4c38247c894801c4f64100000184a7b6,0x180bf80410e7500000090248c89,0x8040e6894440478b4900000136840f00\n"
-    ".octa 0xc74801e783feb60f40052474884001f6,0x3145f631db31db314500000000282444,0x10244c894c290c8d4c0ce5c1ed8844c0\n"
-    ".octa 0x420f4dc12949e9894dd23145486f8b4d,0xfa39483073c0394cd2420f49f22948ca,0x80bf8041000001f7850f01c4f6412b73\n"
-    ".octa 0x181bf8041000001e9850f00000001,0xc4f641000001d6e900000216850f0000,0x1e6840f0000000180bf80410e7501\n"
-    ".octa 0x502444c74024447f0f66c0ef0f6600,0xfe508dc2b60f41052454b60f44000000,0xf883000001ed820f2824448b4c02fa83\n"
-    ".octa 0x894ced313824648b4c000004b9850f01,0xc3894800000000e81024548b48f631ff,0xd0834801f8834848478b49344f8b41\n"
-    ".octa 0x81bf8041000000018087c64148478949,0x8040000000f0afb60f410c7400000001,0x1b800000181af884110244c8901f5\n"
-    ".octa 0x7f0f66000004f0e9e3894ded31450000,0x4fbe3047b60f416024447f0f66702444,0x24548948000000cd820fc6a30f000004\n"
-    ".octa 0x410c57b70f4140778d4908244c894810,0xbf013e7f8041c0313a4fb70f,0x4bf04f8834900000158878b4d2175\n"
-    ".octa 0x4fd3c8dc0854df8420f490000,0x41d0420ffa2966d1420fd13966f8440f,0x247c8d483247b60f45000001828fb60f\n"
-    ".octa 0x8244c8b480160247c8000000000e860,0x244c8b4c7824548b4c52751024548b48,0xc03145008b4840478d4968247cb60f70\n"
-    ".octa 0x4028247c8948f0420f49c62948ce894c,0x4cfa420f49d3894c00000001bf02ff80,0x894d02052444c6f8420f49cf294ccf01\n"
-    ".octa 0x181bf8041fffffe08e9c8894dcb,0x894cc9314548478b4d40478b49307400,0xf4928247c894800000000bfc62948c6\n"
-    ".octa 0xcee9ff31db31db314503052444c6f142,0x3145e4314500000002b887c641fffffd,0x5c8b4ced3100000000102444c7db31ed\n"
-    ".octa 0xfffffe11830fce394c00000888e93824,0xf66fffffe03840f0000000181bf8041,0x502444c74024447f0f66c0ef\n"
-    ".octa 0x41c0b60f41db31db3145c0314503b241,0x5c894c68244489486024548948d2b60f,0x4c01fa803e57b60f4178245c89487024\n"
-    ".octa 0x490000009b850f08245c894820245c89,0x748d480000008d840f0000000158bf83,0x44c4894d10244c8b48d231ff894c6024\n"
-    ".octa 0x6c8b4ce6894cda894100000000e8d389,0x804134578b41c4894938245c8b4c2024,0x2fe8040000007be840f1024548903fa\n"
-    ".octa 0x8b49e8014c082444420f4800000001b8,0xfd4e8d484f8949c8470f48c83948484f,0xc8bf804100000298870ffdf980\n"
-    ".octa 0x87c641e3894c000000d0878949077501,0x8d4c02fa804100000290e90000000181,0xf40db8548c0930f02f8804159752924\n"
-    ".octa 0xc0ff4850478b49247510b0c60840c694,0x24740348f7430f48c72948df894cf631,0x6f8b45100c03e0c0c0940f68773b4908\n"
-    ".octa 0x4002fe8040fee68040c68944dd014508,0x6f034509eb0624748840c60840c6940f,0x138878b41c9894910062444c608\n"
-    ".octa 0x1375013c7f8041c93100000140b78b49,0x40f9450f217fb60f4101207f8041c931,0xffffb90000ffff3de8d3f029cfb60f\n"
-    ".octa 0x14b80000008c248c89c8420f00,0xb904f8834800000158878b492a74d284,0xc8d48c889c08548c8420f4800000004\n"
-    ".octa 0xf41c1450f4800000014b800000018c5,0xbf8b41385fb70f4534244c8966044fb7,0x548844282444894c02fa8041000000f4\n"
-    ".octa 0x7536245c8944660000008824bc890524,0x940f0008247c8348c1930f02f8804118,0x8b45e3894cf6310000020f840fca08c2\n"
-    ".octa 0x896608c0c166342444b70f346f8b410f,0xf410243896608c0c166362444b70f03,0x4389c80f0000008824848b046b8944cd\n"
-    ".octa 0x24848b0d4388062444b60f500c43c608,0x1043c70e43896608c0c1660000008c,0x4577000000fffc814914668d4c000000\n"
-    ".octa 0x4cd98948dbef0f66e4ef0f66c0ef0f66,0x44f820f052454b60f4410fc8349e289,0x390850f30a8d0f7f08904c683480000\n"
-    ".octa 0xd2ef0f66d98948e2894cc9ef0f660000,0xe8cd8945e6894cdf8948000003b9e9,0x20246c8b4c38245c8b4ce98945000000\n"
-    ".octa 0x4ebe9052454b60f442824748b48,0x1fc804138245c8b4c00000184af8d49,0x89660000018c87b70f410000016b850f\n"
-    ".octa 0x8b414024448900000188878b41442444,0x19487b60f41482444890000019087,0x5024448900000198878b414c24448900\n"
-    ".octa 0x4cc9314024548d480477b70f413f8b41,0x153e900000000e8dc894d1024448b,0x1fe8040000000018187c641e3894c00\n"
-    ".octa 0x1b540e43145000000018287c6410875,0x8f8b49000004e2860fc4420f49e8294c,0x278af3b4d4b73cd394900000228\n"
-    ".octa 0xc0ef0f6615750000000294bf80411f75,0x29487c64100000248877f0f41f3,0xc74900000230877f0f41f3c0ef0f6601\n"
-    ".octa 0x258877f0f41f3000000000000024087,0x8d4a1d740100000230bf804127eb0000,0x978949000000010000023087c7492814\n"
-    ".octa 0x4828148d4a000002409f894d00000238,0x1b540000002288f8949ca470f48ca39,0x68578b4950578b4d00000447e9c48949\n"
-    ".octa 0x420f48d1294c20244c8b48f631c2ff49,0x8b49587f8b4900000544840fd28548ce,0xf2420f48f23948c6294c70478b4d6077\n"
-    ".octa 0x525e9c7014cd7470f480724548d48,0x6824447f0ff300000003602444c74800,0x8b4c013e7f804100000000782444c748\n"
-    ".octa 0x4820740000000158bf83492a75102454,0xe8dc894dd1894cd231ff894c6024748d,0x4100000134e9c38948e3894d00000000\n"
-    ".octa 0xf4b78b413857b70f410447b70f,0x34500000140878b4d00000138bf8b41,0x7f8041c9311475013c7f8041c931086f\n"
-    ".octa 0x44c9b60f41c9450f44214fb60f450120,0xffffb8410000ffffff81efd3c729,0xfcd0f4108c2c16608c0c166c7420f44\n"
-    ".octa 0x894166344f8b413f8b4108c0c14166ce,0x416608728941046a8945025289416602,0x1042c7410e4289456610500c42c7\n"
-    ".octa 0x500380f66026f0f41f30000,0xfe0f66c1690f66d033380f66c9ef0f66,0x6655c1700f66c8fe0f66eec8700f66c2\n"
-    ".octa 0xf6610efc1c76e0f66c07e0f66c1fe0f,0x3c1c40f6602c7c40f6610e9c101c1c4,0xf66eec8700f66000000000500380f66\n"
-    ".octa 0x1c17e0f66c1fe0f6655c1700f66c8fe,0x48c8af0f4880008001b90001001905c8,0xd0f7c889c101d12910e2c1ca892fe9c1\n"
-    ".octa 0x14bb1042894166c1440fc98508c0c166,0x8041000001888f8d4934478d49000000,0x10244489008bc1440f480100000184bf\n"
-    ".octa 0x19887c741000000000000019087c749,0x45c74800000845c766000000000000,0x22de9ed3145e4314501b54000000000\n"
-    ".octa 0xc9ef0f6603e083c0ff04e8c1f0890000,0x441f0f66d2ef0f66d98948e2894c,0xfd0f6608d3710f66d3fd0f66196f0ff3\n"
-    ".octa 0xf66e275c8ff48f0c2834810c18348cb,0x401f0f657230fe8348d96f0f66e26f,0xff320796f0ff310716f0ff3296f0ff3\n"
-    ".octa 0xe9fd0f6608d5710f66d5fd0f6630596f,0xfd0f6608d6710f66e6fd0f66e76f0f66,0xf66fdfd0f66fefd0f6608d7710f66e2\n"
-    ".octa 0x4840c18348dffd0f6608d3710f66e3fd,0x770ffa8348d46f0f66cb6f0f66c0c283,0xf66e1f90f6608f1710f66cb6f0f669f\n"
-    ".octa 0xf4720f6608f1720f66e0690f66cc3338,0xf66dcfe0f66d8690f66d333380f6608,0x66c2fe0f66eec2700f66d3fe0f66d1fe\n"
-    ".octa 0x7338245c8b4c08fa8348f63155c8700f,0xc148f88948cf0f48398b4835ebc03104,0x20e9c149f98949cd8945c7b70f4430e8\n"
-    ".octa 0x45c80144f801c0014410efc1c9b70f45,0x8348c1fe0f66f8c2834808c18348e989,0xfe0110efc1f7b70fcf0f398b147204fa\n"
-    ".octa 0x48c03145c77e0f66fcc2834804c18348,0xf4508c0c1416601b70f44157202fa83,0x1f801c60144fec2834802c18348c0b7\n"
-    ".octa 0x89c10108e1c109b60f0a7501fa8348f0,0xc16e0f41662824748b4820246c8b4cc8,0xc40f416610edc101c5c40f6610e9c141\n"
-    ".octa 0x500380f6603c5c40f6602c1,0xf6655c1700f66c8fe0f66eec8700f66,0x10005050c048d41c101c17e0f66c1fe\n"
-    ".octa 0xca892fe9c148c8af0f4880008001b900,0x8508c0c166d0f7c889c101d12910e2c1,0x3fa804134578b4110438966c1440fc9\n"
-    ".octa 0x6f8b4de3894cfffff842850f10245489,0x41e4314501b540000000018187c64148,0x577402fa8001b1fee280c2893047b60f\n"
-    ".octa 0x40578b494b73c2a30f000003b0bac931,0x940f06f8833c72f2394801b148778b49,0x778b492875ce0840c6950f40f23948c1\n"
-    ".octa 0xf4800000000bef22948c931c6ff4850,0xe0bf83410f7668773949f243,0xa30f0000044fbed231c93102ebc1940f\n"
-    ".octa 0xbec2950f00000000a0bf83490b72c6,0x140bf83490c7506f883000000,0xf1d2454881c244c880af883c6940f40\n"
-    ".octa 0x1f24748840000001a0bf8d491e244494,0xe8d9894c1c24748d4840578b49,0x894d068949764350526174746cb84800\n"
-    ".octa 0xf751024548b00000000b8ed8440087e,0x48d231e43145ed3145db3100000035b8,0x894c0869894c19894800000090248c8b\n"
-    ".octa 0x98c48148000000001c41c71851891061,0x8d48c35d5f415e415d415c415b000000,0x648b4c04048d4de3894cfa894807247c\n"
-    ".octa 0x4800000199870ff33949211c8d4e0824,0xc8830fe2394cca2948c2894cf901,0x4c0e148d4a28348d482a7204fc834900\n"
-    ".octa 0x14cdc420f4dd3894dd4394d2024648b,0xae830f20fa8348e2294cfc0149da,0x7403e68348d389490824748b48d23100\n"
-    ".octa 0xc3ff49182488471924b60f46d3894914,0xfa8348f229480824748b48ef75ceff48,0x8b48c931fffff7f2870f10245c8b48fc\n"
-    ".octa 0xc18348f90148ca430f48d2294c202454,0x24748b4803c0834829048d49c5014803,0x54b60f42fd18548842fd1954b60f4208\n"
-    ".octa 0x548842ff1954b60f42fe18548842fe19,0x4c04c38349181488421914b60f42ff18,0x4cce8948c7894cfffff795e9cd75de39\n"
-    ".short 0xe289\n"
-    "call memmove\n"
-    ".octa 0xfa83480824548b48fffff77fe9e6894c,0xe0e2834862eb10245c8b48d231097320,0x10c383493c1c8d4ddc294d2024648b4c\n"
-    ".octa 0x23446f0f43f3e4314510c68348ce014c,0x42f3f026447f0f42f3230c6f0f43f3f0,0x5c8b4cdd75e2394c20c48349260c7f0f\n"
-    ".octa 0x14840f10245c8b48d33949de894c0824,0x8948fffffede840f1c082444f6fffff7,0x8945311c8b44fce283480824548b48d6\n"
-    ".octa 0x8245c8b4cef75f2394804c68348301c,0xfffeabe9fffff6db840fd33949de894c\n"
-    ".quad 0xe8e1894dff\n"
-    ".long 0xff42e900\n"
-    ".short 0xffff\n"
-    ".reloc .Ltcp60+409,R_X86_64_PLT32,.Ltcp34-4\n"
-    ".reloc .Ltcp60+626,R_X86_64_PLT32,.Ltcp30-4\n"
-    ".reloc .Ltcp60+963,R_X86_64_PLT32,.Ltcp36-4\n"
-    ".reloc .Ltcp60+1567,R_X86_64_PLT32,.Ltcp1-4\n"
-    ".reloc .Ltcp60+1704,R_X86_64_PLT32,.Ltcp31-4\n"
-    ".reloc .Ltcp60+2048,R_X86_64_PLT32,.Ltcp36-4\n"
-    ".reloc .Ltcp60+2220,R_X86_64_PC32,.Ltcp10+188\n"
-    ".reloc .Ltcp60+2293,R_X86_64_PC32,.Ltcp10+204\n"
-    ".reloc .Ltcp60+2892,R_X86_64_PC32,.Ltcp10+204\n"
-    ".reloc .Ltcp60+3197,R_X86_64_PLT32,.Ltcp26-4\n"
-    ".reloc .Ltcp60+3740,R_X86_64_PLT32,.Ltcp35-4\n"
+    ".globl tcp_c_connection_consume\n"
+    ".hidden tcp_c_connection_consume\n"
+    ".type tcp_c_connection_consume,%function\n"
+    ".size tcp_c_connection_consume,814\n"
+    "tcp_c_connection_consume:\n"
+    ".octa 0x74746cb8485053544155415641574155,0x8678b4c0000000001c7487643505261,0x850f07110fc0570f0739480000001fbd\n"
+    ".octa 0x2c0248c8b49fe8949cb8948000002c0,0x48c639484000000000000000b8480000,0x31244cb60f41c1460f48c83948c6420f\n"
+    ".octa 0x2ff8040302474b60f41fee78040cf89,0xbd000000f4e90000000ebdff31450d75,0xe3840ff10840ff31450000000b\n"
+    ".octa 0x140249c8b4d0000013824bc8b41,0x8041c931167501f880413c2444b60f45,0xf45c9450f4421244cb60f450120247c\n"
+    ".octa 0x3949ead341f98944da2945fa8941f9b6,0x894de9294dd9894deb420f4dd58949d3,0x5824bc83490f77d3394900000140248c\n"
+    ".octa 0x13c248c8b410000020b840f00000001,0x44d53949dbf741d38941ca29fa890000,0x568d0000013c249c8945eb0145d9420f\n"
+    ".octa 0x45c9312575d285452a7702fa80c931fc,0x54b60f410120247c8041c9311474c084,0xfff85efd3cf2944cab60fd1450f2124\n"
+    ".octa 0x1ba000000018124bc8041c9b60fc195,0xb7410000018124948841d1440f000000,0x1b9fee280f289ed314503eb01\n"
+    ".octa 0x495373f2a30f000003b0ba5f7402fa80,0xfe834672fa394848247c8b494024548b,0xb9cf0840c7950f40fa3948c1940f06\n"
+    ".octa 0x48c931c7ff4850247c8b492f75000000,0x68247c3949fa430f4800000000bffa29,0xc1940f00000000e024bc8341c9311276\n"
+    ".octa 0xbac03145000001a024bc8d49c93102eb,0x24bc8349c031451472f2a30f0000044f,0x6fe8308e0c141c0950f4100000000a0\n"
+    ".octa 0xc2940f000000014024bc8349d2311575,0x940f410afe83c93145d189ca0918e2c1,0x9c6094410e6c1ce89444024548b49c1\n"
+    ".octa 0x4178750000027824943b4904247489ce,0x7501c6f640ce30400000024824b4b60f,0xca0841f289410000028024b4b60f4166\n"
+    ".octa 0x75000000029024bc8341187501c2f641,0x204039eb0b74000000029424bc804146,0x582484324508e8c141307401c6f640ce\n"
+    ".octa 0x268248c32451e7501c0f641000002,0x2a8248c324118e9c1107501c1f64100,0xe8c189480424748d485d7401c1f60000\n"
+    ".octa 0x8949764350526174746cb84800000000,0x894c0866894de8440f4cff8445c03106,0x415d415c415b08c48348e889e8450f2b\n"
+    ".octa 0x13c2484c741c35d5f415e,0xe9fffffe09860f02fa80c931fc568d00\n"
+    ".quad 0x24848949fffffe2e\n"
+    ".long 0x2c0\n"
+    ".short 0xa6eb\n"
+    ".reloc .Ltcp60+720,R_X86_64_PLT32,.Ltcp26-4\n"
     ".section .text.tcp.61,\"ax\",%progbits\n"
     ".balign 16\n"
     ".Ltcp61:\n"
+    ".globl tcp_c_connection_emit\n"
+    ".hidden tcp_c_connection_emit\n"
+    ".type tcp_c_connection_emit,%function\n"
+    ".size tcp_c_connection_emit,3851\n"
+    "tcp_c_connection_emit:\n"
+    ".octa 0x88ec814853544155415641574155,0xed31764350526174746cbf48fe894900,0x417f0f41f3c0ef0f66c4940f41c98548\n"
+    ".octa 0x490000001fb8087e8b4d017f0f41f310,0xf8814900000cfd850f067f0f41f33e39,0x21b8087e894d3e89491177000005ef\n"
+    ".octa 0xbf48000002c0878b4900000ce3e90000,0x48fe420f48fe39484000000000000000,0xf64100000184afb60f45f8460f48c739\n"
+    ".octa 0x7500000080248c894c38247c894801c5,0x4900000136840f0000000180bf80410e,0x40072474884001f68040ee894440478b\n"
+    ".octa 0x4500000000282444c74801e783feb60f,0x4c0ce5c1e58844c03145f631db31db31,0x4dd2314548678b4d08244c894c290c8d\n"
+    ".octa 0xd2420f49f22948ca420f4dc12949e189,0x850f01c5f6412b73fa39483073c0394c,0x1e8850f0000000180bf8041000001f6\n"
+    ".octa 0x215850f0000000181bf80410000,0x180bf80410e7501c5f641000001d5e9,0x7f0f66c0ef0f66000001e5840f000000\n"
+    ".octa 0x2454b60f4400000000702444c7602444,0x2824448b4c02fa83fe508dc2b60f4107,0x4c000004a8850f01f883000001ec820f\n"
+    ".octa 0x824548b48f631ff894ced3138246c8b,0x48478b49344f8b41c3894800000000e8,0x8087c6414847894900d0834801f88348\n"
+    ".octa 0xf410c740000000181bf804100000001,0x884108244c8901f58040000000f0afb6,0xeb894de4314500000001b800000181af\n"
+    ".octa 0x24447f0f665024447f0f66000004e1e9,0x820fc6a30f0000044fbe3047b60f4140,0x8d4918244c89480824548948000000cc\n"
+    ".octa 0x8041c0313a4fb70f410c57b70f41405f,0x158b78b49217500000000be013e7f,0x8548fe420f4800000004bf04fe834800\n"
+    ".octa 0x420fd13966f0440f00000004fd348df6,0x45000001828fb60f41d0420ff22966d1,0xe8de894840247c8d483247b60f\n"
+    ".octa 0x824548b4818244c8b480140247c8000,0x247cb60f50244c8b4c5824548b4c4e75,0x420f49c62948ce894cc03145038b4848\n"
+    ".octa 0x4c00000001bf02ff804028247c8948f0,0xf8420f49cf294ccf014cfa420f49d389,0xfffffe09e9c8894dcb894d02072444c6\n"
+    ".octa 0x8b4d40478b4930740000000181bf8041,0xbfc62948c6894cc931454847,0x314503072444c6f1420f4928247c8948\n"
+    ".octa 0x2b887c641fffffdcfe9ff31db31db,0x82444c7db31e43145ed31450000,0x394c00000888e938245c8b4ced310000\n"
+    ".octa 0xf0000000181bf8041fffffe12830fce,0xc76024447f0f66c0ef0f66fffffe0484,0xdb3145c0314503b24100000000702444\n"
+    ".octa 0x484024548948d2b60f41c0b60f41db31,0xf4158245c894850245c894c48244489,0x72454884420245c894c01fa803e57b6\n"
+    ".octa 0x840f0000000158bf834900000098850f,0x8b48d231ff894c4024748d480000008a,0x8b4ce6894c00000000e8c4894d08244c\n"
+    ".octa 0x578b41182444894838245c8b4c202464,0x7bf840f082454890307247c8034,0xe0014cc3420f4800000001b802fe8040\n"
+    ".octa 0x8d484f8949c8470f48c83948484f8b49,0xc8bf80410000028d870ffdf980fd4e,0x8187c641000000d08789490775010000\n"
+    ".octa 0x804100000285e918245c8b4800000001,0x48c0930f02f880415775292c8d4c02fa,0x478b49227510b0c60840c6940f40db85\n"
+    ".octa 0xf7430f48c72948df894cf631c0ff4850,0x45100c03e0c0c0940f68773b49de0148,0xfe8040fee68040c68944dc014508678b\n"
+    ".octa 0x4509eb1824748840c60840c6940f4002,0x138878b41c9894910182444c6086703,0x13c7f8041c93100000140b78b490000\n"
+    ".octa 0x450f217fb60f4101207f8041c9311375,0xffb90000ffff3de8d3f029cfb60f40f9,0x8400000014b87c244c89c8420f0000ff\n"
+    ".octa 0x4b904f8834800000158878b492a74d2,0xc50c8d48c889c08548c8420f48000000,0xb70f41c1450f4800000014b800000018\n"
+    ".octa 0xf4bf8b41385fb70f4534244c8966044f,0x78247c89282444894c02fa8041000000,0x48c1930f02f88041157536245c894466\n"
+    ".octa 0x41f63100000214840fca08c2940fdb85,0x66342444b70f344f8b4508244489078b,0xc0c166362444b70f004589416608c0c1\n"
+    ".octa 0x24448b04658945cc0f41024589416608,0x2444b60f500c45c64108458941c80f78,0x89416608c0c1667c24448b0d45884118\n"
+    ".octa 0x8148146e8d48000000001045c7410e45,0xc0ef0f66467718246c8948000000fffd,0x8348ea8948e9894cdbef0f66e4ef0f66\n"
+    ".octa 0xc6834800000454820f2024648b4c10fd,0xef0f660000038e850f30a8d0f7f08904,0x3bce9d2ef0f66e9894c1824548b48c9\n"
+    ".octa 0xe8cc8945ee8948ef894c0000,0x748b482024648b4c38245c8b4ce18945,0x8b4c00000184af8d49000004f4e92824\n"
+    ".octa 0xb70f410000016d850f01fd804138245c,0x188878b4164244489660000018c87,0x6824448900000190878b416024448900\n"
+    ".octa 0x98878b416c2444890000019487b60f41,0x480477b70f413f8b4170244489000001,0xe8dc894d0824448b4cc9316024548d\n"
+    ".octa 0x18187c64100000155e9000000,0x18287c641087518245c8b4801fe8040,0xc5420f49e0294c01b540ed3145000000\n"
+    ".octa 0xcc3949000002288f8b49000004f0860f,0x294bf80411f7500000278a73b4d4b73,0x248877f0f41f3c0ef0f661575000000\n"
+    ".octa 0x41f3c0ef0f66010000029487c6410000,0x24087c74900000230877f0f,0xbf804127eb00000258877f0f41f30000\n"
+    ".octa 0x23087c74904148d491d740100000230,0x9f894d00000238978949000000010000,0x49ca470f48ca394804148d4900000240\n"
+    ".octa 0x455e9c5894901b540000002288f89,0x8b48f631c2ff4968578b4950578b4d00,0xd9840fd28548ce420f48d1294c20244c\n"
+    ".octa 0x4c70478b4d60778b49587f8b49000005,0xf481724548d48f2420f48f23948c629,0x3402444c748000005bae9c7014cd747\n"
+    ".octa 0x582444c7484824447f0ff3000000,0x83492a750824548b4c013e7f80410000,0xff894c4024748d4820740000000158bf\n"
+    ".octa 0xe3894d00000000e8dc894dd1894cd231,0xb70f410447b70f4100000134e9c38948,0x138bf8b41000000f4b78b413857\n"
+    ".octa 0x7f8041c9310867034500000140878b4d,0x214fb60f4501207f8041c9311475013c,0xffff81efd3c72944c9b60f41c9450f44\n"
+    ".octa 0xc0c166c7420f440000ffffb8410000ff,0x4108c0c14166ce0fcc0f4108c2c16608,0x45025289416602894166344f8b413f8b\n"
+    ".octa 0x456610500c42c7416608728941046289,0x26f0f41f3000000001042c7410e4289,0x380f66c9ef0f66000000000500380f66\n"
+    ".octa 0x66eec8700f66c2fe0f66c1690f66d033,0xc07e0f66c1fe0f6655c1700f66c8fe0f,0x6610e9c101c1c40f6610efc1c76e0f66\n"
+    ".octa 0x500380f6603c1c40f6602c7c40f,0x55c1700f66c8fe0f66eec8700f660000,0xb90001001905c801c17e0f66c1fe0f66\n"
+    ".octa 0xe2c1ca892fe9c148c8af0f4880008001,0xfc98508c0c166d0f7c889c101d12910,0x34478d4900000014bb1042894166c144\n"
+    ".octa 0x480100000184bf8041000001888f8d49,0x19087c74908244489008bc1440f,0x66000000000000019887c74100000000\n"
+    ".octa 0x1b540000000000045c74800000845c7,0x4e8c1f0890000023be9e43145ed3145,0x894c1824548b48c9ef0f6603e083c0ff\n"
+    ".octa 0x841f0f2e6666d2ef0f66e9,0xfd0f6608d3710f66d3fd0f66196f0ff3,0xf66e275c8ff48f0c2834810c18348cb\n"
+    ".octa 0x401f0f657230fe8348d96f0f66e26f,0xff320796f0ff310716f0ff3296f0ff3,0xe9fd0f6608d5710f66d5fd0f6630596f\n"
+    ".octa 0xfd0f6608d6710f66e6fd0f66e76f0f66,0xf66fdfd0f66fefd0f6608d7710f66e2,0x4840c18348dffd0f6608d3710f66e3fd\n"
+    ".octa 0x770ffa8348d46f0f66cb6f0f66c0c283,0xf66e1f90f6608f1710f66cb6f0f669f,0xf4720f6608f1720f66e0690f66cc3338\n"
+    ".octa 0xf66dcfe0f66d8690f66d333380f6608,0x66c2fe0f66eec2700f66d3fe0f66d1fe,0x7338245c8b4c08fa8348f63155c8700f\n"
+    ".octa 0xc148f88948cf0f48398b4835ebc03104,0x20e9c149f98949cd8944c7b70f4430e8,0x41c80144f801c0014410efc1c9b70f45\n"
+    ".octa 0x8348c1fe0f66f8c2834808c18348e989,0xfe0110efc1f7b70fcf0f398b147204fa,0x48c03145c77e0f66fcc2834804c18348\n"
+    ".octa 0xf4508c0c1416601b70f44157202fa83,0x1f801c60144fec2834802c18348c0b7,0x89c10108e1c109b60f0a7501fa8348f0\n"
+    ".octa 0x6608244c8b18246c8b482824748b48c8,0x10e9c14101c1c40f416610e9c1c16e0f,0x500380f6603c1c40f416602c1c40f66\n"
+    ".octa 0x700f66c8fe0f66eec8700f6600000000,0x529048dc101c17e0f66c1fe0f6655c1,0xe9c148c8af0f4880008001b900010005\n"
+    ".octa 0xc166d0f7c889c101d12910e2c1ca892f,0x34578b411045894166c1440fc98508c0,0x4dfffff841850f082454890307247c80\n"
+    ".octa 0x314501b540000000018187c64148678b,0xfee280ca89304fb60f4118245c8b48ed,0xf000003b0ba5a7402fa8000000001b8\n"
+    ".octa 0x72f2394848778b4940578b494e73caa3,0x840c6950f40f23948c0940f06f98343,0x31c6ff4850778b492c7500000000b8c6\n"
+    ".octa 0x773949f2430f4800000000bef22948c0,0xc0940f00000000e0bf8341c031117668,0x44fbaf631000001a0bf8d49c03102eb\n"
+    ".octa 0xa0bf8349f6311172caa30f0000,0x49d231147506f98308e6c1c6950f4000,0x89c20918e2c1c2940f0000000140bf83\n"
+    ".octa 0x4440578b49c0940f410af983c03145d0,0x973b4940244c89c109f10910e1c1c189,0xc130000002488fb60f416f7500000278\n"
+    ".octa 0xc98941000002808fb60f41607501c1f6,0x290bf8341167501c1f641c10841,0x2036eb09740000000294bf8041427500\n"
+    ".octa 0x258b7324108eec12f7401c1f6c1,0xc0f641000002688732451f7501c6f640,0xf01a8000002a887324118e8c1127501\n"
+    ".octa 0xe8d9894c4024748d480000016484,0xb8480824548b00000080248c8b480000,0x31087e894d068949764350526174746c\n"
+    ".octa 0xe43145db3100000035b80f75ed8440c0,0x1069894c0861894c198948d231ed3145,0x88c48148000000001c41c7185189\n"
+    ".octa 0x247c8d48c35d5f415e415d415c415b00,0xff33949191c8d4c28048d4efa894817,0x3948ca2948c2894cf901480000018987\n"
+    ".octa 0x348d482a7204fb8348000000bc830fda,0xd3894dd5394d20246c8b4c0e148d4a28,0xfa8348ea294cfd0149da014cdd420f4d\n"
+    ".octa 0x48d38949de8948d231000000ae830f20,0x2c8847192cb60f46d38949147403e683,0x48de8948da2948ef75ceff48c3ff4918\n"
+    ".octa 0xc931fffff761870f08246c8b4cfcfa83,0x48f90148ca430f48d2294c2024548b48,0xf4203c0834829048d49c5014803c183\n"
+    ".octa 0x42fe1954b60f42fd18548842fd1954b6,0x42ff18548842ff1954b60f42fe185488,0x75db394c04c38349181488421914b60f\n"
+    ".quad 0x8948c7894c0eebcd\n"
+    ".long 0xda8948ce\n"
+    "call memmove\n"
+    ".octa 0xe9000002c09f894dfffff6f6e9de8948,0x246c8b4cd231097320fb8348fffffe9d,0x4d20246c8b4ce0e28348da89485eeb08\n"
+    ".octa 0xc68348ce014c10c383492f1c8d4edd29,0xc6f0f43f3f02b446f0f43f3ed314510,0x83492e0c7f0f42f3f02e447f0f42f32b\n"
+    ".octa 0x6c8b4cd33948de8948dd75ea394c20c5,0xfffee7840f1cc3f6fffff686840f0824,0x45311c8b44fce28348da8948d68948ff\n"
+    ".octa 0x48de8948ef75f2394804c68348301c89,0xd98949fffffebbe9fffff656840fd339\n"
+    ".quad 0xff46e900000000e8\n"
+    ".short 0xffff\n"
+    ".reloc .Ltcp61+401,R_X86_64_PLT32,.Ltcp34-4\n"
+    ".reloc .Ltcp61+621,R_X86_64_PLT32,.Ltcp30-4\n"
+    ".reloc .Ltcp61+951,R_X86_64_PLT32,.Ltcp36-4\n"
+    ".reloc .Ltcp61+1548,R_X86_64_PLT32,.Ltcp1-4\n"
+    ".reloc .Ltcp61+1679,R_X86_64_PLT32,.Ltcp31-4\n"
+    ".reloc .Ltcp61+2025,R_X86_64_PLT32,.Ltcp36-4\n"
+    ".reloc .Ltcp61+2197,R_X86_64_PC32,.Ltcp10+188\n"
+    ".reloc .Ltcp61+2270,R_X86_64_PC32,.Ltcp10+204\n"
+    ".reloc .Ltcp61+2880,R_X86_64_PC32,.Ltcp10+204\n"
+    ".reloc .Ltcp61+3326,R_X86_64_PLT32,.Ltcp26-4\n"
+    ".reloc .Ltcp61+3842,R_X86_64_PLT32,.Ltcp35-4\n"
+    ".section .text.tcp.62,\"ax\",%progbits\n"
+    ".balign 16\n"
+    ".Ltcp62:\n"
     ".globl tcp_c_connection_free\n"
     ".hidden tcp_c_connection_free\n"
     ".type tcp_c_connection_free,%function\n"
@@ -3236,41 +3319,80 @@ __asm__(
     ".quad 0x1fb807110fc057\n"
     ".long 0x440f0000\n"
     ".short 0xc3c1\n"
-    ".section .text.tcp.62,\"ax\",%progbits\n"
+    ".section .text.tcp.63,\"ax\",%progbits\n"
     ".balign 16\n"
-    ".Ltcp62:\n"
+    ".Ltcp63:\n"
     ".globl tcp_c_connection_listen\n"
     ".hidden tcp_c_connection_listen\n"
     ".type tcp_c_connection_listen,%function\n"
     ".size tcp_c_connection_listen,32\n"
     "tcp_c_connection_listen:\n"
     ".octa 0xc894c00000000102444c74818ec8348,0xc318c4834800000000e810244c8d4c24\n"
-    ".reloc .Ltcp62+23,R_X86_64_PLT32,.Ltcp27-4\n"
-    ".section .text.tcp.63,\"ax\",%progbits\n"
-    ".balign 16\n"
-    ".Ltcp63:\n"
-    ".globl tcp_c_connection_receive\n"
-    ".hidden tcp_c_connection_receive\n"
-    ".type tcp_c_connection_receive,%function\n"
-    ".size tcp_c_connection_receive,470\n"
-    "tcp_c_connection_receive:\n"
-    ".octa 0x894938ec834853544155415641574155,0xc749764350526174746cbe48f4,0x570f3739480000001fb8087f8b4c0000\n"
-    ".octa 0xfe8949c3894c0000018d850f07110fc0,0x8b49d001480ce0c1c0940fd28548c031,0x48102444290f3024548948000002c097\n"
-    ".octa 0xfe894c10247c8d4800000000202444c7,0x80c1893047b60f4100000000e8c28948,0x3b0b9d231577402f98001b2fee1\n"
-    ".octa 0x4801b248778b49404f8b494b73c1a30f,0x950f40f13948c2940f06f8833c72f139,0x48d231c6ff4850778b492875d60840c6\n"
-    ".octa 0x7668773949f1430f4800000000bef129,0xd23102ebc2940f00000000e0bf83410f,0x18244cb60f11246cb60f4410246cb60f\n"
-    ".octa 0xf63128244c894820244c8b480f244c88,0x491f7506f8831373c1a30f0000044fb9,0xbf834914ebc0940f410000000140bf83\n"
-    ".octa 0x3145e17406f883c6950f4000000000a0,0xf49cc39494000000000000000b948c0,0xf883cf460f48f9394830247c8b48cc42\n"
-    ".octa 0x49122444940f1124748840102454880a,0x4840578b491324448844000001a0bf8d,0x526174746cb84800000000e81024748d\n"
-    ".octa 0x481174ed8440087e894d068949764350,0x27ebc5b60f410bc580410000000003c7,0x3c7481474c9840f244cb60f\n"
-    ".octa 0x448b480aeb33c083c0940f02f980c031,0x5d415c415b38c48348c0310389482824\n"
-    ".long 0x5f415e41\n"
-    ".short 0xc35d\n"
-    ".reloc .Ltcp63+116,R_X86_64_PLT32,.Ltcp37-4\n"
-    ".reloc .Ltcp63+373,R_X86_64_PLT32,.Ltcp26-4\n"
+    ".reloc .Ltcp63+23,R_X86_64_PLT32,.Ltcp27-4\n"
     ".section .text.tcp.64,\"ax\",%progbits\n"
     ".balign 16\n"
     ".Ltcp64:\n"
+    ".globl tcp_c_connection_peer\n"
+    ".hidden tcp_c_connection_peer\n"
+    ".type tcp_c_connection_peer,%function\n"
+    ".size tcp_c_connection_peer,99\n"
+    "tcp_c_connection_peer:\n"
+    ".octa 0x394808478b48764350526174746cb948,0x2b740048788348217507110fc0570f0f,0x84789480f89483848b70f4434408b44\n"
+    ".octa 0x6c7c3c0310a894466068944,0x89480f8948c30000001fb8000002c766,0x10b8000002c7660000000006c70847\n"
+    ".short 0x0\n"
+    ".byte 0xc3\n"
+    ".section .text.tcp.65,\"ax\",%progbits\n"
+    ".balign 16\n"
+    ".Ltcp65:\n"
+    ".globl tcp_c_connection_receive\n"
+    ".hidden tcp_c_connection_receive\n"
+    ".type tcp_c_connection_receive,%function\n"
+    ".size tcp_c_connection_receive,597\n"
+    "tcp_c_connection_receive:\n"
+    ".octa 0x894938ec834853544155415641574155,0xc749764350526174746cbf48fe,0x570f3e39490000001fb8087e8b4d0000\n"
+    ".octa 0xc031c3894c00000202850f06110f41c0,0xc0978b49d001480ce0c1c0940fd28548,0xe6394c4000000000000000bc49000002\n"
+    ".octa 0x102444290fe2460f4cd43949e6420f4c,0x894c10247c8d4800000000202444c748,0xca89304fb60f4100000000e8c28948fe\n"
+    ".octa 0x3b0ba5a7402fa8000000001b8fee280,0x4848778b4940578b494e73caa30f0000,0x950f40f23948c0940f06f9834372f239\n"
+    ".octa 0x4850778b492c7500000000b8c60840c6,0xf2430f4800000000bef22948c031c6ff,0xe0bf8341c031117668773949\n"
+    ".octa 0xb60f000001a0bf8d49c03102ebc0940f,0x5488182454b60f11246cb60f4410246c,0x4fbaf63130245489482024548b480f24\n"
+    ".octa 0xa0bf8349f6311172caa30f000004,0xd231147506f98308e6c1c6950f400000,0xc20918e2c1c2940f0000000140bf8349\n"
+    ".octa 0x40578b49c0940f410af983c03145d089,0x3b4910244c89c109f10910e1c1c18944,0x30000002488fb60f416b750000027897\n"
+    ".octa 0x8941000002808fb60f415c7501c1f6c1,0x290bf8341167501c1f641c10841c9,0x32eb09740000000294bf80413e750000\n"
+    ".octa 0x258b7324108eec12b7401c1f6c120,0xf641000002688732451b7501c6f64000,0x1a8000002a887324118e8c10e7501c0\n"
+    ".octa 0x4800000000e8e1894c1024748d486a74,0x87e894d068949764350526174746cb8,0xbc580410000000003c7481174ed8440\n"
+    ".octa 0x481474c9840f244cb60f27ebc5b60f41,0xc083c0940f02f980c0310000000003c7,0xc48348c0310389483024448b480aeb33\n"
+    ".octa 0xc0a7894dc35d5f415e415d415c415b38\n"
+    ".long 0xeb000002\n"
+    ".byte 0x9a\n"
+    ".reloc .Ltcp65+133,R_X86_64_PLT32,.Ltcp37-4\n"
+    ".reloc .Ltcp65+491,R_X86_64_PLT32,.Ltcp26-4\n"
+    ".section .text.tcp.66,\"ax\",%progbits\n"
+    ".balign 16\n"
+    ".Ltcp66:\n"
+    ".globl tcp_c_connection_resend_first\n"
+    ".hidden tcp_c_connection_resend_first\n"
+    ".type tcp_c_connection_resend_first,%function\n"
+    ".size tcp_c_connection_resend_first,597\n"
+    "tcp_c_connection_resend_first:\n"
+    ".octa 0x746cbe4910ec83485354415641574155,0x4c0000001fbd087f8b4c764350526174,0x89480000020f850f07110fc0570f3739\n"
+    ".octa 0xb948000002c0878b49fb,0xc8460f48c13948ce420f48ce39484000,0x36bd3047b60f41000001a0bf8d49\n"
+    ".octa 0x4900000084820fc2a30f0000044fba00,0x47b70f457773f2394848778b4940578b,0xba41013e7f8041ed313a4fb70f450c\n"
+    ".octa 0x4fa834900000158978b4d2775000000,0xd2854de43145da420f4d00000004bb41,0xc1394566d4440f4500000004dd148d46\n"
+    ".octa 0xc0b70f45c5420f44d0294566c1420f45,0xc887c749c6430f4cf03949d00149,0xd887894d000000d09789490000000100\n"
+    ".octa 0x2fa8000000001befee280c289000000,0x40578b495173c2a30f000003b0ba5d74,0xc6940f4006f8834672c2394c48478b4d\n"
+    ".octa 0x7500000000bef00841c0950f41c2394c,0xb841c2294cf631c0ff4950478b4d2e,0x41f63112766847394dc2430f4c000000\n"
+    ".octa 0x45f63102ebc6940f4000000000e0bf83,0x49c031451372c2a30f0000044fbac031,0x8308e0c141c0950f4100000000a0bf83\n"
+    ".octa 0x940f0000000140bf8349d231147506f8,0xf410af883c93145d689f20918e2c1c2,0x9c0094410e0c1c8894440578b49c194\n"
+    ".octa 0xf416e7500000278973b490c244489f0,0xb60f415f7501a8f030400000024887b6,0x7501c2f641f20841c289410000028087\n"
+    ".octa 0x294bf804141750000000290bf834116,0xc1412e7401a8f0204035eb0974000000,0x451d7501c0f6410000025887324508e8\n"
+    ".octa 0x4118eec1107501c1f641000002688f32,0x24748d48207401c6f640000002a8b732,0x48e889087b894c33894c00000000e80c\n"
+    ".octa 0xc08f8949c35d5f415e415c415b10c483\n"
+    ".long 0xeb000002\n"
+    ".byte 0xe1\n"
+    ".reloc .Ltcp66+562,R_X86_64_PLT32,.Ltcp26-4\n"
+    ".section .text.tcp.67,\"ax\",%progbits\n"
+    ".balign 16\n"
+    ".Ltcp67:\n"
     ".globl tcp_c_connection_room\n"
     ".hidden tcp_c_connection_room\n"
     ".type tcp_c_connection_room,%function\n"
@@ -3280,47 +3402,63 @@ __asm__(
     ".octa 0x480fc08348f2450f00000400bef68566,0x148dd6b70ff0e183480fc18348f0e083,0x480a048d48c10148e0e2830000001e55\n"
     ".long 0x2d005\n"
     ".short 0xc300\n"
-    ".section .text.tcp.65,\"ax\",%progbits\n"
+    ".section .text.tcp.68,\"ax\",%progbits\n"
     ".balign 16\n"
-    ".Ltcp65:\n"
+    ".Ltcp68:\n"
     ".globl tcp_c_connection_send\n"
     ".hidden tcp_c_connection_send\n"
     ".type tcp_c_connection_send,%function\n"
-    ".size tcp_c_connection_send,1305\n"
+    ".size tcp_c_connection_send,1462\n"
     "tcp_c_connection_send:\n"
-    ".octa 0x894c48ec834853544155415641574155,0xff31764350526174746cb848fe8949c3,0x8b4d0000000003c748c0940f41d28548\n"
-    ".octa 0x110f41c0570f0639490000001fbd087e,0x8041000002c0878b4900000176850f06,0xc7480000000ebd00000088840f00317f\n"
-    ".octa 0x893057b60f41ed314500000000182444,0xa5840f02f98001b740fee180d1,0x95830fd1a30f000003b0b9ff31\n"
-    ".octa 0x820fc1394c01b74048478b4d404f8b49,0xf41c1394cc7940f4006fa8300000081,0xff31c0ff4950478b4d6c75f80841c095\n"
-    ".octa 0x47394dc1430f4c00000000b841c1294c,0xebc7940f4000000000e0bf8341527668,0x1074ed85450000000bbd306fb60f4544\n"
-    ".octa 0xffffff5ee900000010bd187501fd8341,0x8041ffffff5ce900000000182444c748,0x3be90000000dbd000000b5840f00327f\n"
-    ".octa 0xd1a30f0000044fb9c03145ff31ffffff,0x3145c0950f4100000000a0bf83490c72,0x40bf83490c7506fa8300000000b941e4\n"
-    ".octa 0xb948c1940f4100000001,0xc8460f48c13948ce420f48ce39484000,0x44940f0d244488440c247c88400afa83\n"
-    ".octa 0x8b490f244c8844000001a0bf8d490e24,0x746cb84800000000e80c24748d484057,0xf4d0018247c80068949764350526174\n"
-    ".octa 0x48e889ec450f412b894c087e894dec44,0x8b4dc35d5f415e415d415c415b48c483,0xc98548e2014d50578b4d68678b4d284f\n"
-    ".octa 0x182444c7481377d1394d1874,0xd1294ddb3145fffffe6de90000000fbd,0x394de5294ddd894d605f8b4dcb420f4d\n"
-    ".octa 0x894801b1e9420f4ce9394ce9420f4de9,0xc1c78844fffffe3b840fed854d18244c,0x4d10244c8948584f8b493a048d4c0ce7\n"
-    ".octa 0x394dc93121148d4f30244c894c704f8b,0xc9294920244c8948d1894dcb430f49da,0xc8948cd430f49e9394cc9294cd9894c\n"
-    ".octa 0x48000000fc840f40245c894ccb294d24,0x10245c8b4c1d72382464894c04243c83,0x8349ca2949c1014c20244c8b48da014d\n"
-    ".octa 0x49240c8b48db314500000112830f20fa,0xf749d9894d4f7403e48349d9894dcc89,0x4c382454034c0b148d4d30244c8b48d9\n"
-    ".octa 0x14928245c894c102454034c2024542b,0x480a0488450b04b60f45c931d30149fb,0x48d4cd9f749ec75cc3949c9ff49c1ff\n"
-    ".octa 0xfb8349cb294928245c8b4c240c8b483a,0x4cca294d24148b4c637738244c8b48fc,0x4820245c2b4ccb0149cb014d30245c8b\n"
-    ".octa 0x149f9014903c38349cb014910244c8b,0x8843fd214cb60f43e4314503c18349d1,0xf43fe234c8843fe214cb60f43fd234c\n"
-    ".octa 0x8843210cb60f43ff234c8843ff214cb6,0x40246c3b4ccd75e2394d04c48349230c,0x49240c8b4800000185860f1024648b4c\n"
-    ".octa 0x3145087304f98349c92949e9894dc801,0x20f98348c1294ce1894c00000159e9d2,0x8348240c8b4800000145e9d231451773\n"
-    ".octa 0xb1830f20f9834962ebdb3145177320f9,0x8349ca8949000000ebe9d23145000000,0xc8d4cd3894d10c18348190c8d4be0e2\n"
-    ".octa 0xf43f01144100f43d2314510c1834917,0x8349110c110f42f01144110f42110c10,0xffff5a840f241c394ce175d3394d20c2\n"
-    ".octa 0x8b4cd9894dfffffe80840f1c2404f6ff,0x894cda294d282454894cfce283492414,0x642b4ccc014919248d4f30245c8b4ce1\n"
-    ".octa 0x45c931d10149f90149102464034c2024,0xef75ca394904c183480c1c8945091c8b,0xe9fffffefc840f241c394c28245c8b4c\n"
-    ".octa 0x48240c8b48e0e28349ca894dfffffe27,0x44100f42db314510c18348d10148f901,0x4c110f431c04110f43190c100f42f019\n"
-    ".octa 0x5074d1394de175da394d20c38349101c,0xfce28349ca894dd1894c39741cc1f641,0x243c0348cf0148cc0149cb2949d3894d\n"
-    ".octa 0x4c183480c3c89410a3c8bc931fa0148,0x4311741024648b4cd1394df075cb3949,0xef75d1394dc2ff49140c8843100cb60f\n"
-    ".quad 0xfffb51e9686f014d\n"
-    ".byte 0xff\n"
-    ".reloc .Ltcp65+408,R_X86_64_PLT32,.Ltcp26-4\n"
-    ".section .text.tcp.66,\"ax\",%progbits\n"
+    ".octa 0x894948ec834853544155415641574155,0xd28548c031764350526174746cbc49fe,0xbd087e8b4d0000000000c749c7940f40\n"
+    ".octa 0x850f06110f41c0570f26394d0000001f,0x2c08f8b4dc88949c3894c000001f0,0xf48ce39484000000000000000b94800\n"
+    ".octa 0x840f00317f8041c9460f49c9394cce42,0x102444c7480000000ebd00000083,0xfee68040d6893057b60f41ed31450000\n"
+    ".octa 0xbe00000081840f02fe804000000001b8,0x7f8b4940778b497573d6a30f000003b0,0x40fe3948c0940f06fa836a72fe394848\n"
+    ".octa 0x7f8b49537500000000b8c70840c7950f,0xf4800000000bffe2948c031c7ff4850,0xe0bf8341c0313876687f3949fe43\n"
+    ".octa 0xbbd306fb60f4529ebc0940f0000,0x850f01fd8341000000c2840fed854500,0xc031ffffff5be900000010bd00000131\n"
+    ".octa 0x410000044fb841f631000001a0bf8d49,0x4000000000a0bf8349f6311172d0a30f,0x8349c03145197506fa8308e6c1c6950f\n"
+    ".octa 0x94118e0c141c0940f410000000140bf,0x8b49c0940f410afa83c03145c08944c0,0x44c10941f1094110e1c141c189454057\n"
+    ".octa 0x81850f00000278973b493c244c89,0x1c1f641c13041000002488fb60f4500,0xc20841ca8945000002808fb60f457075\n"
+    ".octa 0x52750000000290bf8341247501c2f641,0x2444c74846eb19740000000294bf8041,0xc1f641c12041fffffeabe90000000010\n"
+    ".octa 0xc6f64000000258b7324108eec12f7401,0x127501c0f641000002688732451f7501,0x21e840f01a8000002a887324118e8c1\n"
+    ".octa 0x3126894d00000000e83c24748d480000,0x894c087e894de8440f4c0010247c80c0,0x415d415c415b48c48348e889e8450f2b\n"
+    ".octa 0xdbd0a7400327f8041c35d5f415e,0x8b4d685f8b4d28778b49fffffe23e900,0x481377ce394c1874c0854dd9014d504f\n"
+    ".octa 0xfe00e90000000fbd00000000102444c7,0x60578b4df2420f49ce294cd23145ffff,0xe8394dee420f4cee394cdd294dd5894d\n"
+    ".octa 0xfed854d102474894801b640e8420f4d,0x49023c8d480ce0c1f88840fffffdcd84,0x2444894c70478b4d082474894858778b\n"
+    ".octa 0x894df2430f49d1394df631180c8d4f30,0x4cc6294cd6894cf029491824748948c8,0x54894cc2294d24348948f5430f49ee39\n"
+    ".octa 0x4c1d7204243c8348000000fd840f4024,0x49fe01481824748b48d1014d0824548b,0x48d2314500000124830f20f98349f129\n"
+    ".octa 0x4d5a7403e18349d0894df1894924348b,0x1c8d4d30247c8b48de894cd8f749d089,0x34c18245c2b4cf3014928247489483a\n"
+    ".octa 0xf631d20149c20149202454894c08245c,0x49c8ff49c6ff48333c8841323cb60f41,0x4c24348b48023c8d48d8f749ec75f139\n"
+    ".octa 0xfcfa8349f229492024548b4c28245c8b,0x14d3024548b4cc1294d240c8b4c6377,0x1490824748b481824542b4cda014dc2\n"
+    ".octa 0x4503c08349d00149c0014903c28349f2,0xb60f43fd1a748843fd1874b60f43db31,0x8843ff1874b60f43fe1a748843fe1874\n"
+    ".octa 0x4c383491a3488431834b60f43ff1a74,0xf08245c8b4c40246c3b4ccd75d9394d,0x4de8894dd7014c24148b4c0000019886\n"
+    ".octa 0x16ce9c93145147304f88349d029,0x48de894cfffffde0e9000002c08f8949,0x14ce9c93145177320fe8348fe29\n"
+    ".octa 0x4962ebd23145177320fe834824348b48,0xf2e9c93145000000bb830f20f883,0x10c6834810348d4be0e18349f1894900\n"
+    ".octa 0xf43c9314510c0834910048d4cca894d,0x42f00e44110f42080c100f43f0084410,0x14394ce175ca394d20c183490e0c110f\n"
+    ".octa 0xfffe6e840f1c2404f6ffffff4e840f24,0x244c894cfce18349240c8b4cd0894dff,0x101c8d4f3024548b4cde894cd1294d20\n"
+    ".octa 0x5c034c18245c2b4cf301492824748948,0x894530148b45f631d00149c001490824,0x2024548b4cef75f1394904c683483314\n"
+    ".octa 0xe9fffffee6840f28245c8b4c2414394c,0x4810348d4ae0e18349c1894dfffffe0b,0x42f01644100f42d2314510c68348d601\n"
+    ".octa 0x4910134c110f431304110f43160c100f,0xc0f6415074c8394de175d1394d20c283,0xca894dfce18349c1894dce894c39741c\n"
+    ".octa 0xc2014824040348f00148f30149f22949,0xc2394904c083480334894102348bc031,0x4b60f42117408245c8b4cc8394df075\n"
+    ".octa 0x6f014def75c8394dc1ff490b0488430f\n"
+    ".long 0xfacfe968\n"
+    ".short 0xffff\n"
+    ".reloc .Ltcp68+536,R_X86_64_PLT32,.Ltcp26-4\n"
+    ".section .text.tcp.69,\"ax\",%progbits\n"
     ".balign 16\n"
-    ".Ltcp66:\n"
+    ".Ltcp69:\n"
+    ".globl tcp_c_connection_set_user_timeout\n"
+    ".hidden tcp_c_connection_set_user_timeout\n"
+    ".type tcp_c_connection_set_user_timeout,%function\n"
+    ".size tcp_c_connection_set_user_timeout,69\n"
+    "tcp_c_connection_set_user_timeout:\n"
+    ".octa 0x1fb808578b48764350526174746cb948,0xc031267507110fc0570f0f3948000000,0x4cf0440f48c0950f41fffe8348c03145\n"
+    ".octa 0xf8948000001c8b28948000001c08289\n"
+    ".long 0x8578948\n"
+    ".byte 0xc3\n"
+    ".section .text.tcp.70,\"ax\",%progbits\n"
+    ".balign 16\n"
+    ".Ltcp70:\n"
     ".globl tcp_c_connection_status\n"
     ".hidden tcp_c_connection_status\n"
     ".type tcp_c_connection_status,%function\n"
@@ -3339,9 +3477,9 @@ __asm__(
     ".quad 0x415e415d415c415b\n"
     ".short 0x5d5f\n"
     ".byte 0xc3\n"
-    ".section .text.tcp.67,\"ax\",%progbits\n"
+    ".section .text.tcp.71,\"ax\",%progbits\n"
     ".balign 16\n"
-    ".Ltcp67:\n"
+    ".Ltcp71:\n"
     ".globl tcp_c_consume\n"
     ".hidden tcp_c_consume\n"
     ".type tcp_c_consume,%function\n"
@@ -3358,9 +3496,9 @@ __asm__(
     ".quad 0x415e415b1a894c08\n"
     ".short 0x5d5f\n"
     ".byte 0xc3\n"
-    ".section .text.tcp.68,\"ax\",%progbits\n"
+    ".section .text.tcp.72,\"ax\",%progbits\n"
     ".balign 16\n"
-    ".Ltcp68:\n"
+    ".Ltcp72:\n"
     ".globl tcp_c_emit\n"
     ".hidden tcp_c_emit\n"
     ".type tcp_c_emit,%function\n"
@@ -3429,16 +3567,16 @@ __asm__(
     ".long 0x1e90000\n"
     ".short 0xfffb\n"
     ".byte 0xff\n"
-    ".reloc .Ltcp68+228,R_X86_64_PLT32,.Ltcp31-4\n"
-    ".reloc .Ltcp68+340,R_X86_64_PLT32,.Ltcp34-4\n"
-    ".reloc .Ltcp68+564,R_X86_64_PLT32,.Ltcp30-4\n"
-    ".reloc .Ltcp68+809,R_X86_64_PLT32,.Ltcp36-4\n"
-    ".reloc .Ltcp68+1915,R_X86_64_PLT32,.Ltcp1-4\n"
-    ".reloc .Ltcp68+2387,R_X86_64_PC32,.Ltcp10+220\n"
-    ".reloc .Ltcp68+2617,R_X86_64_PLT32,.Ltcp35-4\n"
-    ".section .text.tcp.69,\"ax\",%progbits\n"
+    ".reloc .Ltcp72+228,R_X86_64_PLT32,.Ltcp31-4\n"
+    ".reloc .Ltcp72+340,R_X86_64_PLT32,.Ltcp34-4\n"
+    ".reloc .Ltcp72+564,R_X86_64_PLT32,.Ltcp30-4\n"
+    ".reloc .Ltcp72+809,R_X86_64_PLT32,.Ltcp36-4\n"
+    ".reloc .Ltcp72+1915,R_X86_64_PLT32,.Ltcp1-4\n"
+    ".reloc .Ltcp72+2387,R_X86_64_PC32,.Ltcp10+220\n"
+    ".reloc .Ltcp72+2617,R_X86_64_PLT32,.Ltcp35-4\n"
+    ".section .text.tcp.73,\"ax\",%progbits\n"
     ".balign 16\n"
-    ".Ltcp69:\n"
+    ".Ltcp73:\n"
     ".globl tcp_c_emit_acknowledgement\n"
     ".hidden tcp_c_emit_acknowledgement\n"
     ".type tcp_c_emit_acknowledgement,%function\n"
@@ -3458,12 +3596,12 @@ __asm__(
     ".octa 0x10468966c1440fc98508c0c166d0f7c8,0x4c000000018183c6344b8b00000014b8,0xa2e9c0310089490f8941085f89483789\n"
     ".short 0xfffe\n"
     ".byte 0xff\n"
-    ".reloc .Ltcp69+202,R_X86_64_PLT32,.Ltcp36-4\n"
-    ".reloc .Ltcp69+396,R_X86_64_PC32,.Ltcp10+236\n"
-    ".reloc .Ltcp69+472,R_X86_64_PC32,.Ltcp10+252\n"
-    ".section .text.tcp.70,\"ax\",%progbits\n"
+    ".reloc .Ltcp73+202,R_X86_64_PLT32,.Ltcp36-4\n"
+    ".reloc .Ltcp73+396,R_X86_64_PC32,.Ltcp10+236\n"
+    ".reloc .Ltcp73+472,R_X86_64_PC32,.Ltcp10+252\n"
+    ".section .text.tcp.74,\"ax\",%progbits\n"
     ".balign 16\n"
-    ".Ltcp70:\n"
+    ".Ltcp74:\n"
     ".globl tcp_c_emit_partial\n"
     ".hidden tcp_c_emit_partial\n"
     ".type tcp_c_emit_partial,%function\n"
@@ -3520,14 +3658,14 @@ __asm__(
     ".quad 0x894de7894c40244c\n"
     ".long 0xfcfde9e8\n"
     ".short 0xffff\n"
-    ".reloc .Ltcp70+250,R_X86_64_PLT32,.Ltcp31-4\n"
-    ".reloc .Ltcp70+362,R_X86_64_PLT32,.Ltcp34-4\n"
-    ".reloc .Ltcp70+568,R_X86_64_PLT32,.Ltcp30-4\n"
-    ".reloc .Ltcp70+754,R_X86_64_PLT32,.Ltcp36-4\n"
-    ".reloc .Ltcp70+2109,R_X86_64_PLT32,.Ltcp35-4\n"
-    ".section .text.tcp.71,\"ax\",%progbits\n"
+    ".reloc .Ltcp74+250,R_X86_64_PLT32,.Ltcp31-4\n"
+    ".reloc .Ltcp74+362,R_X86_64_PLT32,.Ltcp34-4\n"
+    ".reloc .Ltcp74+568,R_X86_64_PLT32,.Ltcp30-4\n"
+    ".reloc .Ltcp74+754,R_X86_64_PLT32,.Ltcp36-4\n"
+    ".reloc .Ltcp74+2109,R_X86_64_PLT32,.Ltcp35-4\n"
+    ".section .text.tcp.75,\"ax\",%progbits\n"
     ".balign 16\n"
-    ".Ltcp71:\n"
+    ".Ltcp75:\n"
     ".globl tcp_c_emit_train\n"
     ".hidden tcp_c_emit_train\n"
     ".type tcp_c_emit_train,%function\n"
@@ -3596,14 +3734,14 @@ __asm__(
     ".long 0xfffc0be9\n"
     ".short 0xfff\n"
     ".byte 0xb\n"
-    ".reloc .Ltcp71+254,R_X86_64_PLT32,.Ltcp31-4\n"
-    ".reloc .Ltcp71+367,R_X86_64_PLT32,.Ltcp34-4\n"
-    ".reloc .Ltcp71+581,R_X86_64_PLT32,.Ltcp30-4\n"
-    ".reloc .Ltcp71+1322,R_X86_64_PLT32,.Ltcp36-4\n"
-    ".reloc .Ltcp71+2634,R_X86_64_PLT32,.Ltcp35-4\n"
-    ".section .text.tcp.72,\"ax\",%progbits\n"
+    ".reloc .Ltcp75+254,R_X86_64_PLT32,.Ltcp31-4\n"
+    ".reloc .Ltcp75+367,R_X86_64_PLT32,.Ltcp34-4\n"
+    ".reloc .Ltcp75+581,R_X86_64_PLT32,.Ltcp30-4\n"
+    ".reloc .Ltcp75+1322,R_X86_64_PLT32,.Ltcp36-4\n"
+    ".reloc .Ltcp75+2634,R_X86_64_PLT32,.Ltcp35-4\n"
+    ".section .text.tcp.76,\"ax\",%progbits\n"
     ".balign 16\n"
-    ".Ltcp72:\n"
+    ".Ltcp76:\n"
     ".globl tcp_c_free\n"
     ".hidden tcp_c_free\n"
     ".type tcp_c_free,%function\n"
@@ -3613,9 +3751,9 @@ __asm__(
     ".quad 0x1fb807110fc057\n"
     ".long 0x440f0000\n"
     ".short 0xc3c1\n"
-    ".section .text.tcp.73,\"ax\",%progbits\n"
+    ".section .text.tcp.77,\"ax\",%progbits\n"
     ".balign 16\n"
-    ".Ltcp73:\n"
+    ".Ltcp77:\n"
     ".globl tcp_c_listen\n"
     ".hidden tcp_c_listen\n"
     ".type tcp_c_listen,%function\n"
@@ -3625,9 +3763,9 @@ __asm__(
     ".octa 0x13041c6c3084f894817894808740030\n"
     ".quad 0x31084f8948178948\n"
     ".short 0xc3c0\n"
-    ".section .text.tcp.74,\"ax\",%progbits\n"
+    ".section .text.tcp.78,\"ax\",%progbits\n"
     ".balign 16\n"
-    ".Ltcp74:\n"
+    ".Ltcp78:\n"
     ".globl tcp_c_new\n"
     ".hidden tcp_c_new\n"
     ".type tcp_c_new,%function\n"
@@ -3651,11 +3789,11 @@ __asm__(
     ".quad 0x58894828894c3824\n"
     ".long 0xebc03108\n"
     ".byte 0xa5\n"
-    ".reloc .Ltcp74+270,R_X86_64_PLT32,.Ltcp28-4\n"
-    ".reloc .Ltcp74+336,R_X86_64_PC32,.Ltcp102-4\n"
-    ".section .text.tcp.75,\"ax\",%progbits\n"
+    ".reloc .Ltcp78+270,R_X86_64_PLT32,.Ltcp28-4\n"
+    ".reloc .Ltcp78+336,R_X86_64_PC32,.Ltcp106-4\n"
+    ".section .text.tcp.79,\"ax\",%progbits\n"
     ".balign 16\n"
-    ".Ltcp75:\n"
+    ".Ltcp79:\n"
     ".globl tcp_c_next\n"
     ".hidden tcp_c_next\n"
     ".type tcp_c_next,%function\n"
@@ -3674,23 +3812,23 @@ __asm__(
     ".octa 0x1174d28445344e8b45f8014dc0440f4c,0xfffea7e900000007ba41d231484e8b49,0x1d8d4cd3b60f4502fb8041ff\n"
     ".octa 0x35b8fffffe8de9d0430f4893148b47,0xe9d231c931c03145d23145c931450000\n"
     ".long 0xfffffe76\n"
-    ".reloc .Ltcp75+339,R_X86_64_PLT32,.Ltcp30-4\n"
-    ".reloc .Ltcp75+524,R_X86_64_PC32,.Ltcp10+380\n"
-    ".section .text.tcp.76,\"ax\",%progbits\n"
+    ".reloc .Ltcp79+339,R_X86_64_PLT32,.Ltcp30-4\n"
+    ".reloc .Ltcp79+524,R_X86_64_PC32,.Ltcp10+380\n"
+    ".section .text.tcp.80,\"ax\",%progbits\n"
     ".balign 16\n"
-    ".Ltcp76:\n"
+    ".Ltcp80:\n"
     ".globl tcp_c_peer\n"
     ".hidden tcp_c_peer\n"
     ".type tcp_c_peer,%function\n"
-    ".size tcp_c_peer,86\n"
+    ".size tcp_c_peer,99\n"
     "tcp_c_peer:\n"
-    ".octa 0x6c7744350526174746cb948,0x39480000001fb808478b4c000002c766,0x197400487883492c7507110fc0570f0f\n"
-    ".octa 0x847894c0f89483848b70f4534408b41,0x847894c0f8948c3c0310a8944660689\n"
-    ".long 0x10b8\n"
-    ".short 0xc300\n"
-    ".section .text.tcp.77,\"ax\",%progbits\n"
+    ".octa 0x394808478b48744350526174746cb948,0x2b740048788348217507110fc0570f0f,0x84789480f89483848b70f4434408b44\n"
+    ".octa 0x6c7c3c0310a894466068944,0x89480f8948c30000001fb8000002c766,0x10b8000002c7660000000006c70847\n"
+    ".short 0x0\n"
+    ".byte 0xc3\n"
+    ".section .text.tcp.81,\"ax\",%progbits\n"
     ".balign 16\n"
-    ".Ltcp77:\n"
+    ".Ltcp81:\n"
     ".globl tcp_c_pending\n"
     ".hidden tcp_c_pending\n"
     ".type tcp_c_pending,%function\n"
@@ -3707,10 +3845,10 @@ __asm__(
     ".octa 0xc35d5f415e415c415b20c48348c0310e\n"
     ".quad 0xeb0877894c1f8948\n"
     ".byte 0xe8\n"
-    ".reloc .Ltcp77+274,R_X86_64_PLT32,.Ltcp30-4\n"
-    ".section .text.tcp.78,\"ax\",%progbits\n"
+    ".reloc .Ltcp81+274,R_X86_64_PLT32,.Ltcp30-4\n"
+    ".section .text.tcp.82,\"ax\",%progbits\n"
     ".balign 16\n"
-    ".Ltcp78:\n"
+    ".Ltcp82:\n"
     ".globl tcp_c_receive\n"
     ".hidden tcp_c_receive\n"
     ".type tcp_c_receive,%function\n"
@@ -3722,11 +3860,11 @@ __asm__(
     ".octa 0x81048b000000000d8d48138948d1440f\n"
     ".quad 0x415c415b18c48348\n"
     ".long 0xc35f415e\n"
-    ".reloc .Ltcp78+91,R_X86_64_PLT32,.Ltcp37-4\n"
-    ".reloc .Ltcp78+153,R_X86_64_PC32,.Ltcp103-4\n"
-    ".section .text.tcp.79,\"ax\",%progbits\n"
+    ".reloc .Ltcp82+91,R_X86_64_PLT32,.Ltcp37-4\n"
+    ".reloc .Ltcp82+153,R_X86_64_PC32,.Ltcp107-4\n"
+    ".section .text.tcp.83,\"ax\",%progbits\n"
     ".balign 16\n"
-    ".Ltcp79:\n"
+    ".Ltcp83:\n"
     ".globl tcp_c_resend_first\n"
     ".hidden tcp_c_resend_first\n"
     ".type tcp_c_resend_first,%function\n"
@@ -3738,9 +3876,9 @@ __asm__(
     ".octa 0xf4dc1394df10149c9b70f45c8420f44,0xb1894800000001000000c881c748c843,0x8948178948000000d889894c000000d0\n"
     ".octa 0x36b8084f8948178948c35d5b084f\n"
     ".short 0xc300\n"
-    ".section .text.tcp.80,\"ax\",%progbits\n"
+    ".section .text.tcp.84,\"ax\",%progbits\n"
     ".balign 16\n"
-    ".Ltcp80:\n"
+    ".Ltcp84:\n"
     ".globl tcp_c_room\n"
     ".hidden tcp_c_room\n"
     ".type tcp_c_room,%function\n"
@@ -3750,9 +3888,9 @@ __asm__(
     ".octa 0x480fc08348f2450f00000400bef68566,0x148dd6b70ff0e183480fc18348f0e083,0x480a048d48c10148e0e2830000001e55\n"
     ".long 0x1a005\n"
     ".short 0xc300\n"
-    ".section .text.tcp.81,\"ax\",%progbits\n"
+    ".section .text.tcp.85,\"ax\",%progbits\n"
     ".balign 16\n"
-    ".Ltcp81:\n"
+    ".Ltcp85:\n"
     ".globl tcp_c_send\n"
     ".hidden tcp_c_send\n"
     ".type tcp_c_send,%function\n"
@@ -3780,9 +3918,9 @@ __asm__(
     ".octa 0xff493b148842003d54b60f420debee75,0x4f894c07894c6859014dee75fe394dc7\n"
     ".quad 0xfffc99e919894c08\n"
     ".byte 0xff\n"
-    ".section .text.tcp.82,\"ax\",%progbits\n"
+    ".section .text.tcp.86,\"ax\",%progbits\n"
     ".balign 16\n"
-    ".Ltcp82:\n"
+    ".Ltcp86:\n"
     ".globl tcp_c_sent\n"
     ".hidden tcp_c_sent\n"
     ".type tcp_c_sent,%function\n"
@@ -3799,10 +3937,10 @@ __asm__(
     ".octa 0x181868841c03109eb000000018186,0x415b20c48348c0310877894c1f894800,0xe175013c000000018186c641c35f415e\n"
     ".quad 0x18286c641\n"
     ".short 0xd7eb\n"
-    ".reloc .Ltcp82+293,R_X86_64_PLT32,.Ltcp30-4\n"
-    ".section .text.tcp.83,\"ax\",%progbits\n"
+    ".reloc .Ltcp86+293,R_X86_64_PLT32,.Ltcp30-4\n"
+    ".section .text.tcp.87,\"ax\",%progbits\n"
     ".balign 16\n"
-    ".Ltcp83:\n"
+    ".Ltcp87:\n"
     ".globl tcp_c_status\n"
     ".hidden tcp_c_status\n"
     ".type tcp_c_status,%function\n"
@@ -3821,9 +3959,9 @@ __asm__(
     ".quad 0x415e415d415c415b\n"
     ".short 0x5d5f\n"
     ".byte 0xc3\n"
-    ".section .text.tcp.84,\"ax\",%progbits\n"
+    ".section .text.tcp.88,\"ax\",%progbits\n"
     ".balign 16\n"
-    ".Ltcp84:\n"
+    ".Ltcp88:\n"
     ".globl tcp_c_stray_reset\n"
     ".hidden tcp_c_stray_reset\n"
     ".type tcp_c_stray_reset,%function\n"
@@ -3855,11 +3993,11 @@ __asm__(
     ".octa 0x6655c1700f66c8fe0f66eec8700f66c2,0xc80145f80141d00141c17e0f66c1fe0f,0xf4880008001ba00010019c181c10144\n"
     ".octa 0x89ca01fa2910e7c1d7892feac148d1af,0x4c894266ca440fd28508c1c166d1f7d1,0x5c415b08c483480000001407c7491036\n"
     ".quad 0xc35d5f415e415d41\n"
-    ".reloc .Ltcp84+170,R_X86_64_PLT32,.Ltcp1-4\n"
-    ".reloc .Ltcp84+1084,R_X86_64_PC32,.Ltcp10+268\n"
-    ".section .text.tcp.85,\"ax\",%progbits\n"
+    ".reloc .Ltcp88+170,R_X86_64_PLT32,.Ltcp1-4\n"
+    ".reloc .Ltcp88+1084,R_X86_64_PC32,.Ltcp10+268\n"
+    ".section .text.tcp.89,\"ax\",%progbits\n"
     ".balign 16\n"
-    ".Ltcp85:\n"
+    ".Ltcp89:\n"
     ".globl tcp_c_timers\n"
     ".hidden tcp_c_timers\n"
     ".type tcp_c_timers,%function\n"
@@ -3874,9 +4012,9 @@ __asm__(
     ".long 0x689c809\n"
     ".short 0xc031\n"
     ".byte 0xc3\n"
-    ".section .text.tcp.86,\"ax\",%progbits\n"
+    ".section .text.tcp.90,\"ax\",%progbits\n"
     ".balign 16\n"
-    ".Ltcp86:\n"
+    ".Ltcp90:\n"
     ".globl tcp_c_transmit\n"
     ".hidden tcp_c_transmit\n"
     ".type tcp_c_transmit,%function\n"
@@ -3941,34 +4079,29 @@ __asm__(
     ".quad 0xa5e900000000e8f9\n"
     ".short 0xfffb\n"
     ".byte 0xff\n"
-    ".reloc .Ltcp86+234,R_X86_64_PLT32,.Ltcp31-4\n"
-    ".reloc .Ltcp86+344,R_X86_64_PLT32,.Ltcp34-4\n"
-    ".reloc .Ltcp86+568,R_X86_64_PLT32,.Ltcp30-4\n"
-    ".reloc .Ltcp86+751,R_X86_64_PLT32,.Ltcp36-4\n"
-    ".reloc .Ltcp86+1640,R_X86_64_PLT32,.Ltcp1-4\n"
-    ".reloc .Ltcp86+2103,R_X86_64_PC32,.Ltcp10+284\n"
-    ".reloc .Ltcp86+2554,R_X86_64_PLT32,.Ltcp35-4\n"
-    ".section .text.tcp.87,\"ax\",%progbits\n"
+    ".reloc .Ltcp90+234,R_X86_64_PLT32,.Ltcp31-4\n"
+    ".reloc .Ltcp90+344,R_X86_64_PLT32,.Ltcp34-4\n"
+    ".reloc .Ltcp90+568,R_X86_64_PLT32,.Ltcp30-4\n"
+    ".reloc .Ltcp90+751,R_X86_64_PLT32,.Ltcp36-4\n"
+    ".reloc .Ltcp90+1640,R_X86_64_PLT32,.Ltcp1-4\n"
+    ".reloc .Ltcp90+2103,R_X86_64_PC32,.Ltcp10+284\n"
+    ".reloc .Ltcp90+2554,R_X86_64_PLT32,.Ltcp35-4\n"
+    ".section .text.tcp.91,\"ax\",%progbits\n"
     ".balign 16\n"
-    ".Ltcp87:\n"
+    ".Ltcp91:\n"
     ".globl tcp_c_connection_poll_at\n"
     ".hidden tcp_c_connection_poll_at\n"
     ".type tcp_c_connection_poll_at,%function\n"
-    ".size tcp_c_connection_poll_at,408\n"
+    ".size tcp_c_connection_poll_at,101\n"
     "tcp_c_connection_poll_at:\n"
-    ".octa 0x6c748764350526174746cb948,0xc0570f0f39480000001fb808578b4800,0x49000001a8828b0000016e850f07110f\n"
-    ".octa 0x7600000290823b4000000000000000b9,0x450000028082b60f4febd2314501b007,0xc141c0950f410000000278ba8348c031\n"
-    ".octa 0xb00284b60f46000001b8029c8b4e04e0,0x4dcb394dc0084101f080410134000001,0xc08445d23145000002889a034cd9430f\n"
-    ".octa 0xa882b60f4453564155d3440f4dc0950f,0x1d89a8b48000001d09ab60f44000002,0xcb394cc3084501f3804101f080410000\n"
-    ".octa 0x894dd1394d000002b08a034ccb420f4c,0xf49c3950f41db8445db31c1420f4dd0,0x92b60f44c3450f4cc084c2450f4dd944\n"
-    ".octa 0x2708a8b4c00000268aab60f00000248,0x260b28b4c21750100000258ba800000,0x430f4df1394d357501fd804001b30000\n"
-    ".octa 0x2044eb892feb0d7401fa8041d82044ce,0xb241000002509a8b4c247501fa8041d8,0x4d14ebcb430f4dd9394d1a7501fb8001\n"
-    ".octa 0x3ebda8941dc7401fa8041d82044f189,0x4801fa804111745d5e415bc084d9894d,0x4dc1394d0febc8450f4cffffffffc0c7\n"
-    ".octa 0x89480f8948c8450f4d01fa8041c8430f\n"
-    ".quad 0xc3c0310e894c0857\n"
-    ".section .text.tcp.88,\"ax\",%progbits\n"
+    ".octa 0x50526174746cbf495053544156415741,0x1fb808678b4c0000000006c7487643,0xf389482c7507110fc0570f3f394c0000\n"
+    ".octa 0xe8000001a024bc8d49fe8949,0xffffffffc0c748013c0866894d3e894d,0x5c415b08c48348c031038948c2440f48\n"
+    ".long 0x5f415e41\n"
+    ".byte 0xc3\n"
+    ".reloc .Ltcp91+60,R_X86_64_PLT32,.Ltcp39-4\n"
+    ".section .text.tcp.92,\"ax\",%progbits\n"
     ".balign 16\n"
-    ".Ltcp88:\n"
+    ".Ltcp92:\n"
     ".globl tcp_c_time_wait_pending\n"
     ".hidden tcp_c_time_wait_pending\n"
     ".type tcp_c_time_wait_pending,%function\n"
@@ -3976,9 +4109,9 @@ __asm__(
     "tcp_c_time_wait_pending:\n"
     ".octa 0x6573743f8100000027b80000000006c7,0x100000187f811e77032e7f8366257552,0x2c7f8366c0310f770e2a7f80157700\n"
     ".octa 0xc30000001406c7c30175002b7f800775\n"
-    ".section .text.tcp.89,\"ax\",%progbits\n"
+    ".section .text.tcp.93,\"ax\",%progbits\n"
     ".balign 16\n"
-    ".Ltcp89:\n"
+    ".Ltcp93:\n"
     ".globl tcp_c_time_wait_status\n"
     ".hidden tcp_c_time_wait_status\n"
     ".type tcp_c_time_wait_status,%function\n"
@@ -3987,52 +4120,57 @@ __asm__(
     ".octa 0x27b80000000002c70000000006c7,0x3f9832e4fb70f2875526573743f8100,0x770e2a7f80167700100000187f811f77\n"
     ".octa 0x893e89f8450f0000000abfc985c03110\n"
     ".short 0xc30a\n"
-    ".section .text.tcp.90,\"ax\",%progbits\n"
+    ".section .text.tcp.94,\"ax\",%progbits\n"
     ".balign 16\n"
-    ".Ltcp90:\n"
+    ".Ltcp94:\n"
     ".globl tcp_c_connection_timeout\n"
     ".hidden tcp_c_connection_timeout\n"
     ".type tcp_c_connection_timeout,%function\n"
-    ".size tcp_c_connection_timeout,1422\n"
+    ".size tcp_c_connection_timeout,1667\n"
     "tcp_c_connection_timeout:\n"
-    ".octa 0x74746cbe495053544155415641574155,0xb8085f8b480000000002c77643505261,0x4c850f07110fc0570f37394c0000001f\n"
-    ".octa 0x2c0838b4800000000042444c7000005,0x48ce39484000000000000000b9480000,0xb8bb80ff3145f0460f48c63948f1430f\n"
-    ".octa 0x2c0b389480c7400000000bd00000002,0xa8833900000290838b000004f1e90000,0xb60f4453ebc9314501b0410876000001\n"
-    ".octa 0x278bb8348c931450000028083,0x1b819948b4d04e1c141c1950f41,0xf3804101f08041000001b0199cb60f45\n"
-    ".octa 0x28893034cd1430f4cca3949c3084501,0xca440f4dc0950f41db8445c931450000,0x1d09bb60f44000002a893b60f44\n"
-    ".octa 0x4501f3804101f28041000001d8a38b4c,0x2b08b0348cc420f49cc3949d308,0xf58040c58944d1420f4cca894dc9394c\n"
-    ".octa 0xf4dc1940fe1440f4cdb8445e4314501,0xf01f980d4450f4dc08445e90840d145,0x8d4c000000bd870ff23949000000c685\n"
-    ".octa 0x843043b60f627500317b80000002a8bb,0x43cfd04d58948fd8949f489495a74c0,0xc74843033853b70f344b8b08438b3577\n"
+    ".octa 0xbf4928ec834853544155415641574155,0x8b480000000002c7764350526174746c,0x7110fc0570f3f394c0000001fb8085f\n"
+    ".octa 0xbc49000002c0838b480000063e850f,0x3948f4430f49e6394c40000000000000,0xbe4100000002b8bb80ed31f0460f48c6\n"
+    ".octa 0x8d48d5894910247c89484f7500000000,0xf6894c00000000e8f68949000001a0bb,0x1f980c120c1960ff2394cc0940f013c\n"
+    ".octa 0x1a883390c24448900000290838b1875,0xea894cf6314561ebc93101b01d760000,0x59de9000002c0b3894810247c8b48\n"
+    ".octa 0x278bb8348c9310000028083b60f00,0x1b819948b4804e1c1c1950f0000,0x84001f780400134000001b019bcb60f\n"
+    ".octa 0x3100000288930348d4430f49e2394cc7,0x8b48ea894cca440f48c0950fff8440c9,0xd083b60f44000002a893b60f4410247c\n"
+    ".octa 0x412024548944000001d88b8b4c000001,0x420f4de1394dd0084501f0804101f280,0xf4dc98949cc3949000002b0a3034ce1\n"
+    ".octa 0x4dc08445db314501f28041c28941cc42,0xc084d00845c9450f4cc0940f41dc440f,0x3949000000cf850f01f88041cb450f4d\n"
+    ".octa 0x7b80000002a8a38d4c000000c6870ff1,0x43cfd045374c0843043b60f5b750031,0xc74843033853b70f344b8b08438b3577\n"
     ".octa 0x18c938966000000010000018483,0x9483c748000001908389000001888b89,0xe800000003bedf894800000000000001\n"
-    ".octa 0xc0570fe6894cef894cea894800000000,0x29083c70000028083110f,0x508b8b48000002488b8b4c07110f4100\n"
-    ".octa 0x260838b4800000258938b4c000002,0x1b5403043b60f440000026883100f00,0x2508b8b4800000257e900000003bf41\n"
-    ".octa 0xf13948c0940f410100000248bb800000,0xf453043b60f447474c88445c1960f41,0xb72d1a30f450000044fb941c931d0b6\n"
-    ".octa 0xbb41c93145c1920f484b3b48404b8b48,0x8b4c0000016d820fd3a30f450000044f,0x505b8b4c0000015c850f48533b4c4053\n"
-    ".octa 0x4d00000000bb41da294dc93145c3ff49,0xe0bb830000013e860f685b394cda430f,0x838b480000012ee9c1940f4100000000\n"
-    ".octa 0x48c0940f410100000258bb8000000260,0x440000009b840fc88445c1960f41f039,0xf410000044fb941c0b60f413043b60f\n"
-    ".octa 0x3374c08548000000a0838b483f72c1a3,0x404b8b4cfcc1448b41000000988b8b4c,0xc883c748c0ff48d0014c50538b4c\n"
-    ".octa 0xd8838948000000d08b894c0000000100,0x220938b4c00000298838b48000000,0x48c2430f49d0394c000002488b8b4c00\n"
-    ".octa 0x298838948c2430f49d0394cc001,0x1bf4101b5400000026883100f,0x268bb8000000108e9c031d23145\n"
-    ".octa 0xc5960f4000000270b33948c0940f4101,0x80413043b60f44fffffcf2840fc52044,0x18083c76601003043c7662b750af8\n"
-    ".octa 0xc883110f000000018283c6000000,0x4cc0314500000000000000d883c74800,0x2bf4100000258938b4c000002488b8b\n"
-    ".octa 0x482b74c984c931450000009ae9000000,0xa083c7480b7400000000a0bb83,0xf00000001000000c883c74800000000\n"
-    ".octa 0xfee180c18944000000d083110f404310,0x828b0844000001808b08c1940f02f980,0x2208b8b4c000001f08b8b48000001\n"
-    ".octa 0x2208b894cc9430f4cc93949c9014d00,0x2908b89c8450fffffffffb9c0ff0000,0x260838b4800000258938b4c0000\n"
-    ".octa 0xc93145ff314501b5400000026883100f,0x2508b8948000002488b894cc931,0x110f000002608389480000025893894c\n"
-    ".octa 0x24c0894401000002b883c60000026883,0xb8c931455e74023cc8b60f4101b141fe,0x538b4c40438b485173c8a30f000003b0\n"
-    ".octa 0x940f4106f880414172d0394c01b14148,0x538b4c2a75ca0845c2950f41d0394cc1,0xba41d0294cc93145c2ff4950\n"
-    ".octa 0xe0bb8310766853394cd0430f4c,0x1a0838d48c9314503ebc1940f4100,0xc72cba30f410000044fbb41d2314500\n"
-    ".octa 0x49f18948c2950f4100000000a0bb8348,0x140bb83480d7506f88041d58949fc89,0x88440af88041d23102ebc2940f000000\n"
-    ".octa 0x245488062444940f052454884404244c,0xe8c789480424748d4840538b4807,0xb8085f894837894ce7894cea894c0000\n"
-    ".octa 0x48c0313a8944057501fd804000000035\n"
-    ".quad 0x5d415c415b08c483\n"
-    ".long 0x5f415e41\n"
-    ".short 0xc35d\n"
-    ".reloc .Ltcp90+432,R_X86_64_PLT32,.Ltcp0-4\n"
-    ".reloc .Ltcp90+1374,R_X86_64_PLT32,.Ltcp26-4\n"
-    ".section .text.tcp.91,\"ax\",%progbits\n"
+    ".octa 0xff6894c10247c8b48ea894c00000000,0x29083c70000028083110fc057,0x48000002489b8b4c2404110f41000000\n"
+    ".octa 0x8b8b4800000258938b4c00000250838b,0x304bb60f440000026883100f00000260,0x3bd00000000202444c701b641\n"
+    ".octa 0x838b480000025de9000000000c2444c7,0x3948c1940f0100000248bb8000000250,0x45304bb60f447074c18444c0960f41f0\n"
+    ".octa 0xb72d1a30f440000044fb9c031d1b60f,0x4fb841c931c0920f48433b4840438b48,0x538b4c0000016e820fd0a30f45000004\n"
+    ".octa 0x4950438b4c0000015e850f48533b4c40,0x430f4d00000000b841c2294dc931c0ff,0xe0bb8300000140860f6843394cc2\n"
+    ".octa 0x2608b8b4800000131e9c1940f0000,0x41f13948c0940f410100000258bb8000,0x4bb60f440000009a840fc88445c1960f\n"
+    ".octa 0x72c8a30f410000044fb841c9b60f4130,0x838b4c3374c98548000000a08b8b483f,0x538b4c40438b4cfcc84c8b4100000098\n"
+    ".octa 0x1000000c883c748c1ff48d1014c50,0xd88b8948000000d083894c0000,0x8b4c00000220838b4c000002988b8b48\n"
+    ".octa 0x4cc90148c8430f49c1394c000002489b,0x83100f000002988b8948c8430f49c139,0x31d2314500000001bd01b64100000268\n"
+    ".octa 0x940f410100000268bb8000000114e9c9,0xfc62045c6960f4100000270b33948c0,0x2e750af98041304bb60f44fffffd0084\n"
+    ".octa 0xc600000000018083c76601003043c766,0xc883110fc0570f000000018283,0x8b4cc9314500000000000000d883c748\n"
+    ".octa 0xbdc0570f00000258938b4c000002489b,0x482b74c084c931000000a1e900000002,0xa083c7480b7400000000a0bb83\n"
+    ".octa 0xf00000001000000c883c74800000000,0x3cfe24c88944000000d083110f404310,0x1828b08000001808308c0940f02\n"
+    ".octa 0x148000002208b8b48000001f0838b48,0x8b000002208b8948c8430f48c13948c9,0x908389c1450fffffffffb8c1ff0c244c\n"
+    ".octa 0x2608b8b4800000258938b4c000002,0x10c2444c701b6410000026883100f00,0x2489b894cc031db3145ed31000000\n"
+    ".octa 0x480000025893894c0000025083894800,0xb883c60000026883110f000002608b89,0x2444110ff3fee08041c8894501000002\n"
+    ".octa 0x5d7402f88041c1b60f4100000001b91c,0x40638b4c4f73c0a30f41000003b0b841,0xc1940f06f980414472c4394d48438b4c\n"
+    ".octa 0x7500000000b9c80841c0950f41c4394d,0xb841c4294dc931c0ff4950438b4c2c,0x83c93110766843394cc4430f4d000000\n"
+    ".octa 0xe43145c93102ebc1940f00000000e0bb,0x48e431451372c0a30f410000044fb841,0x4108e4c141c4950f4100000000a0bb83\n"
+    ".octa 0xf0000000140bb8348c031147506f980,0xaf98041c03145c189c80918e0c1c094,0x41e0094510e0c14140438b48c0940f41\n"
+    ".octa 0x850f00000278833b482424448944c809,0xb60f447f7501c3f641cb304100000088,0x7501c0f641c80841d88945000002809b\n"
+    ".octa 0x41c3950f41e485456475000c247c832a,0x4c750000000294bb80c0940f410af980,0xf41e4854541eb237401c3f641d33045\n"
+    ".octa 0xc3f641cb2041c0940f410af98041c495,0x24443244207501c4f641d43045297401,0x412024448b4418e9c1157501c0f6411c\n"
+    ".octa 0x24548d48fffffa79840f01c0f641c830,0x8948d68948f18948000001a0bb8d4824,0x894cea894c10247c8b4800000000e8c2\n"
+    ".octa 0x47501fe804100000035b8085f89483f,0x415e415d415c415b28c48348c0312a89\n"
+    ".short 0x5d5f\n"
+    ".byte 0xc3\n"
+    ".reloc .Ltcp94+121,R_X86_64_PLT32,.Ltcp39-4\n"
+    ".reloc .Ltcp94+480,R_X86_64_PLT32,.Ltcp0-4\n"
+    ".reloc .Ltcp94+1618,R_X86_64_PLT32,.Ltcp26-4\n"
+    ".section .text.tcp.95,\"ax\",%progbits\n"
     ".balign 16\n"
-    ".Ltcp91:\n"
+    ".Ltcp95:\n"
     ".globl tcp_c_timer\n"
     ".hidden tcp_c_timer\n"
     ".type tcp_c_timer,%function\n"
@@ -4049,9 +4187,9 @@ __asm__(
     ".octa 0x8948c031027501fe804000000036b8c6\n"
     ".long 0x5789480f\n"
     ".short 0xc308\n"
-    ".section .text.tcp.92,\"ax\",%progbits\n"
+    ".section .text.tcp.96,\"ax\",%progbits\n"
     ".balign 16\n"
-    ".Ltcp92:\n"
+    ".Ltcp96:\n"
     ".globl tcp_c_connection_peek\n"
     ".hidden tcp_c_connection_peek\n"
     ".type tcp_c_connection_peek,%function\n"
@@ -4066,9 +4204,9 @@ __asm__(
     ".quad 0x31000001009ab60f\n"
     ".short 0xebc0\n"
     ".byte 0x95\n"
-    ".section .text.tcp.93,\"ax\",%progbits\n"
+    ".section .text.tcp.97,\"ax\",%progbits\n"
     ".balign 16\n"
-    ".Ltcp93:\n"
+    ".Ltcp97:\n"
     ".globl tcp_c_peek\n"
     ".hidden tcp_c_peek\n"
     ".type tcp_c_peek,%function\n"
@@ -4083,9 +4221,9 @@ __asm__(
     ".quad 0x31000001009ab60f\n"
     ".short 0xebc0\n"
     ".byte 0x95\n"
-    ".section .text.tcp.94,\"ax\",%progbits\n"
+    ".section .text.tcp.98,\"ax\",%progbits\n"
     ".balign 16\n"
-    ".Ltcp94:\n"
+    ".Ltcp98:\n"
     ".globl tcp_c_parts\n"
     ".hidden tcp_c_parts\n"
     ".type tcp_c_parts,%function\n"
@@ -4144,20 +4282,20 @@ __asm__(
     ".octa 0x24448b48c18900000000e818244c8b4c,0x8b4c34538b10244c89416608c1c16628,0x440f4df6854df8440f4dc0854d182444\n"
     ".octa 0xfab8e958247c8b4850244c8b48f631ee\n"
     ".short 0xffff\n"
-    ".reloc .Ltcp94+224,R_X86_64_PLT32,.Ltcp31-4\n"
-    ".reloc .Ltcp94+279,R_X86_64_PLT32,.Ltcp34-4\n"
-    ".reloc .Ltcp94+443,R_X86_64_PLT32,.Ltcp30-4\n"
-    ".reloc .Ltcp94+766,R_X86_64_PLT32,.Ltcp36-4\n"
-    ".reloc .Ltcp94+935,R_X86_64_PC32,.Ltcp10+300\n"
-    ".reloc .Ltcp94+1011,R_X86_64_PC32,.Ltcp10+316\n"
-    ".reloc .Ltcp94+1332,R_X86_64_PC32,.Ltcp100-4\n"
-    ".reloc .Ltcp94+1850,R_X86_64_PC32,.Ltcp100-4\n"
-    ".reloc .Ltcp94+2120,R_X86_64_PLT32,.Ltcp39-4\n"
-    ".reloc .Ltcp94+2365,R_X86_64_PLT32,.Ltcp32-4\n"
-    ".reloc .Ltcp94+2406,R_X86_64_PLT32,.Ltcp39-4\n"
-    ".section .text.tcp.95,\"ax\",%progbits\n"
+    ".reloc .Ltcp98+224,R_X86_64_PLT32,.Ltcp31-4\n"
+    ".reloc .Ltcp98+279,R_X86_64_PLT32,.Ltcp34-4\n"
+    ".reloc .Ltcp98+443,R_X86_64_PLT32,.Ltcp30-4\n"
+    ".reloc .Ltcp98+766,R_X86_64_PLT32,.Ltcp36-4\n"
+    ".reloc .Ltcp98+935,R_X86_64_PC32,.Ltcp10+300\n"
+    ".reloc .Ltcp98+1011,R_X86_64_PC32,.Ltcp10+316\n"
+    ".reloc .Ltcp98+1332,R_X86_64_PC32,.Ltcp104-4\n"
+    ".reloc .Ltcp98+1850,R_X86_64_PC32,.Ltcp104-4\n"
+    ".reloc .Ltcp98+2120,R_X86_64_PLT32,.Ltcp40-4\n"
+    ".reloc .Ltcp98+2365,R_X86_64_PLT32,.Ltcp32-4\n"
+    ".reloc .Ltcp98+2406,R_X86_64_PLT32,.Ltcp40-4\n"
+    ".section .text.tcp.99,\"ax\",%progbits\n"
     ".balign 16\n"
-    ".Ltcp95:\n"
+    ".Ltcp99:\n"
     ".globl tcp_c_time_wait\n"
     ".hidden tcp_c_time_wait\n"
     ".type tcp_c_time_wait,%function\n"
@@ -4175,9 +4313,9 @@ __asm__(
     ".octa 0x44287e894466245689207e891c6e8918,0x8b2c4e89662b4688ed2444b60f2a4e88,0x5e415d415c415bc0312e468966fc2444\n"
     ".octa 0x39b8085789480f8948c35d5f41\n"
     ".byte 0xc3\n"
-    ".section .text.tcp.96,\"ax\",%progbits\n"
+    ".section .text.tcp.100,\"ax\",%progbits\n"
     ".balign 16\n"
-    ".Ltcp96:\n"
+    ".Ltcp100:\n"
     ".globl tcp_c_time_wait_abort\n"
     ".hidden tcp_c_time_wait_abort\n"
     ".type tcp_c_time_wait_abort,%function\n"
@@ -4189,9 +4327,9 @@ __asm__(
     ".octa 0xff41c0b60f45f1450f41c08445f63112,0xc98566c03145d231f631c0570f0aebc0,0x5789662477891c47130f5265737407c7\n"
     ".octa 0xb92e578944662c478944662b5f884428\n"
     ".quad 0xc3c1450f0000000e\n"
-    ".section .text.tcp.97,\"ax\",%progbits\n"
+    ".section .text.tcp.101,\"ax\",%progbits\n"
     ".balign 16\n"
-    ".Ltcp97:\n"
+    ".Ltcp101:\n"
     ".globl tcp_c_time_wait_arrive\n"
     ".hidden tcp_c_time_wait_arrive\n"
     ".type tcp_c_time_wait_arrive,%function\n"
@@ -4242,11 +4380,11 @@ __asm__(
     ".long 0xf5e90e24\n"
     ".short 0xfffb\n"
     ".byte 0xff\n"
-    ".reloc .Ltcp97+378,R_X86_64_PLT32,.Ltcp1-4\n"
-    ".reloc .Ltcp97+906,R_X86_64_PC32,.Ltcp10+332\n"
-    ".section .text.tcp.98,\"ax\",%progbits\n"
+    ".reloc .Ltcp101+378,R_X86_64_PLT32,.Ltcp1-4\n"
+    ".reloc .Ltcp101+906,R_X86_64_PC32,.Ltcp10+332\n"
+    ".section .text.tcp.102,\"ax\",%progbits\n"
     ".balign 16\n"
-    ".Ltcp98:\n"
+    ".Ltcp102:\n"
     ".globl tcp_c_time_wait_emit\n"
     ".hidden tcp_c_time_wait_emit\n"
     ".type tcp_c_time_wait_emit,%function\n"
@@ -4276,13 +4414,13 @@ __asm__(
     ".octa 0xb74c9844500000035b82e478966f624,0x5d415c415bc0313089490189e024448b\n"
     ".long 0x5f415e41\n"
     ".short 0xc35d\n"
-    ".reloc .Ltcp98+368,R_X86_64_PC32,.Ltcp10+348\n"
-    ".reloc .Ltcp98+446,R_X86_64_PC32,.Ltcp10+364\n"
-    ".reloc .Ltcp98+717,R_X86_64_PC32,.Ltcp10+348\n"
-    ".reloc .Ltcp98+795,R_X86_64_PC32,.Ltcp10+364\n"
-    ".section .text.tcp.99,\"ax\",%progbits\n"
+    ".reloc .Ltcp102+368,R_X86_64_PC32,.Ltcp10+348\n"
+    ".reloc .Ltcp102+446,R_X86_64_PC32,.Ltcp10+364\n"
+    ".reloc .Ltcp102+717,R_X86_64_PC32,.Ltcp10+348\n"
+    ".reloc .Ltcp102+795,R_X86_64_PC32,.Ltcp10+364\n"
+    ".section .text.tcp.103,\"ax\",%progbits\n"
     ".balign 16\n"
-    ".Ltcp99:\n"
+    ".Ltcp103:\n"
     ".globl tcp_c_time_wait_timer\n"
     ".hidden tcp_c_time_wait_timer\n"
     ".type tcp_c_time_wait_timer,%function\n"
@@ -4294,22 +4432,22 @@ __asm__(
     ".octa 0x4566f631c0310001b966d231452174f0,0x41c1b60f45f3450f41c984451d74c085,0x75c0854566f63100000036b815ebc0ff\n"
     ".octa 0xf5265737407c7c03145d231c0570fe3,0x44662b578844285789662477891c4713\n"
     ".quad 0xc32e4f89662c4789\n"
-    ".section .rodata.tcp.100,\"a\",%progbits\n"
+    ".section .rodata.tcp.104,\"a\",%progbits\n"
     ".balign 1\n"
-    ".Ltcp100:\n"
-    ".section .rodata.tcp.101,\"a\",%progbits\n"
+    ".Ltcp104:\n"
+    ".section .rodata.tcp.105,\"a\",%progbits\n"
     ".balign 4\n"
-    ".Ltcp101:\n"
+    ".Ltcp105:\n"
     ".octa 0x10000000100000000,0x1000000000000000100000001,0x1000000010000000000000001\n"
     ".octa 0x1000000010000000100000000\n"
-    ".section .rodata.tcp.102,\"a\",%progbits\n"
+    ".section .rodata.tcp.106,\"a\",%progbits\n"
     ".balign 4\n"
-    ".Ltcp102:\n"
+    ".Ltcp106:\n"
     ".octa 0x19000000180000001700000015\n"
     ".long 0x16\n"
-    ".section .rodata.tcp.103,\"a\",%progbits\n"
+    ".section .rodata.tcp.107,\"a\",%progbits\n"
     ".balign 4\n"
-    ".Ltcp103:\n"
+    ".Ltcp107:\n"
     ".quad 0x3300000000\n"
     ".long 0x34\n"
     ".popsection\n"
@@ -4614,7 +4752,7 @@ __asm__(
     ".byte 0xff\n"
     ".reloc .Ltcp14+358,R_X86_64_PC32,.Ltcp10+12\n"
     ".reloc .Ltcp14+628,R_X86_64_PLT32,.Ltcp15-4\n"
-    ".reloc .Ltcp14+915,R_X86_64_PC32,.Ltcp100-4\n"
+    ".reloc .Ltcp14+915,R_X86_64_PC32,.Ltcp104-4\n"
     ".reloc .Ltcp14+927,R_X86_64_PLT32,.Ltcp16-4\n"
     ".reloc .Ltcp14+1122,R_X86_64_PC32,.Ltcp10+12\n"
     ".reloc .Ltcp14+1692,R_X86_64_PLT32,.Ltcp15-4\n"
@@ -4913,9 +5051,9 @@ __asm__(
     ".section .text.tcp.26,\"ax\",%progbits\n"
     ".balign 16\n"
     ".Ltcp26:\n"
-    ".type \"tcp_driver::timers::Timers::follow\",%function\n"
-    ".size \"tcp_driver::timers::Timers::follow\",491\n"
-    "\"tcp_driver::timers::Timers::follow\":\n"
+    ".type \"tcp_driver::timers::Timers::start\",%function\n"
+    ".size \"tcp_driver::timers::Timers::start\",491\n"
+    "\"tcp_driver::timers::Timers::start\":\n"
     ".octa 0xd8878b4853544155415641574155,0x1075c23948f024448948e82454894800,0x24eb000000f8978b4800000080978b4c\n"
     ".octa 0x80978b4c70578b48147501687f80,0x80978b4c0aebd2430f49d2394c00,0xbb49078b4806b60f44d2894c00\n"
     ".octa 0xa1c8d49d8420f4cd8394c4000000000,0xb0af8b4c0775dd894901000000a8bf80,0xd2394c0276b60f44017eb60f44000000\n"
@@ -5011,7 +5149,7 @@ __asm__(
     ".long 0xfcc3e9c0\n"
     ".short 0xffff\n"
     ".reloc .Ltcp27+670,R_X86_64_PLT32,.Ltcp28-4\n"
-    ".reloc .Ltcp27+728,R_X86_64_PC32,.Ltcp102-4\n"
+    ".reloc .Ltcp27+728,R_X86_64_PC32,.Ltcp106-4\n"
     ".reloc .Ltcp27+1382,R_X86_64_PLT32,.Ltcp29-4\n"
     ".section .text.tcp.28,\"ax\",%progbits\n"
     ".balign 16\n"
@@ -5091,42 +5229,51 @@ __asm__(
     ".balign 16\n"
     ".Ltcp29:\n"
     ".type \"tcp_driver::driver::Driver::new::<#d2d8538547da228f>\",%function\n"
-    ".size \"tcp_driver::driver::Driver::new::<#d2d8538547da228f>\",1553\n"
+    ".size \"tcp_driver::driver::Driver::new::<#d2d8538547da228f>\",1960\n"
     "\"tcp_driver::driver::Driver::new::<#d2d8538547da228f>\":\n"
-    ".octa 0x158ec814853544155415641574155,0x894848468b48407e8b4c304eb60f4400,0x68468b48a02444894850468b48882444\n"
-    ".octa 0x24448948000000a0868b48a824448948,0x140868b4884244489000000e0868bb0,0x8b4c085a8b4c1a8b48b8244489480000\n"
-    ".octa 0xc74800000000972444c748318b4c1052,0x1402484290fc0570f00000000902444,0x1202484290f000001102484290f0000\n"
-    ".octa 0x290f2404290f000001302484290f0000,0x302444c748202444290f102444,0xb02484290f000000a02484290f00\n"
-    ".octa 0xd02484290f000000c02484290f00,0xec2484110f000000e02484290f00,0x290f702444290f000000802484290f00\n"
-    ".octa 0x84c748402444290f502444290f602444,0x290fe02444290f000000000000009024,0xf02444c748c02444290fd02444\n"
-    ".octa 0xed8941e9b60f41000001002484290f00,0xe43145607402fd804101b441fee58041,0x4c01b4415173eda30f41000003b0bd41\n"
-    ".octa 0x3b4cc4940f4106f98041477288247c3b,0x24448b482e75e50845c5950f4188247c,0xbd41e8294cf8894ce4314501688d4ca0\n"
-    ".octa 0x830e76a8246c394ce8430f4c00000000,0xed3145e4314503ebc4940f410084247c,0xb0247c83480a72e8a30f0000044fb8\n"
-    ".octa 0x246c8948386e8b4831468b48c5950f41,0x1402484290f5846100f902444894897,0x96100f000000808e100f7046100f0000\n"
-    ".octa 0x248c290f000001302494290f00000090,0xa886100f000001102484290f00000120,0xc896100f000000b88e100f000000\n"
-    ".octa 0x48202454290f10244c290f2404290f00,0x13086100f3024448948000000d8868b,0x12486100f000000ec2484110f0000\n"
-    ".octa 0xe486100f000000e02484290f00,0x100f0000010496100f000000f48e100f,0x94290f000000d0249c290f000001149e\n"
-    ".octa 0x84290f000000b0248c290f000000c024,0x588e100f0000014886100f000000a024,0x1789e100f0000016896100f000001\n"
-    ".octa 0x602454290f50244c290f402444290f00,0x2484290f0000018886100f70245c290f,0x902484894800000198868b4800000080\n"
-    ".octa 0xf2851100f1849100f0841100f000000,0x8b48e02454290fd0244c290fc0244429,0x2484290f1842100ff0244489483841\n"
-    ".octa 0x110f2056100f104e100f06100f000001,0x448b48304f884407110f104f110f2057,0x4c384f89483147894897244c8b489024\n"
-    ".octa 0x48484789488824448b48407f894cfd89,0x402484280fdb394c50478948a024448b,0x68478948a824448b485847110f000001\n"
-    ".octa 0x280fca430f49d1394ccb470f48d9894c,0x280f00000120248c280f000001102484,0x808f110f7047110f000001302494\n"
-    ".octa 0x878948b024448b480000009097110f00,0x54280f10244c280f2404280f000000a0,0xb88f110f000000a887110f2024\n"
-    ".octa 0xd88789483024448b48000000c897110f,0xf039494000000000000000be48000000,0xe087898424448b06f98041c6430f4c\n"
-    ".octa 0xc2940fff854db8247c8b4cc0940f0000,0xec2484100ff6420f49f63949c220,0xe02484280f0000013087110f00\n"
-    ".octa 0xf000000a02484280f0000012487110f,0xf000000c02494280f000000b0248c28,0x110f000001149f110f000000d0249c28\n"
-    ".octa 0xe487110f000000f48f110f0000010497,0x9024848b4800000140bf894c000000,0x84280f013c8d4e000001988789480000\n"
-    ".octa 0x2444280f0000018887110f0000008024,0x70245c280f602454280f50244c280f40,0x110f0000016897110f000001789f110f\n"
-    ".octa 0xa0b7894c0000014887110f000001588f,0x54280fd0244c280fc02444280f000001,0x1c897110f000001b88f110fe024\n"
-    ".octa 0x45f63145000001d8878948f024448b48,0x1e09f8948000001a887110fed84,0x1e89f894cc7450f4900000000b8\n"
-    ".octa 0xf98041d23145000001f097894cc6014c,0xfe440f4de48445f6450f49c2940f410a,0xf887110f000001002484280fccb60f45\n"
-    ".octa 0x87c7480000020887110fc0570f000001,0xf000002208f89480000000000000218,0x8f894c0000022887110f000002388711\n"
-    ".octa 0x4cddb60f4500000250bf894c00000248,0x97894c00000260878948000002589f89,0x278af894800000270b7894800000268\n"
-    ".octa 0xf4900000000b8000002808f894c0000,0x29087c74800000288878948c045,0x450f4dd284000002988f894800000000\n"
-    ".octa 0x4800000000000002a087c748c2b60ff0,0x87c748000002b0b7894c000002a88789,0x48000002c087894c00000000000002b8\n"
-    ".octa 0x5d5f415e415d415c415b00000158c481\n"
-    ".byte 0xc3\n"
+    ".octa 0x2b8ec814853544155415641574155,0x4c3056b60f44fb8948f78949c8894800,0x30244c8948504e8b48485e8b4c404e8b\n"
+    ".octa 0xe0ae8b000000a0a68b4c686e8b4c,0xb948328b4800000140b68b4c00,0x87a8b48c8420f49c839494000000000\n"
+    ".octa 0x44c74800000000272444c74810428b4c,0x1802484290fc0570f000000002024,0x1602484290f000001502484290f00\n"
+    ".octa 0x290f502444290f000001702484290f00,0x802484c748702444290f602444,0x2484290f000000f02484290f00000000\n"
+    ".octa 0x2484290f000001102484290f00000100,0x2484110f000001302484290f00000120,0x2484290f000000d02484290f0000013c\n"
+    ".octa 0x2484290f000000b02484290f000000c0,0x2484c748000000902484290f000000a0,0xf1050100f08100f00000000000000e0\n"
+    ".octa 0x1c024a4290ffe39483060100f205810,0x1a02494290f000001b0249c290f0000,0x1d024b4894800000190248c290f0000\n"
+    ".octa 0x1e02484894c000001d824bc89480000,0xc0394cc6470f48f88948184a100f0000,0x2484110f000001e8248c110fc0430f49\n"
+    ".octa 0x2082484c748000001f8,0x2182484110f0000021024848948,0x2382484110f000002282484110f\n"
+    ".octa 0x2582484110f000002482484110f,0x84290f00000268248c894c10244c894c,0x2802484c7480000027024\n"
+    ".octa 0x2a02484290f000002882484894800,0x2b0248c8948000002902484290f00,0xe18041d18945d2b60f450f2454884400\n"
+    ".octa 0x7438245c894c02f9804100000001bafe,0x5c394c4d73d1a30f45000003b0b9415b,0x245c394cc2940f060f247c8048721024\n"
+    ".octa 0x482d7500000000bad10841c1950f4110,0x4d10245c8b4cd231014a8d4c3024548b,0x76cd394dcb430f4d00000000b941cb29\n"
+    ".octa 0x18246c89d23102ebc2940fed85d2310b,0x40246c894cc93145000001e824ac8d48,0x4dc931450e72d3a30f450000044fbb41\n"
+    ".octa 0xb60f44e5894d08e1c141c1950f41e485,0x482474894cc3940f4106fc80410f2464,0xfc8041f63145da2045c2940f41f6854d\n"
+    ".octa 0xf3894518e4c141e2b60f45c6940f410a,0x5c8944cb0945d30941e3094510e3c141,0xf641d3304100000238249cb60f441c24\n"
+    ".octa 0xe389450000027024a4b60f44627501c3,0x46eb1675d484410774d3084101e38041,0x28424bc803c75000000028024bc83\n"
+    ".octa 0x248248c324408e9c14132750000,0xf6410000025824b43244207501c1f641,0x1c2f6410000029824943244127501c6\n"
+    ".octa 0x8d480000019024bc8d4800000432840f,0xe8f2894c1024748b4c1c2474,0x1d824bc8b48000001d024b48b48\n"
+    ".octa 0x210248c8b4c000001e024848b4c,0x28824848b480000026824948b48,0x385f8b4d31578b4d000002b0248c8b48\n"
+    ".octa 0xf5847100f41202454894c27245c894c,0x8f100f417047100f4100000180248429,0x2494290f0000009097100f4100000080\n"
+    ".octa 0x2484290f00000160248c290f00000170,0x8f100f41000000a887100f4100000150,0x2444290f000000c897100f41000000b8\n"
+    ".octa 0xd8978b4d702454290f60244c290f50,0xe487100f41000000802494894c0000,0x10497100f41000000f48f100f410000\n"
+    ".octa 0xf02484290f000001149f100f410000,0x1102494290f00000100248c290f0000,0x12487100f4100000120249c290f0000\n"
+    ".octa 0x13087100f41000001302484290f0000,0x14887100f410000013c2484110f0000,0x16897100f41000001588f100f410000\n"
+    ".octa 0x902484290f000001789f100f410000,0xb02494290f000000a0248c290f0000,0x18887100f41000000c0249c290f0000\n"
+    ".octa 0x198978b4d000000d02484290f0000,0x100f4107100f41000000e02494894c00,0xf104b110f2053110f2057100f41104f\n"
+    ".octa 0x24548b4c305388440f2454b60f440311,0x894c385b894c3153894c27245c8b4c20,0x3024548b4c4853894c3824548b4c4073\n"
+    ".octa 0x5843110f000001802484280f5053894c,0x1502484280f6853894c4024548b4c,0x1702494280f00000160248c280f00\n"
+    ".octa 0x9093110f000000808b110f7043110f00,0xf502444280f000000a0ab894c000000,0xa883110f702454280f60244c28\n"
+    ".octa 0x8b4c000000c893110f000000b88b110f,0x548b44000000d893894c000000802494,0x13c2484100f000000e09389441824\n"
+    ".octa 0x1302484280f0000013083110f00,0xf000000f02484280f0000012483110f,0xf000001102494280f00000100248c28\n"
+    ".octa 0x110f000001149b110f00000120249c28,0xe483110f000000f48b110f0000010493,0x4c0000014093894c4824548b4c000000\n"
+    ".octa 0x280f0000019893894c000000e024948b,0x84280f0000018883110f000000d02484,0x94280f000000a0248c280f0000009024\n"
+    ".octa 0x9b110f000000c0249c280f000000b024,0x1588b110f0000016893110f00000178,0x1902484280f0000014883110f0000\n"
+    ".octa 0x1b02494280f000001a0248c280f00,0x1a083110f000001c0249c280f00,0x110f000001c093110f000001b08b110f\n"
+    ".octa 0xe8bb8948000001e0b38948000001d09b,0x110f0045100f000001f083894c000001,0x218b3894820758b48000001f883\n"
+    ".octa 0x2208b894c0000020883110f1045100f,0x45100f0000026883110f7045100f0000,0x9b110f605d100f5055100f404d100f30\n"
+    ".octa 0x2388b110f0000024893110f00000258,0x2789389480000022883110f0000,0x100f0000029093894800000098958b48\n"
+    ".octa 0x988389480000028083110f0000008885,0xb88d100f000000a885100f000002,0x48000002a083110f000002b08b110f00\n"
+    ".octa 0x5c415b000002b8c48148000002c08b89,0xf2894c1024748b4cc35d5f415e415d41\n"
+    ".quad 0xfffffc10e9c18949\n"
+    ".reloc .Ltcp29+892,R_X86_64_PLT32,.Ltcp26-4\n"
     ".section .text.tcp.30,\"ax\",%progbits\n"
     ".balign 16\n"
     ".Ltcp30:\n"
@@ -5421,6 +5568,21 @@ __asm__(
     ".section .text.tcp.39,\"ax\",%progbits\n"
     ".balign 16\n"
     ".Ltcp39:\n"
+    ".type \"tcp_driver::timers::Timers::next_expiry\",%function\n"
+    ".size \"tcp_driver::timers::Timers::next_expiry\",392\n"
+    "\"tcp_driver::timers::Timers::next_expiry\":\n"
+    ".octa 0x48000000c887b60f44000000a887b60f,0x484e7501000000b8bf80000000d0978b,0x20850f01f8804101b640000000c08f8b\n"
+    ".octa 0xf1893674013cd1430f48ca3948000001,0xf0b73b4000000000000000b84808778b,0xdf850f0100000108bf804e76000000\n"
+    ".octa 0xc6894400000082e9c0314501b6400000,0xfe804001b1000000b0878b48ca75013c,0x778bd0430f48c23948000000dc850f01\n"
+    ".octa 0xf0b73b4000000000000000b84808,0xbf8348c03145000000e0b7b60fb27700,0x4c8b4d04e0c141c0950f4100000000d8\n"
+    ".octa 0x1f2804101f68040103854b60f451838,0xe88f034cc8430f4cc13949f20841,0x44c1440f4dc6950f40d28445c0314500\n"
+    ".octa 0x385f8b4c3057b60f44000001088fb60f,0xf49c33949ca084501f2804101f18041,0x48c7894cc0394c00000110870348c342\n"
+    ".octa 0x440f4cc2950f41d28445c93145f8420f,0x74f28441f9450f49f68440f8450f49c8,0xf48fa3948397501f98001b0c3c88903\n"
+    ".octa 0xdbe9ffffff16840f013cca8948c3d743,0xb84808778bc28948fffffe,0xe9fffffed6870f000000f0b73b400000\n"
+    ".quad 0xc3fa8948ffffff1f\n"
+    ".section .text.tcp.40,\"ax\",%progbits\n"
+    ".balign 16\n"
+    ".Ltcp40:\n"
     ".type \"tcp_numbers::parts::checksum_in_parts\",%function\n"
     ".size \"tcp_numbers::parts::checksum_in_parts\",2630\n"
     "\"tcp_numbers::parts::checksum_in_parts\":\n"
@@ -5481,14 +5643,14 @@ __asm__(
     ".octa 0xc101d12910e2c1ca892fe9c148c8af0f,0x5d415c415b18c48348c1440fd0f7c889\n"
     ".long 0x5f415e41\n"
     ".short 0xc35d\n"
-    ".reloc .Ltcp39+83,R_X86_64_PLT32,.Ltcp1-4\n"
-    ".reloc .Ltcp39+668,R_X86_64_PLT32,.Ltcp1-4\n"
-    ".reloc .Ltcp39+681,R_X86_64_PLT32,.Ltcp1-4\n"
-    ".reloc .Ltcp39+1180,R_X86_64_PLT32,.Ltcp1-4\n"
-    ".reloc .Ltcp39+2074,R_X86_64_PLT32,.Ltcp1-4\n"
-    ".section .text.tcp.40,\"ax\",%progbits\n"
+    ".reloc .Ltcp40+83,R_X86_64_PLT32,.Ltcp1-4\n"
+    ".reloc .Ltcp40+668,R_X86_64_PLT32,.Ltcp1-4\n"
+    ".reloc .Ltcp40+681,R_X86_64_PLT32,.Ltcp1-4\n"
+    ".reloc .Ltcp40+1180,R_X86_64_PLT32,.Ltcp1-4\n"
+    ".reloc .Ltcp40+2074,R_X86_64_PLT32,.Ltcp1-4\n"
+    ".section .text.tcp.41,\"ax\",%progbits\n"
     ".balign 16\n"
-    ".Ltcp40:\n"
+    ".Ltcp41:\n"
     ".globl tcp_c_abort\n"
     ".hidden tcp_c_abort\n"
     ".type tcp_c_abort,%function\n"
@@ -5499,10 +5661,10 @@ __asm__(
     ".octa 0x1888b890000018c938966000000,0x19483c748000001908389,0x894d00000000e800000003bedf894800\n"
     ".octa 0xbb8c35f415e415bc031085f894937\n"
     ".long 0x8aeb0000\n"
-    ".reloc .Ltcp40+138,R_X86_64_PLT32,.Ltcp0-4\n"
-    ".section .text.tcp.41,\"ax\",%progbits\n"
+    ".reloc .Ltcp41+138,R_X86_64_PLT32,.Ltcp0-4\n"
+    ".section .text.tcp.42,\"ax\",%progbits\n"
     ".balign 16\n"
-    ".Ltcp41:\n"
+    ".Ltcp42:\n"
     ".globl tcp_c_acknowledge\n"
     ".hidden tcp_c_acknowledge\n"
     ".type tcp_c_acknowledge,%function\n"
@@ -5511,9 +5673,9 @@ __asm__(
     ".octa 0x1fb808578b48744350526174746cb948,0x1b0257507110fc0570f0f3948000000,0x3cfc043042b60f0b750000000181ba80\n"
     ".octa 0x5789480f8948000001818288c0920f03\n"
     ".long 0xc3c03108\n"
-    ".section .text.tcp.42,\"ax\",%progbits\n"
+    ".section .text.tcp.43,\"ax\",%progbits\n"
     ".balign 16\n"
-    ".Ltcp42:\n"
+    ".Ltcp43:\n"
     ".globl tcp_c_arrive\n"
     ".hidden tcp_c_arrive\n"
     ".type tcp_c_arrive,%function\n"
@@ -5573,23 +5735,23 @@ __asm__(
     ".quad 0xc931c03100000000\n"
     ".long 0xffff47e9\n"
     ".byte 0xff\n"
-    ".reloc .Ltcp42+207,R_X86_64_PLT32,.Ltcp1-4\n"
-    ".reloc .Ltcp42+1408,R_X86_64_PLT32,.Ltcp20-4\n"
-    ".reloc .Ltcp42+2173,R_X86_64_PLT32,.Ltcp20-4\n"
-    ".reloc .Ltcp42+2194,R_X86_64_PLT32,.Ltcp3-4\n"
-    ".reloc .Ltcp42+2216,R_X86_64_PLT32,.Ltcp20-4\n"
-    ".reloc .Ltcp42+2265,R_X86_64_PLT32,.Ltcp20-4\n"
-    ".reloc .Ltcp42+2316,R_X86_64_PLT32,.Ltcp4-4\n"
-    ".reloc .Ltcp42+2329,R_X86_64_PLT32,.Ltcp5-4\n"
-    ".reloc .Ltcp42+2337,R_X86_64_PLT32,.Ltcp12-4\n"
-    ".reloc .Ltcp42+2402,R_X86_64_PLT32,.Ltcp4-4\n"
-    ".reloc .Ltcp42+2418,R_X86_64_PLT32,.Ltcp5-4\n"
-    ".reloc .Ltcp42+2426,R_X86_64_PLT32,.Ltcp12-4\n"
-    ".reloc .Ltcp42+2437,R_X86_64_PLT32,.Ltcp14-4\n"
-    ".reloc .Ltcp42+2448,R_X86_64_PLT32,.Ltcp19-4\n"
-    ".section .text.tcp.43,\"ax\",%progbits\n"
+    ".reloc .Ltcp43+207,R_X86_64_PLT32,.Ltcp1-4\n"
+    ".reloc .Ltcp43+1408,R_X86_64_PLT32,.Ltcp20-4\n"
+    ".reloc .Ltcp43+2173,R_X86_64_PLT32,.Ltcp20-4\n"
+    ".reloc .Ltcp43+2194,R_X86_64_PLT32,.Ltcp3-4\n"
+    ".reloc .Ltcp43+2216,R_X86_64_PLT32,.Ltcp20-4\n"
+    ".reloc .Ltcp43+2265,R_X86_64_PLT32,.Ltcp20-4\n"
+    ".reloc .Ltcp43+2316,R_X86_64_PLT32,.Ltcp4-4\n"
+    ".reloc .Ltcp43+2329,R_X86_64_PLT32,.Ltcp5-4\n"
+    ".reloc .Ltcp43+2337,R_X86_64_PLT32,.Ltcp12-4\n"
+    ".reloc .Ltcp43+2402,R_X86_64_PLT32,.Ltcp4-4\n"
+    ".reloc .Ltcp43+2418,R_X86_64_PLT32,.Ltcp5-4\n"
+    ".reloc .Ltcp43+2426,R_X86_64_PLT32,.Ltcp12-4\n"
+    ".reloc .Ltcp43+2437,R_X86_64_PLT32,.Ltcp14-4\n"
+    ".reloc .Ltcp43+2448,R_X86_64_PLT32,.Ltcp19-4\n"
+    ".section .text.tcp.44,\"ax\",%progbits\n"
     ".balign 16\n"
-    ".Ltcp43:\n"
+    ".Ltcp44:\n"
     ".globl tcp_c_arrive_vouched\n"
     ".hidden tcp_c_arrive_vouched\n"
     ".type tcp_c_arrive_vouched,%function\n"
@@ -5635,22 +5797,22 @@ __asm__(
     ".octa 0xe8c6894840247c8d49fb8948c249,0xe8f6894cdf89483024748d4c0000,0xf6894cdf894800000000e8df89480000\n"
     ".octa 0xe8f6894cdf894800000000e8,0x31744350526174746cbe4920244c8b48\n"
     ".quad 0xffffff31e9d231c0\n"
-    ".reloc .Ltcp43+769,R_X86_64_PLT32,.Ltcp20-4\n"
-    ".reloc .Ltcp43+1524,R_X86_64_PLT32,.Ltcp20-4\n"
-    ".reloc .Ltcp43+1545,R_X86_64_PLT32,.Ltcp3-4\n"
-    ".reloc .Ltcp43+1567,R_X86_64_PLT32,.Ltcp20-4\n"
-    ".reloc .Ltcp43+1631,R_X86_64_PLT32,.Ltcp20-4\n"
-    ".reloc .Ltcp43+1700,R_X86_64_PLT32,.Ltcp4-4\n"
-    ".reloc .Ltcp43+1713,R_X86_64_PLT32,.Ltcp5-4\n"
-    ".reloc .Ltcp43+1721,R_X86_64_PLT32,.Ltcp12-4\n"
-    ".reloc .Ltcp43+1790,R_X86_64_PLT32,.Ltcp4-4\n"
-    ".reloc .Ltcp43+1806,R_X86_64_PLT32,.Ltcp5-4\n"
-    ".reloc .Ltcp43+1814,R_X86_64_PLT32,.Ltcp12-4\n"
-    ".reloc .Ltcp43+1825,R_X86_64_PLT32,.Ltcp14-4\n"
-    ".reloc .Ltcp43+1836,R_X86_64_PLT32,.Ltcp19-4\n"
-    ".section .text.tcp.44,\"ax\",%progbits\n"
+    ".reloc .Ltcp44+769,R_X86_64_PLT32,.Ltcp20-4\n"
+    ".reloc .Ltcp44+1524,R_X86_64_PLT32,.Ltcp20-4\n"
+    ".reloc .Ltcp44+1545,R_X86_64_PLT32,.Ltcp3-4\n"
+    ".reloc .Ltcp44+1567,R_X86_64_PLT32,.Ltcp20-4\n"
+    ".reloc .Ltcp44+1631,R_X86_64_PLT32,.Ltcp20-4\n"
+    ".reloc .Ltcp44+1700,R_X86_64_PLT32,.Ltcp4-4\n"
+    ".reloc .Ltcp44+1713,R_X86_64_PLT32,.Ltcp5-4\n"
+    ".reloc .Ltcp44+1721,R_X86_64_PLT32,.Ltcp12-4\n"
+    ".reloc .Ltcp44+1790,R_X86_64_PLT32,.Ltcp4-4\n"
+    ".reloc .Ltcp44+1806,R_X86_64_PLT32,.Ltcp5-4\n"
+    ".reloc .Ltcp44+1814,R_X86_64_PLT32,.Ltcp12-4\n"
+    ".reloc .Ltcp44+1825,R_X86_64_PLT32,.Ltcp14-4\n"
+    ".reloc .Ltcp44+1836,R_X86_64_PLT32,.Ltcp19-4\n"
+    ".section .text.tcp.45,\"ax\",%progbits\n"
     ".balign 16\n"
-    ".Ltcp44:\n"
+    ".Ltcp45:\n"
     ".globl tcp_c_arrive_vouched_with_report\n"
     ".hidden tcp_c_arrive_vouched_with_report\n"
     ".type tcp_c_arrive_vouched_with_report,%function\n"
@@ -5715,48 +5877,48 @@ __asm__(
     ".long 0x1de9d489\n"
     ".short 0xfff9\n"
     ".byte 0xff\n"
-    ".reloc .Ltcp44+921,R_X86_64_PLT32,.Ltcp20-4\n"
-    ".reloc .Ltcp44+1008,R_X86_64_PC32,.Ltcp45-4\n"
-    ".reloc .Ltcp44+1066,R_X86_64_PC32,.Ltcp45-4\n"
-    ".reloc .Ltcp44+1408,R_X86_64_PLT32,.Ltcp4-4\n"
-    ".reloc .Ltcp44+1421,R_X86_64_PLT32,.Ltcp5-4\n"
-    ".reloc .Ltcp44+1431,R_X86_64_PLT32,.Ltcp12-4\n"
-    ".reloc .Ltcp44+1507,R_X86_64_PC32,.Ltcp45-4\n"
-    ".reloc .Ltcp44+1741,R_X86_64_PLT32,.Ltcp4-4\n"
-    ".reloc .Ltcp44+1754,R_X86_64_PLT32,.Ltcp5-4\n"
-    ".reloc .Ltcp44+1764,R_X86_64_PLT32,.Ltcp12-4\n"
-    ".reloc .Ltcp44+1777,R_X86_64_PLT32,.Ltcp14-4\n"
-    ".reloc .Ltcp44+1794,R_X86_64_PLT32,.Ltcp19-4\n"
-    ".reloc .Ltcp44+1822,R_X86_64_PC32,.Ltcp45-4\n"
-    ".reloc .Ltcp44+2227,R_X86_64_PC32,.Ltcp45-4\n"
-    ".reloc .Ltcp44+2444,R_X86_64_PLT32,.Ltcp3-4\n"
-    ".section .rodata.tcp.45,\"a\",%progbits\n"
+    ".reloc .Ltcp45+921,R_X86_64_PLT32,.Ltcp20-4\n"
+    ".reloc .Ltcp45+1008,R_X86_64_PC32,.Ltcp46-4\n"
+    ".reloc .Ltcp45+1066,R_X86_64_PC32,.Ltcp46-4\n"
+    ".reloc .Ltcp45+1408,R_X86_64_PLT32,.Ltcp4-4\n"
+    ".reloc .Ltcp45+1421,R_X86_64_PLT32,.Ltcp5-4\n"
+    ".reloc .Ltcp45+1431,R_X86_64_PLT32,.Ltcp12-4\n"
+    ".reloc .Ltcp45+1507,R_X86_64_PC32,.Ltcp46-4\n"
+    ".reloc .Ltcp45+1741,R_X86_64_PLT32,.Ltcp4-4\n"
+    ".reloc .Ltcp45+1754,R_X86_64_PLT32,.Ltcp5-4\n"
+    ".reloc .Ltcp45+1764,R_X86_64_PLT32,.Ltcp12-4\n"
+    ".reloc .Ltcp45+1777,R_X86_64_PLT32,.Ltcp14-4\n"
+    ".reloc .Ltcp45+1794,R_X86_64_PLT32,.Ltcp19-4\n"
+    ".reloc .Ltcp45+1822,R_X86_64_PC32,.Ltcp46-4\n"
+    ".reloc .Ltcp45+2227,R_X86_64_PC32,.Ltcp46-4\n"
+    ".reloc .Ltcp45+2444,R_X86_64_PLT32,.Ltcp3-4\n"
+    ".section .rodata.tcp.46,\"a\",%progbits\n"
     ".balign 4\n"
-    ".Ltcp45:\n"
+    ".Ltcp46:\n"
     ".octa 0x0,0x0,0x0\n"
     ".octa 0x0\n"
     ".quad 0x0\n"
-    ".reloc .Ltcp45+0,R_X86_64_PC32,.Ltcp44+2263\n"
-    ".reloc .Ltcp45+4,R_X86_64_PC32,.Ltcp44+2265\n"
-    ".reloc .Ltcp45+8,R_X86_64_PC32,.Ltcp44+2269\n"
-    ".reloc .Ltcp45+12,R_X86_64_PC32,.Ltcp44+2275\n"
-    ".reloc .Ltcp45+16,R_X86_64_PC32,.Ltcp44+2277\n"
-    ".reloc .Ltcp45+20,R_X86_64_PC32,.Ltcp44+2281\n"
-    ".reloc .Ltcp45+24,R_X86_64_PC32,.Ltcp44+2287\n"
-    ".reloc .Ltcp45+28,R_X86_64_PC32,.Ltcp44+2289\n"
-    ".reloc .Ltcp45+32,R_X86_64_PC32,.Ltcp44+2293\n"
-    ".reloc .Ltcp45+36,R_X86_64_PC32,.Ltcp44+2299\n"
-    ".reloc .Ltcp45+40,R_X86_64_PC32,.Ltcp44+2301\n"
-    ".reloc .Ltcp45+44,R_X86_64_PC32,.Ltcp44+2305\n"
-    ".reloc .Ltcp45+48,R_X86_64_PC32,.Ltcp44+2311\n"
-    ".reloc .Ltcp45+52,R_X86_64_PC32,.Ltcp44+2313\n"
-    ".reloc .Ltcp45+56,R_X86_64_PC32,.Ltcp44+2317\n"
-    ".reloc .Ltcp45+60,R_X86_64_PC32,.Ltcp44+2321\n"
-    ".reloc .Ltcp45+64,R_X86_64_PC32,.Ltcp44+2428\n"
-    ".reloc .Ltcp45+68,R_X86_64_PC32,.Ltcp44+2423\n"
-    ".section .text.tcp.46,\"ax\",%progbits\n"
+    ".reloc .Ltcp46+0,R_X86_64_PC32,.Ltcp45+2263\n"
+    ".reloc .Ltcp46+4,R_X86_64_PC32,.Ltcp45+2265\n"
+    ".reloc .Ltcp46+8,R_X86_64_PC32,.Ltcp45+2269\n"
+    ".reloc .Ltcp46+12,R_X86_64_PC32,.Ltcp45+2275\n"
+    ".reloc .Ltcp46+16,R_X86_64_PC32,.Ltcp45+2277\n"
+    ".reloc .Ltcp46+20,R_X86_64_PC32,.Ltcp45+2281\n"
+    ".reloc .Ltcp46+24,R_X86_64_PC32,.Ltcp45+2287\n"
+    ".reloc .Ltcp46+28,R_X86_64_PC32,.Ltcp45+2289\n"
+    ".reloc .Ltcp46+32,R_X86_64_PC32,.Ltcp45+2293\n"
+    ".reloc .Ltcp46+36,R_X86_64_PC32,.Ltcp45+2299\n"
+    ".reloc .Ltcp46+40,R_X86_64_PC32,.Ltcp45+2301\n"
+    ".reloc .Ltcp46+44,R_X86_64_PC32,.Ltcp45+2305\n"
+    ".reloc .Ltcp46+48,R_X86_64_PC32,.Ltcp45+2311\n"
+    ".reloc .Ltcp46+52,R_X86_64_PC32,.Ltcp45+2313\n"
+    ".reloc .Ltcp46+56,R_X86_64_PC32,.Ltcp45+2317\n"
+    ".reloc .Ltcp46+60,R_X86_64_PC32,.Ltcp45+2321\n"
+    ".reloc .Ltcp46+64,R_X86_64_PC32,.Ltcp45+2428\n"
+    ".reloc .Ltcp46+68,R_X86_64_PC32,.Ltcp45+2423\n"
+    ".section .text.tcp.47,\"ax\",%progbits\n"
     ".balign 16\n"
-    ".Ltcp46:\n"
+    ".Ltcp47:\n"
     ".globl tcp_c_arrive_with_at_once\n"
     ".hidden tcp_c_arrive_with_at_once\n"
     ".type tcp_c_arrive_with_at_once,%function\n"
@@ -5821,25 +5983,25 @@ __asm__(
     ".long 0x9de9c031\n"
     ".short 0xfff9\n"
     ".byte 0xff\n"
-    ".reloc .Ltcp46+207,R_X86_64_PLT32,.Ltcp1-4\n"
-    ".reloc .Ltcp46+924,R_X86_64_PLT32,.Ltcp2-4\n"
-    ".reloc .Ltcp46+1394,R_X86_64_PLT32,.Ltcp20-4\n"
-    ".reloc .Ltcp46+2185,R_X86_64_PLT32,.Ltcp20-4\n"
-    ".reloc .Ltcp46+2219,R_X86_64_PLT32,.Ltcp3-4\n"
-    ".reloc .Ltcp46+2245,R_X86_64_PLT32,.Ltcp20-4\n"
-    ".reloc .Ltcp46+2296,R_X86_64_PLT32,.Ltcp20-4\n"
-    ".reloc .Ltcp46+2322,R_X86_64_PC32,.Ltcp101-4\n"
-    ".reloc .Ltcp46+2370,R_X86_64_PLT32,.Ltcp4-4\n"
-    ".reloc .Ltcp46+2383,R_X86_64_PLT32,.Ltcp5-4\n"
-    ".reloc .Ltcp46+2391,R_X86_64_PLT32,.Ltcp12-4\n"
-    ".reloc .Ltcp46+2479,R_X86_64_PLT32,.Ltcp4-4\n"
-    ".reloc .Ltcp46+2495,R_X86_64_PLT32,.Ltcp5-4\n"
-    ".reloc .Ltcp46+2503,R_X86_64_PLT32,.Ltcp12-4\n"
-    ".reloc .Ltcp46+2514,R_X86_64_PLT32,.Ltcp14-4\n"
-    ".reloc .Ltcp46+2525,R_X86_64_PLT32,.Ltcp19-4\n"
-    ".section .text.tcp.47,\"ax\",%progbits\n"
+    ".reloc .Ltcp47+207,R_X86_64_PLT32,.Ltcp1-4\n"
+    ".reloc .Ltcp47+924,R_X86_64_PLT32,.Ltcp2-4\n"
+    ".reloc .Ltcp47+1394,R_X86_64_PLT32,.Ltcp20-4\n"
+    ".reloc .Ltcp47+2185,R_X86_64_PLT32,.Ltcp20-4\n"
+    ".reloc .Ltcp47+2219,R_X86_64_PLT32,.Ltcp3-4\n"
+    ".reloc .Ltcp47+2245,R_X86_64_PLT32,.Ltcp20-4\n"
+    ".reloc .Ltcp47+2296,R_X86_64_PLT32,.Ltcp20-4\n"
+    ".reloc .Ltcp47+2322,R_X86_64_PC32,.Ltcp105-4\n"
+    ".reloc .Ltcp47+2370,R_X86_64_PLT32,.Ltcp4-4\n"
+    ".reloc .Ltcp47+2383,R_X86_64_PLT32,.Ltcp5-4\n"
+    ".reloc .Ltcp47+2391,R_X86_64_PLT32,.Ltcp12-4\n"
+    ".reloc .Ltcp47+2479,R_X86_64_PLT32,.Ltcp4-4\n"
+    ".reloc .Ltcp47+2495,R_X86_64_PLT32,.Ltcp5-4\n"
+    ".reloc .Ltcp47+2503,R_X86_64_PLT32,.Ltcp12-4\n"
+    ".reloc .Ltcp47+2514,R_X86_64_PLT32,.Ltcp14-4\n"
+    ".reloc .Ltcp47+2525,R_X86_64_PLT32,.Ltcp19-4\n"
+    ".section .text.tcp.48,\"ax\",%progbits\n"
     ".balign 16\n"
-    ".Ltcp47:\n"
+    ".Ltcp48:\n"
     ".globl tcp_c_arrive_with_report\n"
     ".hidden tcp_c_arrive_with_report\n"
     ".type tcp_c_arrive_with_report,%function\n"
@@ -5914,50 +6076,50 @@ __asm__(
     ".octa 0x4cd0294c1824448b48f631450124548d,0x854df0420f4cf0394c68438b48f0430f,0x40ce2040de2044c0950f2024748b4cf6\n"
     ".octa 0xfff8ede9d58914244489c6b60f40c620\n"
     ".byte 0xff\n"
-    ".reloc .Ltcp47+224,R_X86_64_PLT32,.Ltcp1-4\n"
-    ".reloc .Ltcp47+936,R_X86_64_PLT32,.Ltcp2-4\n"
-    ".reloc .Ltcp47+1479,R_X86_64_PLT32,.Ltcp20-4\n"
-    ".reloc .Ltcp47+1560,R_X86_64_PC32,.Ltcp48-4\n"
-    ".reloc .Ltcp47+1641,R_X86_64_PC32,.Ltcp48-4\n"
-    ".reloc .Ltcp47+2467,R_X86_64_PLT32,.Ltcp4-4\n"
-    ".reloc .Ltcp47+2480,R_X86_64_PLT32,.Ltcp5-4\n"
-    ".reloc .Ltcp47+2492,R_X86_64_PLT32,.Ltcp12-4\n"
-    ".reloc .Ltcp47+2558,R_X86_64_PC32,.Ltcp48-4\n"
-    ".reloc .Ltcp47+2660,R_X86_64_PLT32,.Ltcp4-4\n"
-    ".reloc .Ltcp47+2676,R_X86_64_PLT32,.Ltcp5-4\n"
-    ".reloc .Ltcp47+2688,R_X86_64_PLT32,.Ltcp12-4\n"
-    ".reloc .Ltcp47+2699,R_X86_64_PLT32,.Ltcp14-4\n"
-    ".reloc .Ltcp47+2713,R_X86_64_PLT32,.Ltcp19-4\n"
-    ".reloc .Ltcp47+2733,R_X86_64_PC32,.Ltcp48-4\n"
-    ".reloc .Ltcp47+2822,R_X86_64_PC32,.Ltcp48-4\n"
-    ".reloc .Ltcp47+3052,R_X86_64_PLT32,.Ltcp3-4\n"
-    ".section .rodata.tcp.48,\"a\",%progbits\n"
+    ".reloc .Ltcp48+224,R_X86_64_PLT32,.Ltcp1-4\n"
+    ".reloc .Ltcp48+936,R_X86_64_PLT32,.Ltcp2-4\n"
+    ".reloc .Ltcp48+1479,R_X86_64_PLT32,.Ltcp20-4\n"
+    ".reloc .Ltcp48+1560,R_X86_64_PC32,.Ltcp49-4\n"
+    ".reloc .Ltcp48+1641,R_X86_64_PC32,.Ltcp49-4\n"
+    ".reloc .Ltcp48+2467,R_X86_64_PLT32,.Ltcp4-4\n"
+    ".reloc .Ltcp48+2480,R_X86_64_PLT32,.Ltcp5-4\n"
+    ".reloc .Ltcp48+2492,R_X86_64_PLT32,.Ltcp12-4\n"
+    ".reloc .Ltcp48+2558,R_X86_64_PC32,.Ltcp49-4\n"
+    ".reloc .Ltcp48+2660,R_X86_64_PLT32,.Ltcp4-4\n"
+    ".reloc .Ltcp48+2676,R_X86_64_PLT32,.Ltcp5-4\n"
+    ".reloc .Ltcp48+2688,R_X86_64_PLT32,.Ltcp12-4\n"
+    ".reloc .Ltcp48+2699,R_X86_64_PLT32,.Ltcp14-4\n"
+    ".reloc .Ltcp48+2713,R_X86_64_PLT32,.Ltcp19-4\n"
+    ".reloc .Ltcp48+2733,R_X86_64_PC32,.Ltcp49-4\n"
+    ".reloc .Ltcp48+2822,R_X86_64_PC32,.Ltcp49-4\n"
+    ".reloc .Ltcp48+3052,R_X86_64_PLT32,.Ltcp3-4\n"
+    ".section .rodata.tcp.49,\"a\",%progbits\n"
     ".balign 4\n"
-    ".Ltcp48:\n"
+    ".Ltcp49:\n"
     ".octa 0x0,0x0,0x0\n"
     ".octa 0x0\n"
     ".quad 0x0\n"
-    ".reloc .Ltcp48+0,R_X86_64_PC32,.Ltcp47+2868\n"
-    ".reloc .Ltcp48+4,R_X86_64_PC32,.Ltcp47+2870\n"
-    ".reloc .Ltcp48+8,R_X86_64_PC32,.Ltcp47+2874\n"
-    ".reloc .Ltcp48+12,R_X86_64_PC32,.Ltcp47+2880\n"
-    ".reloc .Ltcp48+16,R_X86_64_PC32,.Ltcp47+2882\n"
-    ".reloc .Ltcp48+20,R_X86_64_PC32,.Ltcp47+2886\n"
-    ".reloc .Ltcp48+24,R_X86_64_PC32,.Ltcp47+2892\n"
-    ".reloc .Ltcp48+28,R_X86_64_PC32,.Ltcp47+2894\n"
-    ".reloc .Ltcp48+32,R_X86_64_PC32,.Ltcp47+2898\n"
-    ".reloc .Ltcp48+36,R_X86_64_PC32,.Ltcp47+2904\n"
-    ".reloc .Ltcp48+40,R_X86_64_PC32,.Ltcp47+2906\n"
-    ".reloc .Ltcp48+44,R_X86_64_PC32,.Ltcp47+2910\n"
-    ".reloc .Ltcp48+48,R_X86_64_PC32,.Ltcp47+2916\n"
-    ".reloc .Ltcp48+52,R_X86_64_PC32,.Ltcp47+2918\n"
-    ".reloc .Ltcp48+56,R_X86_64_PC32,.Ltcp47+2922\n"
-    ".reloc .Ltcp48+60,R_X86_64_PC32,.Ltcp47+2926\n"
-    ".reloc .Ltcp48+64,R_X86_64_PC32,.Ltcp47+3033\n"
-    ".reloc .Ltcp48+68,R_X86_64_PC32,.Ltcp47+3028\n"
-    ".section .text.tcp.49,\"ax\",%progbits\n"
+    ".reloc .Ltcp49+0,R_X86_64_PC32,.Ltcp48+2868\n"
+    ".reloc .Ltcp49+4,R_X86_64_PC32,.Ltcp48+2870\n"
+    ".reloc .Ltcp49+8,R_X86_64_PC32,.Ltcp48+2874\n"
+    ".reloc .Ltcp49+12,R_X86_64_PC32,.Ltcp48+2880\n"
+    ".reloc .Ltcp49+16,R_X86_64_PC32,.Ltcp48+2882\n"
+    ".reloc .Ltcp49+20,R_X86_64_PC32,.Ltcp48+2886\n"
+    ".reloc .Ltcp49+24,R_X86_64_PC32,.Ltcp48+2892\n"
+    ".reloc .Ltcp49+28,R_X86_64_PC32,.Ltcp48+2894\n"
+    ".reloc .Ltcp49+32,R_X86_64_PC32,.Ltcp48+2898\n"
+    ".reloc .Ltcp49+36,R_X86_64_PC32,.Ltcp48+2904\n"
+    ".reloc .Ltcp49+40,R_X86_64_PC32,.Ltcp48+2906\n"
+    ".reloc .Ltcp49+44,R_X86_64_PC32,.Ltcp48+2910\n"
+    ".reloc .Ltcp49+48,R_X86_64_PC32,.Ltcp48+2916\n"
+    ".reloc .Ltcp49+52,R_X86_64_PC32,.Ltcp48+2918\n"
+    ".reloc .Ltcp49+56,R_X86_64_PC32,.Ltcp48+2922\n"
+    ".reloc .Ltcp49+60,R_X86_64_PC32,.Ltcp48+2926\n"
+    ".reloc .Ltcp49+64,R_X86_64_PC32,.Ltcp48+3033\n"
+    ".reloc .Ltcp49+68,R_X86_64_PC32,.Ltcp48+3028\n"
+    ".section .text.tcp.50,\"ax\",%progbits\n"
     ".balign 16\n"
-    ".Ltcp49:\n"
+    ".Ltcp50:\n"
     ".globl tcp_c_close\n"
     ".hidden tcp_c_close\n"
     ".type tcp_c_close,%function\n"
@@ -5968,26 +6130,26 @@ __asm__(
     ".octa 0xe800000003bedf8948ff8949e1ffc101,0xaeeb0000000bb811ebff894c00000000,0x5f894837894c053043c604eb093043c6\n"
     ".quad 0x5f415e415bc03108\n"
     ".byte 0xc3\n"
-    ".reloc .Ltcp49+87,R_X86_64_PC32,.Ltcp50-4\n"
-    ".reloc .Ltcp49+112,R_X86_64_PLT32,.Ltcp0-4\n"
-    ".section .rodata.tcp.50,\"a\",%progbits\n"
+    ".reloc .Ltcp50+87,R_X86_64_PC32,.Ltcp51-4\n"
+    ".reloc .Ltcp50+112,R_X86_64_PLT32,.Ltcp0-4\n"
+    ".section .rodata.tcp.51,\"a\",%progbits\n"
     ".balign 4\n"
-    ".Ltcp50:\n"
+    ".Ltcp51:\n"
     ".octa 0x0,0x0\n"
     ".quad 0x0\n"
-    ".reloc .Ltcp50+0,R_X86_64_PC32,.Ltcp49+100\n"
-    ".reloc .Ltcp50+4,R_X86_64_PC32,.Ltcp49+104\n"
-    ".reloc .Ltcp50+8,R_X86_64_PC32,.Ltcp49+146\n"
-    ".reloc .Ltcp50+12,R_X86_64_PC32,.Ltcp49+146\n"
-    ".reloc .Ltcp50+16,R_X86_64_PC32,.Ltcp49+154\n"
-    ".reloc .Ltcp50+20,R_X86_64_PC32,.Ltcp49+158\n"
-    ".reloc .Ltcp50+24,R_X86_64_PC32,.Ltcp49+152\n"
-    ".reloc .Ltcp50+28,R_X86_64_PC32,.Ltcp49+166\n"
-    ".reloc .Ltcp50+32,R_X86_64_PC32,.Ltcp49+170\n"
-    ".reloc .Ltcp50+36,R_X86_64_PC32,.Ltcp49+174\n"
-    ".section .text.tcp.51,\"ax\",%progbits\n"
+    ".reloc .Ltcp51+0,R_X86_64_PC32,.Ltcp50+100\n"
+    ".reloc .Ltcp51+4,R_X86_64_PC32,.Ltcp50+104\n"
+    ".reloc .Ltcp51+8,R_X86_64_PC32,.Ltcp50+146\n"
+    ".reloc .Ltcp51+12,R_X86_64_PC32,.Ltcp50+146\n"
+    ".reloc .Ltcp51+16,R_X86_64_PC32,.Ltcp50+154\n"
+    ".reloc .Ltcp51+20,R_X86_64_PC32,.Ltcp50+158\n"
+    ".reloc .Ltcp51+24,R_X86_64_PC32,.Ltcp50+152\n"
+    ".reloc .Ltcp51+28,R_X86_64_PC32,.Ltcp50+166\n"
+    ".reloc .Ltcp51+32,R_X86_64_PC32,.Ltcp50+170\n"
+    ".reloc .Ltcp51+36,R_X86_64_PC32,.Ltcp50+174\n"
+    ".section .text.tcp.52,\"ax\",%progbits\n"
     ".balign 16\n"
-    ".Ltcp51:\n"
+    ".Ltcp52:\n"
     ".globl tcp_c_connect\n"
     ".hidden tcp_c_connect\n"
     ".type tcp_c_connect,%function\n"
@@ -5997,228 +6159,244 @@ __asm__(
     ".octa 0x41c6068bc3084f894807894c08740030,0x4041c748385189663441890230,0x10000018081c6000000014841c74800\n"
     ".quad 0x31084f894807894c\n"
     ".short 0xc3c0\n"
-    ".section .text.tcp.52,\"ax\",%progbits\n"
-    ".balign 16\n"
-    ".Ltcp52:\n"
-    ".globl tcp_c_connection_abort\n"
-    ".hidden tcp_c_connection_abort\n"
-    ".type tcp_c_connection_abort,%function\n"
-    ".size tcp_c_connection_abort,417\n"
-    "tcp_c_connection_abort:\n"
-    ".octa 0x74746cbf495053544155415641574155,0x394c0000001fbd08778b4c7643505261,0xfb894800000163850f07110fc0570f3f\n"
-    ".octa 0x317e80410000000ebd000002c0a68b4d,0x4f589495a74c0843046b60f41687500,0xb70f41344e8b4108468b413d77043cfd\n"
-    ".octa 0x10000018486c741484603413856,0x1888e89410000018c9689416600,0x19486c74900000190868941\n"
-    ".octa 0x3100000000e800000003bef7894c0000,0x3046b60f410000000bbd05ebee894ced,0xb0b9d231577402f98001b2fee180c189\n"
-    ".octa 0x487e8b49404e8b494b73c1a30f000003,0xf93948c2940f06f8833c72f9394801b2,0xc7ff48507e8b492875d70840c7950f40\n"
-    ".octa 0x3949f9430f4800000000bff92948d231,0xebc2940f00000000e0be83410f76687e,0x831373c1a30f0000044fb9ff31d23102\n"
-    ".octa 0xc0940f410000000140be83491f7506f8,0xf883c7950f4000000000a0be834914eb,0x4000000000000000b948c03145e17406\n"
-    ".octa 0xf883cc460f49e1394cce420f48ce3948,0x49062444940f05247c8840042454880a,0x4840568b490724448844000001a0be8d\n"
-    ".octa 0x873894c3b894c00000000e80424748d,0x5d5f415e415d415c415b08c48348e889\n"
-    ".byte 0xc3\n"
-    ".reloc .Ltcp52+155,R_X86_64_PLT32,.Ltcp0-4\n"
-    ".reloc .Ltcp52+389,R_X86_64_PLT32,.Ltcp26-4\n"
     ".section .text.tcp.53,\"ax\",%progbits\n"
     ".balign 16\n"
     ".Ltcp53:\n"
-    ".globl tcp_c_connection_acknowledge\n"
-    ".hidden tcp_c_connection_acknowledge\n"
-    ".type tcp_c_connection_acknowledge,%function\n"
-    ".size tcp_c_connection_acknowledge,314\n"
-    "tcp_c_connection_acknowledge:\n"
-    ".octa 0x4350526174746cbe4950535641574155,0xc0570f37394c0000001fbd087f8b4c76,0xc0978b49fb894800000104850f07110f\n"
-    ".octa 0x920f03f980fc488d3047b60f41000002,0x1b740fee180c189000001818f0841c1,0x73c1a30f000003b0b9ff315b7402f980\n"
-    ".octa 0x72c1394c01b74048478b4d404f8b494f,0x41c0950f41c1394cc7940f4006f8833f,0xc1294cff31c0ff4950478b4d2a75f808\n"
-    ".octa 0x10766847394dc1430f4c00000000b841,0xff3102ebc7940f4000000000e0bf8341,0xbf83490c72c1a30f0000044fb9c03145\n"
-    ".octa 0xb941ed31c0950f4100000000a0,0xf410000000140bf83490c7506f88300,0x48ce39484000000000000000b948c194\n"
-    ".octa 0x7c88400af883ca460f48d13948ce420f,0xa0bf8d49062444940f05244488440424,0x24748d4840578b4907244c8844000001\n"
-    ".octa 0x48e889087b894c33894c00000000e804\n"
-    ".quad 0x5f415e415b08c483\n"
-    ".short 0xc35d\n"
-    ".reloc .Ltcp53+290,R_X86_64_PLT32,.Ltcp26-4\n"
+    ".globl tcp_c_connection_abort\n"
+    ".hidden tcp_c_connection_abort\n"
+    ".type tcp_c_connection_abort,%function\n"
+    ".size tcp_c_connection_abort,569\n"
+    "tcp_c_connection_abort:\n"
+    ".octa 0x746cbf4910ec83485354415641574155,0x4c0000001fbd08778b4c764350526174,0x8948000001f3850f07110fc0570f3f39\n"
+    ".octa 0xb948000002c0868b49fb,0xc8460f48c13948ce420f48ce39484000,0x46b60f41687500317e80410000000ebd\n"
+    ".octa 0x8b413d77043cfd04cc89495a74c08430,0x41484603413856b70f41344e8b410846,0x18c96894166000000010000018486c7\n"
+    ".octa 0x190868941000001888e89410000,0x3bef7894c000000000000019486c749,0xbd05ebe1894ced3100000000e8000000\n"
+    ".octa 0xb8fee68040d6893056b60f410000000b,0xf000003b0be5a7402fe804000000001,0x72fe3948487e8b4940768b494e73d6a3\n"
+    ".octa 0x840c7950f40fe3948c0940f06fa8343,0x31c7ff48507e8b492c7500000000b8c7,0x7e3949fe430f4800000000bffe2948c0\n"
+    ".octa 0xc0940f00000000e0be8341c031117668,0x4fb841f631000001a0be8d49c03102eb,0xa0be8349f6311172d0a30f41000004\n"
+    ".octa 0x45197506fa8308e6c1c6950f40000000,0xc141c0940f410000000140be8349c031,0xf410afa83c03145c08944c0094118e0\n"
+    ".octa 0xf1094110e1c141c1894540568b49c094,0x7500000278963b490c244c8944c10941,0x1c1f641c13041000002488eb60f456f\n"
+    ".octa 0xc20841ca8945000002808eb60f455e75,0x40750000000290be8341167501c2f641,0x41c1204134eb0b740000000294be8041\n"
+    ".octa 0x4000000258b6324108eec12b7401c1f6,0x1c0f641000002688632451b7501c6f6,0x207401a8000002a886324118e8c10e75\n"
+    ".octa 0x73894c3b894c00000000e80c24748d48,0xc35d5f415e415c415b10c48348e88908\n"
+    ".quad 0xeb000002c08e8949\n"
+    ".byte 0xe1\n"
+    ".reloc .Ltcp53+180,R_X86_64_PLT32,.Ltcp0-4\n"
+    ".reloc .Ltcp53+534,R_X86_64_PLT32,.Ltcp26-4\n"
     ".section .text.tcp.54,\"ax\",%progbits\n"
     ".balign 16\n"
     ".Ltcp54:\n"
+    ".globl tcp_c_connection_acknowledge\n"
+    ".hidden tcp_c_connection_acknowledge\n"
+    ".type tcp_c_connection_acknowledge,%function\n"
+    ".size tcp_c_connection_acknowledge,462\n"
+    "tcp_c_connection_acknowledge:\n"
+    ".octa 0x526174746cbe4910ec83485356415741,0xf37394c0000001fb8087f8b4c764350,0x8b49fb894800000190850f07110fc057\n"
+    ".octa 0x484000000000000000b948000002c087,0xb60f41c8460f48c13948ce420f48ce39,0x181870841c0920f033cfc428d3057\n"
+    ".octa 0x2fe804000000001b8fee68040d68900,0x40778b494e73d6a30f000003b0be5a74,0x48c0940f06fa834372fe3948487f8b49\n"
+    ".octa 0x2c7500000000b8c70840c7950f40fe39,0xbffe2948c031c7ff48507f8b49,0xbf8341c0311176687f3949fe430f4800\n"
+    ".octa 0xa0bf8d49c03102ebc0940f00000000e0,0x72d0a30f410000044fb841f631000001,0xc1c6950f4000000000a0bf8349f63111\n"
+    ".octa 0x140bf8349c03145197506fa8308e6,0xc08944c0094118e0c141c0940f410000,0x894540578b49c0940f410afa83c03145\n"
+    ".octa 0xc244c8944c10941f1094110e1c141c1,0x2488fb60f456f7500000278973b49,0x2808fb60f455e7501c1f641c1304100\n"
+    ".octa 0x8341167501c2f641c20841ca89450000,0x294bf804140750000000290bf,0x8eec12b7401c1f641c1204134eb0b74\n"
+    ".octa 0x8732451b7501c6f64000000258b73241,0x87324118e8c10e7501c0f64100000268,0xe80c24748d481d7401a8000002a8\n"
+    ".octa 0x5b10c48348c031087b894c33894c0000\n"
+    ".quad 0x8f8949c35f415e41\n"
+    ".long 0x2c0\n"
+    ".short 0xe4eb\n"
+    ".reloc .Ltcp54+430,R_X86_64_PLT32,.Ltcp26-4\n"
+    ".section .text.tcp.55,\"ax\",%progbits\n"
+    ".balign 16\n"
+    ".Ltcp55:\n"
     ".globl tcp_c_connection_arrive\n"
     ".hidden tcp_c_connection_arrive\n"
     ".type tcp_c_connection_arrive,%function\n"
-    ".size tcp_c_connection_arrive,4359\n"
+    ".size tcp_c_connection_arrive,4760\n"
     "tcp_c_connection_arrive:\n"
-    ".octa 0xb8ec814853544155415641574155,0x526174746cbf49000000f0249c8b4c00,0x85f8b48c2940f41c0854dc031764350\n"
-    ".octa 0xff3c0ef0f66f3440f4c3f394cf63145,0x342444c7298b228b443475077f,0x5f89483f894c337501000002b8bb8000\n"
-    ".octa 0xff31f631ed31d231c9310000003ab808,0x41f310437f0f41f300000720e9c03145,0xd088440000072ae90000001fb8037f0f\n"
-    ".octa 0x750afd8341306bb60f44c001490ce0c1,0x83cfe24e8894424eb1b730ef9834908,0x140bb834815720ef983491b75\n"
-    ".octa 0x838b4800000097850f040d40f6410b74,0x39484000000000000000b948000002c0,0x847f0f66c8460f48c13948ce420f48ce\n"
-    ".octa 0xf660000008024847f0f660000009024,0xa02484c7487024447f,0xb024bc894814f9834900000001be\n"
-    ".octa 0x2be000002a3820f68244c894800,0x814900000291870f0000ffebf9814900,0x89f0418d492a7708246c89000000fff9\n"
-    ".octa 0xf66c2894cce894c477530c2f6d2f7c2,0x3bb8085f89483f894c7debc9ef,0x2824648944ce894cc7894cfffffef1e9\n"
-    ".octa 0x8949f9894d00000000e8cf894dc5894c,0x890000019ce92824648b4408246c8be8,0x90c9ef0f66d23103e683c6ff04eec1c6\n"
-    ".octa 0x6608d2710f66cafd0f6610146f0f41f3,0x48ce894ce475ceff4810c28348c2fd0f,0x14cf0c2834902148d4e107e8d48d629\n"
+    ".octa 0xc8ec814853544155415641574155,0x526174746cbb490000010024bc8b4c00,0x85f8b48c2940f41c0854dc031764350\n"
+    ".octa 0x7f0ff3c0ef0f66eb440f481f394ced31,0x481f894c347501000002b8bb80287507,0x31ed3145d231c9310000003ab8085f89\n"
+    ".octa 0x477f0f41f3000007d0e9c03145ff31f6,0x7dae90000001fb8077f0f41f310,0xf44118b2a8b44c001490ce0c1d08844\n"
+    ".octa 0xeb1b730ef9834908750afa83413053b6,0x15720ef983491b75083cfe24d0894424,0xf040d40f6410b740000000140bb8348\n"
+    ".octa 0xb948000002c0838b480000009a85,0xc13948ce420f48ce3948400000000000,0xa024847f0f6678244c8948c8460f48\n"
+    ".octa 0x24847f0f660000009024847f0f660000,0xb02484c74800000080,0xb8000002aa820f14f9834900000001b8\n"
+    ".octa 0x298870f0000ffebf9814900000002,0x2454894c10245489000000fff9814900,0x507530c1f6d1f7c189f0418d492d7720\n"
+    ".octa 0x4c00000082e9c9ef0f66c2894cce894c,0xfffffee8e90000003bb8085f89481f89,0x4dec8945c7894dce894cc7894cfe8949\n"
+    ".octa 0xf8894de58945e9894d00000000e8cd89,0x196e9f7894c0000010024bc8b4c,0xc9ef0f66d23103e683c6ff04eec1c689\n"
+    ".octa 0x6608d2710f66cafd0f6610146f0f41f3,0x48ce894ce475ceff4810c28348c2fd0f,0x14cf0c38349021c8d4e10568d4cd629\n"
     ".octa 0x841f0f666a7230f88348c2,0xf6620626f0ff3105a6f0ff3126f0ff3,0x30426f0ff3d0fd0f6608d2710f66cafd\n"
     ".octa 0xfd0f6608d3710f66ebfd0f66ec6f0f66,0xf66e2fd0f66e3fd0f6608d4710f66cd,0x4840c28348c4fd0f6608d0710f66c8fd\n"
-    ".octa 0x7e8d48f0528d4ca7770ffe8348c0c683,0xf66caf90f6608f2710f66d06f0f6610,0xf66ca610f66da690f66d96f0f66d2ef\n"
+    ".octa 0x568d4cf05a8d4ca7770ffe8348c0c683,0xf66caf90f6608f2710f66d06f0f6610,0xf66ca610f66da690f66d96f0f66d2ef\n"
     ".octa 0xe2610f66e06f0f6608f3720f6608f172,0xc4fe0f66c3fe0f66c2690f66e1fe0f66,0x314555c1700f66c8fe0f66eec8700f66\n"
-    ".octa 0xf48128b4836ebc031047318ff8348db,0xc149d78949f2b70f30e8c148d08948ca,0x8be801d001f00110eac1efb70f4120ef\n"
-    ".octa 0x8948d2894ce8c7834818c2834908246c,0x44cf0f3a8b167204fe8348c8fe0f66fe,0xc6834804c28348fb014110efc1dfb70f\n"
-    ".octa 0xf44157202fe8348d23145cf7e0f66fc,0x4802c28348d2b70f4508c2c1416612b7,0x7501fe8348d80144f801d30145fec683\n"
-    ".octa 0x8944e78945d089c20108e2c112b60f0a,0x8c7c166ff894410efc14108c6c166e6,0x66eb894110efc1ef89d7b70f44f6b70f\n"
-    ".octa 0xb70f08c5c166fd89dbb70f4508c3c141,0xf089c601ee01d60144ce0144dd0144ed,0x3bec22941fff9fffaba41f00110e0c1\n"
-    ".octa 0x50b60f45337700010001fa8141000000,0x4ebc141d38945c6920f4050fa83410c,0x920f40c22948ca894c02e0c148d88944\n"
-    ".octa 0x8b000003fa840f00000004bef50840c5,0x314500000000202444c748000000e08b,0x282444c748ed3100000000402444c7e4\n"
-    ".octa 0x2404c700000000182444c74800000000,0x45ff3100000000082444c74800000000,0x8b48ca450f4ce48445c93145ca89c031\n"
-    ".octa 0x750000000278bb83484674d285484053,0x200938b4c33740000000290bb833c,0x1e89b8b4c2373000001e093394c00\n"
-    ".octa 0x4dda470f4dda394d000001f0bb8b4c00,0xbe8041000002209b894cdf430f4dfb39,0x238933948000000e0850f0100000230\n"
-    ".octa 0x68245c8b4cd23145000000d3870f0000,0xf4d00000230be8d4d000002409b2b4c,0x1047c749077f0f41f3c0ef0f66d343\n"
-    ".octa 0xda394d0000010000000000bb49000000,0x8b4c36740000000208be8041d3430f4d,0x4ddd894d00000218bb8b4c000002109b\n"
-    ".octa 0xd8294cd5420f4dda294dda048d4bd529,0x4902ebc149d3014d7f1c8d4f03e8c148,0x20886c749ebd149d3894d06ebc289\n"
-    ".octa 0x189b894c0000021093894c0000000100,0x1f0bb8b4c000001e8838b48000002,0x4deb394d02e3c149000001f8ab8b4c00\n"
-    ".octa 0xfb394dd8460f4cc33949d3014ddd460f,0xa096b60f45000002209b894cdf430f4d,0xc9854d6274d284456774e48445000002\n"
-    ".octa 0x218838b4843750100000208bb805d74,0xc8394c02e0c148000001f88b8b4c0000,0x1f09b8b4c000001e88b8b4cc1460f49\n"
-    ".octa 0xc1460f49c8394c000002108303480000,0xf6600000220838948c3430f49d8394c,0x4539ebc9314500000248837f0ff3c0ef\n"
-    ".octa 0xc3950f41c1940f41c9854dc0940fe484,0x661975df0845c70841c7940f41d28548,0x29083c700000280837f0ff3c0ef0f\n"
-    ".octa 0xcab60f45c1b60f4101b1410000000000,0xf640000002a08e8845c8450f44e48445,0x268837f0ff3c0ef0f660c7401c7\n"
-    ".octa 0x2a8837f0ff3c0ef0f660c7401c0f641,0x3c01b141fe24c089443043b60f440000,0x73c0a30f44000003b0b8c93145577402\n"
-    ".octa 0xf883413d72fa394801b141487b8b4849,0x2775c70840c7950f40fa3948c0940f06,0xc72948d78948c93145c0ff4850438b48\n"
-    ".octa 0x850b7668433948c7430f4800000000b8,0x1a0bb8d48c9314503ebc1940f41c9,0x83480b72c1a30f440000044fb9c03100\n"
-    ".octa 0xbeed3145f78941c0950f00000000a0bb,0x480c7568244c8b4806f8834100000000,0x440af88341c6940f400000000140bb83\n"
-    ".octa 0x748840362444940f3524448834244c88,0x24848b4800000000e83424748d483724,0x8948764350526174746cb948000000b0\n"
-    ".octa 0x488dc6b60f400824748b480870894c08,0x249c8b4c00000037bd411a7302f983ff,0x19eb20247c8b482824548b48000000f0\n"
-    ".octa 0x548b48000000f0249c8b4cf88944c085,0xf01fe8040c0310c7420247c8b482824,0xfff2b60f01e183240cb60fe80144c094\n"
-    ".octa 0xff7b60f40d6450f0018247c80d231c6,0x49045389410b8941c4b60f4540247cb6,0x4118438945147b894110738941086b89\n"
-    ".octa 0x415b000000b8c48148000000001c43c7,0x894c28247c8944c35d5f415e415d415c,0x8d484024548948187505fb804120246c\n"
-    ".octa 0xaae918244489481024548948ec50,0xffffffd8c6c748ec688d4814588d4d00,0x7402c68348fd294dfb014d0cebed8949\n"
-    ".octa 0x1b7401ff83413bb60f457674ed854d61,0x17bb60f453f7401fd83495274ff8545,0x4c74fd294d3c72fd394d417202ff8349\n"
-    ".octa 0xff8545b87401ff83413bb60f45fb014d,0xff8349017bb60f45127401fd83492574,0x1bd410deb9d73fd394d147202\n"
-    ".octa 0x850f00333c8041f6311574ed854d05eb,0x24548948ed75f53949c6ff480000031e,0x4130b70f4110246c8948182444894840\n"
-    ".octa 0x4508b4108c0c16608c6c1660240b70f,0x8c5c1660e68b70f410d58b60f45ca0f,0xc141c589415824448920e7c149d78949\n"
-    ".octa 0xfdb70f44ee094c38348d4ac6b70f10e5,0xdd894d241c894c30e7c14950247c894c,0x8341cb0f4108588b45fd094d28e5c149\n"
-    ".octa 0x94dda014d48245c894c20e2c1490fe2,0x8818e8c1d089702444881268b70f41ea,0x44896608e8c1d0893824548948772444\n"
-    ".octa 0x66782454894c7124748908eec1487524,0x6614408d490000008024ac896608c5c1,0x842484c70000000000822484c7\n"
-    ".octa 0x24448b48000000882484894800000000,0x14c1824448b48000000902484894810,0x89484024548b480000009824848948c0\n"
-    ".octa 0x245c8b4401b24101b640000000a02494,0x7501433808e8c1d8894427751b384408,0x75035b384418ebc1411675027b38401c\n"
-    ".octa 0x633844c2950f4104433b665824448b0c,0xc1e08944297528247c8b20246c8b4c34,0xe089441875367b38401e7535433808e8\n"
-    ".octa 0x433b66702444b70f0d7537433818e8c1,0x41f02040c0930f02fd8041c6950f4038,0x568d49c031e58944000000c5840fc208\n"
-    ".octa 0xb68b49ff314550668b4d102454894850,0x11ff8040f8b60f282444894800000158,0xa824b48948582464894c40247c8944\n"
-    ".octa 0xfd8948c7894dea89000001a7830f0000,0xe8cc894dee89df894870244c8d48,0xc8b4cc4940f4108fd8040e0894c0000\n"
-    ".octa 0x24443b4803e180d9f601e180c9894424,0x3145d1440f4400000003ba41c9b60f18,0xb6830ffa894ce9a30f0001fa5eb9db\n"
-    ".octa 0xff758ddb3145082474894802b6400000,0x8b4cfe0148b7346348000000003d8d48,0x458d41e6ffed894910247c8b4c202444\n"
-    ".octa 0xf4b38b000000c6830f08f883e58944fd,0x140a38b44000001389b8b44000000,0x8b481024448908438be72945df894500\n"
-    ".octa 0x82444894848438b4828244489484043,0x44fa1101e0ba0f01e783c78924048b48,0x115840fd285000000b6840fd009f889\n"
-    ".octa 0x2404f601b00000011d850fe339450000,0xba840f102404f609b0fffffec6850f04,0x82474894803b640000001a7e9fffffe\n"
-    ".octa 0x7c8b4c2024448b4ceea30f000005a0be,0x8d41db314500000242830fed89491024,0xfe0148b7346348000000003d8d48ff75\n"
-    ".octa 0x1ce900de8300000006be01fe8348e6ff,0xfd83410000021c840f02fd8341fffff8,0x4c2f601b000000230850f24148b4801\n"
-    ".octa 0xfe3b850f102404f603b0fffffe47850f,0xfffffe2de90534c0940f022404f6ffff,0x83000000ede90000008e840f38247439\n"
-    ".octa 0x548b480320247c8300000173850f12ff,0x3d4bb60f3243b60f000001f2850f4824,0x48438b48304388040ce6d35024748b48\n"
-    ".octa 0x8938244c8b48000000e0b38940438948,0x18083c6000000e89389000000e48b,0x3944f0293824448b48000001b7e90000\n"
-    ".octa 0x44f0293824448b4800000084e92572f8,0x3824540344d0f7f089d289491472f839,0x4c3f641241c8b4c6473fa3945c20141\n"
-    ".octa 0xfd7b850f02c3f6410cb0000000d7850f,0x8b48fffffd6f840f102404f60db0ffff,0xf2294824548b48c6011024748b282444\n"
-    ".octa 0xba49d2311379d285021c8d4c,0xf03fd8041da420f4cd3294d00000001,0x4f601b06beb11b2410fb00000039e85\n"
-    ".octa 0x8b48c0940fe33945fffffd25850f0424,0xb0fffffd0e840f09b0c28404eac02414,0x2824448b48fffffd02850f022404f609\n"
-    ".octa 0x1c8d4cf2294824548b48c6011024748b,0x100000000ba49d2311379d28502,0x32c850f03fd8341da420f4cd3294d00\n"
-    ".octa 0x49d339490824548b4812b24110b00000,0x24743900000326e9fffffcb5850fd389,0x2024448b48fffffca2e90b34c0940f38\n"
-    ".octa 0xb60f00000137850f03f8834824548b48,0x88040ce6d35024748b483d4bb60f3243,0xe0b3894043894848438b483043\n"
-    ".octa 0xe89389000000e48b8938244c8b48,0x4801b0000000fce9000000018083c600,0x24748b48df8948000001f4e908244489\n"
-    ".octa 0xe8cf894dc5894d24148b4848,0xc03104e280fffffc22e9e8894df9894d,0x894840438b48fffffc13e9011401fa80\n"
-    ".octa 0x2348d48ca29c101084b8b407e8d49fd,0xb948c0311379d285c5894dcf894d,0xe8f0420f48ce2948000000010000\n"
-    ".octa 0x4100000000e8df89487024748d480000,0x81be804101b000000000e8df8948c489,0x868841c0950f00307b80077500000001\n"
-    ".octa 0xd9f601e180c98944240c8b4c00000181,0xba41c9b60f18247c3b4cf8894c03e180,0x4508244c894803b1d1440f4400000003\n"
-    ".octa 0x8a34634800000000158d48ff4d8ddb31,0x8b4c2024448b4ced8949ea894cd60148,0x8d4938247c894840438b48e6ff10247c\n"
-    ".octa 0x4cd28502348d48ca29c101084b8b407e,0xb948c0311379cd894d60244489,0xe8f0420f48ce29480000000100\n"
-    ".octa 0xe8fe894cdf894870247c8d4c00,0x4cdf894800000000e8df8948c4894100,0xe8fe894cdf8948c58900000000e8fe89\n"
-    ".octa 0x44894803b001b2413e74c08400000000,0xd8d48ff458d38246c8b48db31450824,0x6024548b48ce01488134634800000000\n"
-    ".octa 0x4c240c8b4c2024448b4ced8949e8894c,0x1e180c98944240c8b4ce6ff10247c8b,0xc9b60f18246c3b4ce8894ce92040d9f6\n"
-    ".octa 0x4508244c894803b1d1440f44d5b60f44,0x158d48ff4d8d4138246c8b4cdb31,0x8b4c6024548b48d601488a3463480000\n"
-    ".octa 0x1c894401b341e6ff10247c8b4c202444,0xbd5824442b48ff31078b4924,0x1fdffb8ff310d750af88341e8430f48\n"
-    ".octa 0x1be000000e08b8b3873e8a30f4400,0x1fdffbac03145182444894801b00000,0xfffff3f2820f202454894ceaa30f4400\n"
-    ".octa 0xffffff3e3e9e00845c0950f41d28445,0x808eeb000001819bb60f44c2eb0d7ab6,0xa824bc834801b6402e750100000181bb\n"
-    ".octa 0xf400000000158be83490c7500000000,0x845f32041c3950f411824443b48c695,0xb241ffffff4fe9db3145ffffff57e9cb\n"
-    ".octa 0x8a820f08245c394c0eb011b24103eb12,0xf40ff8440c2940f18244c3b4cfffff9,0xb60fc7940f4128245c3b4cd72040c794\n"
-    ".octa 0x4850468d49e6d3d6895024548b483d4b,0x940f000000e0b33b50668b4d10244489,0x6c8b4cdb31450124748d4968538b48c0\n"
-    ".octa 0xda420f4cda394cdd430f4df529490824,0x44d72041c72041ff2041c2950fdb854d\n"
-    ".long 0x26e9d089\n"
-    ".short 0xfff9\n"
-    ".byte 0xff\n"
-    ".reloc .Ltcp54+391,R_X86_64_PLT32,.Ltcp1-4\n"
-    ".reloc .Ltcp54+1800,R_X86_64_PLT32,.Ltcp26-4\n"
-    ".reloc .Ltcp54+2670,R_X86_64_PLT32,.Ltcp20-4\n"
-    ".reloc .Ltcp54+2755,R_X86_64_PC32,.Ltcp55-4\n"
-    ".reloc .Ltcp54+2965,R_X86_64_PC32,.Ltcp55-4\n"
-    ".reloc .Ltcp54+3564,R_X86_64_PLT32,.Ltcp3-4\n"
-    ".reloc .Ltcp54+3646,R_X86_64_PLT32,.Ltcp4-4\n"
-    ".reloc .Ltcp54+3659,R_X86_64_PLT32,.Ltcp5-4\n"
-    ".reloc .Ltcp54+3670,R_X86_64_PLT32,.Ltcp12-4\n"
-    ".reloc .Ltcp54+3752,R_X86_64_PC32,.Ltcp55-4\n"
-    ".reloc .Ltcp54+3837,R_X86_64_PLT32,.Ltcp4-4\n"
-    ".reloc .Ltcp54+3853,R_X86_64_PLT32,.Ltcp5-4\n"
-    ".reloc .Ltcp54+3864,R_X86_64_PLT32,.Ltcp12-4\n"
-    ".reloc .Ltcp54+3875,R_X86_64_PLT32,.Ltcp14-4\n"
-    ".reloc .Ltcp54+3888,R_X86_64_PLT32,.Ltcp19-4\n"
-    ".reloc .Ltcp54+3920,R_X86_64_PC32,.Ltcp55-4\n"
-    ".reloc .Ltcp54+4014,R_X86_64_PC32,.Ltcp55-4\n"
-    ".section .rodata.tcp.55,\"a\",%progbits\n"
+    ".octa 0xf480a8b4831ebc031047318fa8349f6,0xc148ce8948d1b70f30e8c148c88948c9,0x8349f001c801d00110e9c1f6b70f20ee\n"
+    ".octa 0xc8fe0f66d6894cda894ce8c2834918c3,0xe9c1f1b70f44c90f0a8b167204fe8348,0xc97e0f66fcc6834804c28348ce014110\n"
+    ".octa 0xc1416612b70f44157202fe8348d23145,0x145fec6834802c28348d2b70f4508c2,0xc10ab60f0a7501fe8348f00144c801d6\n"
+    ".octa 0x8c1c166e98944ee8944c889c10108e1,0x44d2b70fc9b70f08c2c166f28910eec1,0x8c3c1416610eac141da894510245c8b\n"
+    ".octa 0xf6b70f4508c6c14166d68945dbb70f45,0xc1c889c101f10144d101c90144de0145,0x3b8c129fff9fffab9c80110e0\n"
+    ".octa 0xfb83410c58b60f45317700010001f981,0xe4c149cc894104e9c1d98944c0920f50,0x4b8c60841c6920f41e2294cca894c02\n"
+    ".octa 0x48000000e0b38b000004a3840f000000,0x282444c7c0314500000000402444c7,0xc748000000002404c748ed3145000000\n"
+    ".octa 0x4800000000202444c700000000082444,0x7489d23145e4314500000000182444c7,0x8b48da450f4cc08445db3145f2893824\n"
+    ".octa 0xc6950f40c9854d000002788b8b4c4053,0x290bb834275f60841c6940f41d28548,0xe0b3394800000200b38b483974000000\n"
+    ".octa 0x4cf9894c000001e8b38b4c2973000001,0xfe394df6470f4cf6394c000001f0bb8b,0xbd8000000220b3894ccf8949f7430f4d\n"
+    ".octa 0xeb850f102444894c0100000230,0x4cf631000000de870f00000238933948,0x230bd8d4c00000240b32b4c7824748b\n"
+    ".octa 0x49077f0f41f3c0ef0f66f6430f490000,0x10000000000be49000000001047c7,0x740000000208bd80f6430f49f6394c00\n"
+    ".octa 0x4c00000218bb8b4c00000210b38b4c36,0xf1420f48f6294cf6048d4ef12948f189,0xc149f601497f348d4f03e8c149f0294d\n"
+    ".octa 0x85c748eed149f6894906ebc6894c02ee,0x4c00000210b389480000000100000208,0x838b4c000001e88b8b4800000218b389\n"
+    ".octa 0x4d02e6c149000001f8bb8b4c000001f0,0xf1460f4cce3949f60149f7460f4dfe39,0x8b4c00000220b3894cf0430f4dc6394d\n"
+    ".octa 0xa0b5b60f441024448b4c0000010024bc,0xdb854d6674f684456b74c08445000002,0x2188b8b4848750100000208bb806174\n"
+    ".octa 0xf1394802e1c148000001f8b38b480000,0x1f0838b4c000001e8b38b48ce460f48,0xce460f48f13948000002108b03480000\n"
+    ".octa 0x208b89481024448b4cc8430f49c1394c,0x3100000248837f0ff3c0ef0f66000002,0xc6940f40db854dc1940fc084453eebf6\n"
+    ".octa 0x845cb0841c3940f41d28548c0950f41,0x837f0ff3c0ef0f6619751024448b4cc3,0xb640000000000000029083c700000280\n"
+    ".octa 0x40f1450fc08445f6b60f41ceb60f4001,0xc0ef0f660c7401c4f641000002a0b588,0xf660c7401c2f64100000268837f0ff3\n"
+    ".octa 0x44305bb60f44000002a8837f0ff3c0ef,0x5d7402f98000000001ba41fee180d989,0x4848738b484f73d9a30f44000003b0b9\n"
+    ".octa 0xf40f23948c1940f06fb83414972f239,0x4b8b48307500000000ba41ce0840c695,0xb9ce2948d68948d23145c1ff4850\n"
+    ".octa 0x83d231451176684b3948ce430f480000,0x838d4cd2314503ebc2940f410038247c,0x72d9a30f440000044fb9f631000001a0\n"
+    ".octa 0xc1c6950f4000000000a0bb8348f63111,0x140bb8348c931167506fb834108e6,0x3145ca8941d1094418e1c1c1940f0000\n"
+    ".octa 0x910e1c1f18944c6940f410afb8341f6,0x7075ca394c00000080248c89d10944f1,0xf617501c1f6d13044000002488bb60f\n"
+    ".octa 0x1c1f641d10845c98941000002808bb6,0x294bb8045750000000290bb831475,0xeec1327401c1f6d120443aeb0a740000\n"
+    ".octa 0x3244227501c6f64000000258b3324008,0x4418eac141157501c6f64100000268b3,0x16a840f01c2f641000002a89332\n"
+    ".octa 0x8b48c7894cfb89480000008024b48d48,0x8948f0894400000000e8c6894178244c,0x74746cb94820244c8b444024448b4cdf\n"
+    ".octa 0x24748b48086f89480f89487643505261,0x37b9077302f983ff4a8dd6b60f4018,0x1fe8040c0310b74d285c93106eb0000\n"
+    ".octa 0x2434b60f01e183c9b60f41c801c0940f,0xf0b60f41d6450f0008247c80d231c6ff,0x89410f8941102444b60f4428247cb60f\n"
+    ".octa 0x8945147f894110778941086f894d0457,0xc8c48148000000001c47c7411847,0x246c8944c35d5f415e415d415c415b00\n"
+    ".octa 0x49241489481375382464894c05f98040,0x8d4d000000cde92824448948ec24448d,0x894cffffffd8c0c748ec246c8d4d1470\n"
+    ".octa 0xce01490000010024bc8b4c14eb28246c,0x95840fed854d7a7402c08348cd2949,0x497374c9851a7401f9830eb60f410000\n"
+    ".octa 0x627202f98348014eb60f41567401fd83,0xb60f41ce01496d74cd29495d72cd3949,0x8b4c01fd83494074c985af7401f9830e\n"
+    ".octa 0xf98348014eb60f4123740000010024bc,0x4878244c8b4828eb9573cd39492f7202,0x1bd41fffffea6e9000002c08b89\n"
+    ".octa 0x10024bc8b4c1deb0a75ed854d0feb00,0x480000035f850f00063c8041c0310000,0x4500b70f4124148948ed75c53949c0ff\n"
+    ".octa 0x508b4108c6c1416608c0c1660270b70f,0xc1c1660e48b70f410d68b60f45ca0f04,0xf48945182474894420e7c149d7894908\n"
+    ".octa 0xfe0094c3e048d4bf0b70f4410e4c141,0x8246c894c30e1c14868244c8948c9b7,0xe38341c90f08488b41cd094928e5c149\n"
+    ".octa 0xe9094cd9014c48244c894820e3c1490f,0xd689410000008024b488441258b70f45,0x245489480000008724b4884418eec141\n"
+    ".octa 0x8524b489446608eec141d6894130,0x248c89480000008124848908e8c14800,0x90249c89446608c3c1416600000088\n"
+    ".octa 0x922484c76614408d490000,0x982484894800000000000000942484c7,0xa0248489482824448b48000000\n"
+    ".octa 0xa82484894820048d4b3824648b4c,0x4101b0000000b02484894824048b4800,0xc1f1894427753338441024748b4401b3\n"
+    ".octa 0xeec1411675025338441c75014b3808e9,0x41044b3b6618244c8b0c750373384418,0x24bc8b4c345338444024548b44c3950f\n"
+    ".octa 0xe9c1d189442b752024548b4800000100,0xc1d189441a75367338402075354b3808,0x66000000802484b70f0f75374b3818e9\n"
+    ".octa 0x841c120c1930f02fa80c0950f38433b,0x2404c748000000db840f50247c8948cb,0x282444c7506d8b4c50758d4c00000000\n"
+    ".octa 0x241cb60f44000001588d8b4800000000,0x74894c582444894c4024548b11fb8041,0x1d5830f000000c0248c89487024\n"
+    ".octa 0xdf894800000080248c8d4830246c894c,0xe8de894dcc894de5894dde8944,0x10244c8948c1940f08fb8041f3894d00\n"
+    ".octa 0x3e180d9f601e180c189440824448b4c,0xc9440f4400000003b941c9b60fec394d,0x48d9a30f440001fa5eb9e0894cd23145\n"
+    ".octa 0x830f30246c8b4c5824548b4850247c8b,0x8d41d2314518244c894802b1000000c8,0xf101488e0c634800000000358d48ff4b\n"
+    ".octa 0xdc830f08f883fd428de1ff7024748b4c,0x138838b000000f4b38be2894c000000,0x8bec2945c4894100000140ab8b440000\n"
+    ".octa 0x4828244c8948404b8b4818244c89084b,0xca894108244c8b4810244c8948484b8b,0x44d6114524348b4c01e1ba0f01e28341\n"
+    ".octa 0x840ff68545000000cb840ff10944e189,0x4801b000000137850fe839440000012f,0xd489492024748b4804082444f6240489\n"
+    ".octa 0x82444f62404894809b0fffffe9e850f,0x5a0b9000001d7e9fffffe8d840f10,0x28f830f7024748b4cd9a30f4400\n"
+    ".octa 0x8d48ff4b8d41d2314518244c894803b1,0x8348e1fff101488e0c63480000000035,0x83fffff70ae900d88300000006b801f8\n"
+    ".octa 0x287850f01fa8300000263840f02fa,0xfe22850f04082444f62404894801b000,0x11850f10082444f62404894803b0ffff\n"
+    ".octa 0x489480534c0940f02082444f6fffffe,0x94840f30247439fffffdfee924,0x850f60245c894c12fb834100000109e9\n"
+    ".octa 0x850f4824548b480320247c83000001a9,0x24748b483d4bb60f3243b60f0000023b,0x404b8948484b8b48304388040ce6d368\n"
+    ".octa 0xe483893024448b48000000e0b389,0xe9000000018083c6000000e8938900,0xe92572e13944f12930244c8b48000002\n"
+    ".octa 0x1472e13944f12930244c8b480000009a,0x45cb014130245c0344d1f7f189f3894d,0x106850f04c1f608244c8b487a73e339\n"
+    ".octa 0x2024748b4802c1f6240489480cb00000,0xf6240489480db0fffffd3b850fd48949,0x8b28244c8b48fffffd2a840f10082444\n"
+    ".octa 0x8148d48d0294824448b48ca01182454,0x100000000b948c0311379c085,0x3f6850f03fe8040d0420f48ca2948\n"
+    ".octa 0x1b100000084e911b1240489480fb000,0x89492024748b4804082444f6240c8948,0x4c8b48c0940fe83944fffffccd850fd4\n"
+    ".octa 0xb1840fc1842414894809b204e9c00824,0x850f02082444f62404894809b0fffffc,0x48ca011824548b28244c8b48fffffca0\n"
+    ".octa 0xc0311379c08508148d48d0294824448b,0x420f48ca29480000000100000000b948,0x2404894810b000000369850f03fe83d0\n"
+    ".octa 0x51850fc28948c239481024448b4812b1,0x34c0940f3024743900000362e9fffffc,0x448b48fffffc37e9d48949240489480b\n"
+    ".octa 0x155850f03f8834824548b482024,0xce6d36824748b483d4bb60f3243b60f,0xe0b389404b8948484b8b4830438804\n"
+    ".octa 0xe89389000000e483893024448b480000,0xb00000011ae9000000018083c6000000,0x8b48df894800000220e9182444894801\n"
+    ".octa 0x894dc7894dfe894d0824548b48482474,0x48f7894df8894de9894d00000000e8cd,0x3104240824448b48fffffbace9240489\n"
+    ".octa 0x48fffffb95e9240c894801d180013cc9,0x41ca0108538b40458d48d28949404b8b,0xc9311379d28545ce894d0a348d49d229\n"
+    ".octa 0x420f48d629480000000100000000ba48,0x8024b48d4800000000e8c78948f1,0x8948102444894800000000e8df894800\n"
+    ".octa 0x750000000181bd8001b000000000e8df,0x8b4c000001818588c0950f00307b8007,0x894c03e180d9f601e180c18944082444\n"
+    ".octa 0x4400000003b941c9b60f3824743b4cf0,0x5c8b4cd2314518244c894803b1c9440f,0xc634800000000158d48ff4b8d416024\n"
+    ".octa 0x8b4c5824548b4850247c8b48d101488a,0x40458d48d28949404b8b48e1ff702474,0x4cd285450a348d49d22941ca0108538b\n"
+    ".octa 0xba48c9311379000000b8248c89,0xe8c78948f1420f48d629480000000100,0x4cdf89480000008024a48d4c00000000\n"
+    ".octa 0xe8df8948102444894800000000e8e689,0x4100000000e8e6894cdf894800000000,0xe80000008024b48d48df8948c489\n"
+    ".octa 0x182444894803b001b1413d74c0840000,0xd8d48ff438d4160245c8b4cd23145,0x4850247c8b48ce014881346348000000\n"
+    ".octa 0x24448b4c000000b824848b485824548b,0xd9f601e180c189440824448b4ce6ff08,0x3824443b48000000b824848b48e12044\n"
+    ".octa 0x4c894803b1c9440f44ccb60f45c9b60f,0x8d48ff4b8d4160245c8b4cd231451824,0x247c8b48d101488a0c63480000000015\n"
+    ".octa 0x3145068b4901b241e1ff5824548b4850,0x7c83e8430f4c00000000bd41e8294ce4,0xfdffb8e431450e751024448b4c0a2024\n"
+    ".octa 0xe0b38b20245489443d73d8a30f440001,0x4508244c894801b100000001b8000000,0x40244c894cdaa30f440001fdffbad231\n"
+    ".octa 0xc20845c2950f41c98445fffff268820f,0x93b60f44bceb0d62b60f44fffff259e9,0xb12c750100000181bb8085eb00000181\n"
+    ".octa 0x58bd83480b7500000000c024bc834801,0xc2950f413824443b48c1950f00000001,0x48e9d23145ffffff50e9c20845ca2041\n"
+    ".octa 0x48240489480eb011b102eb12b1ffffff,0xe1394d240c88fffff8ea820f10245439,0x543b48c62040c6940f40d28445c0940f\n"
+    ".octa 0x4168244c8b483d43b60fc6940f412824,0xe0933b44506d8b4ce2d341c189ca89,0x245c8b4cd23145684b8b48c0940f0000\n"
+    ".octa 0x4cd1394cd3430f4dd3294901558d4910,0x41c62041f62041c1950fd2854dd1420f,0x482404b60f50758d4c2824748944ce20\n"
+    ".quad 0xfffff87ce9240489\n"
+    ".reloc .Ltcp55+387,R_X86_64_PLT32,.Ltcp1-4\n"
+    ".reloc .Ltcp55+1991,R_X86_64_PLT32,.Ltcp26-4\n"
+    ".reloc .Ltcp55+2909,R_X86_64_PLT32,.Ltcp20-4\n"
+    ".reloc .Ltcp55+3013,R_X86_64_PC32,.Ltcp56-4\n"
+    ".reloc .Ltcp55+3233,R_X86_64_PC32,.Ltcp56-4\n"
+    ".reloc .Ltcp55+3906,R_X86_64_PLT32,.Ltcp3-4\n"
+    ".reloc .Ltcp55+4005,R_X86_64_PLT32,.Ltcp4-4\n"
+    ".reloc .Ltcp55+4021,R_X86_64_PLT32,.Ltcp5-4\n"
+    ".reloc .Ltcp55+4034,R_X86_64_PLT32,.Ltcp12-4\n"
+    ".reloc .Ltcp55+4121,R_X86_64_PC32,.Ltcp56-4\n"
+    ".reloc .Ltcp55+4208,R_X86_64_PLT32,.Ltcp4-4\n"
+    ".reloc .Ltcp55+4227,R_X86_64_PLT32,.Ltcp5-4\n"
+    ".reloc .Ltcp55+4240,R_X86_64_PLT32,.Ltcp12-4\n"
+    ".reloc .Ltcp55+4251,R_X86_64_PLT32,.Ltcp14-4\n"
+    ".reloc .Ltcp55+4270,R_X86_64_PLT32,.Ltcp19-4\n"
+    ".reloc .Ltcp55+4303,R_X86_64_PC32,.Ltcp56-4\n"
+    ".reloc .Ltcp55+4401,R_X86_64_PC32,.Ltcp56-4\n"
+    ".section .rodata.tcp.56,\"a\",%progbits\n"
     ".balign 4\n"
-    ".Ltcp55:\n"
+    ".Ltcp56:\n"
     ".octa 0x0,0x0,0x0\n"
     ".octa 0x0\n"
     ".quad 0x0\n"
-    ".reloc .Ltcp55+0,R_X86_64_PC32,.Ltcp54+4045\n"
-    ".reloc .Ltcp55+4,R_X86_64_PC32,.Ltcp54+4046\n"
-    ".reloc .Ltcp55+8,R_X86_64_PC32,.Ltcp54+4050\n"
-    ".reloc .Ltcp55+12,R_X86_64_PC32,.Ltcp54+4057\n"
-    ".reloc .Ltcp55+16,R_X86_64_PC32,.Ltcp54+4058\n"
-    ".reloc .Ltcp55+20,R_X86_64_PC32,.Ltcp54+4062\n"
-    ".reloc .Ltcp55+24,R_X86_64_PC32,.Ltcp54+4069\n"
-    ".reloc .Ltcp55+28,R_X86_64_PC32,.Ltcp54+4070\n"
-    ".reloc .Ltcp55+32,R_X86_64_PC32,.Ltcp54+4074\n"
-    ".reloc .Ltcp55+36,R_X86_64_PC32,.Ltcp54+4081\n"
-    ".reloc .Ltcp55+40,R_X86_64_PC32,.Ltcp54+4082\n"
-    ".reloc .Ltcp55+44,R_X86_64_PC32,.Ltcp54+4086\n"
-    ".reloc .Ltcp55+48,R_X86_64_PC32,.Ltcp54+4093\n"
-    ".reloc .Ltcp55+52,R_X86_64_PC32,.Ltcp54+4094\n"
-    ".reloc .Ltcp55+56,R_X86_64_PC32,.Ltcp54+4098\n"
-    ".reloc .Ltcp55+60,R_X86_64_PC32,.Ltcp54+4102\n"
-    ".reloc .Ltcp55+64,R_X86_64_PC32,.Ltcp54+4223\n"
-    ".reloc .Ltcp55+68,R_X86_64_PC32,.Ltcp54+4217\n"
-    ".section .text.tcp.56,\"ax\",%progbits\n"
+    ".reloc .Ltcp56+0,R_X86_64_PC32,.Ltcp55+4427\n"
+    ".reloc .Ltcp56+4,R_X86_64_PC32,.Ltcp55+4428\n"
+    ".reloc .Ltcp56+8,R_X86_64_PC32,.Ltcp55+4432\n"
+    ".reloc .Ltcp56+12,R_X86_64_PC32,.Ltcp55+4439\n"
+    ".reloc .Ltcp56+16,R_X86_64_PC32,.Ltcp55+4440\n"
+    ".reloc .Ltcp56+20,R_X86_64_PC32,.Ltcp55+4444\n"
+    ".reloc .Ltcp56+24,R_X86_64_PC32,.Ltcp55+4451\n"
+    ".reloc .Ltcp56+28,R_X86_64_PC32,.Ltcp55+4452\n"
+    ".reloc .Ltcp56+32,R_X86_64_PC32,.Ltcp55+4456\n"
+    ".reloc .Ltcp56+36,R_X86_64_PC32,.Ltcp55+4463\n"
+    ".reloc .Ltcp56+40,R_X86_64_PC32,.Ltcp55+4464\n"
+    ".reloc .Ltcp56+44,R_X86_64_PC32,.Ltcp55+4468\n"
+    ".reloc .Ltcp56+48,R_X86_64_PC32,.Ltcp55+4475\n"
+    ".reloc .Ltcp56+52,R_X86_64_PC32,.Ltcp55+4476\n"
+    ".reloc .Ltcp56+56,R_X86_64_PC32,.Ltcp55+4480\n"
+    ".reloc .Ltcp56+60,R_X86_64_PC32,.Ltcp55+4484\n"
+    ".reloc .Ltcp56+64,R_X86_64_PC32,.Ltcp55+4614\n"
+    ".reloc .Ltcp56+68,R_X86_64_PC32,.Ltcp55+4608\n"
+    ".section .text.tcp.57,\"ax\",%progbits\n"
     ".balign 16\n"
-    ".Ltcp56:\n"
+    ".Ltcp57:\n"
     ".globl tcp_c_connection_close\n"
     ".hidden tcp_c_connection_close\n"
     ".type tcp_c_connection_close,%function\n"
-    ".size tcp_c_connection_close,429\n"
+    ".size tcp_c_connection_close,585\n"
     "tcp_c_connection_close:\n"
-    ".octa 0x74746cbf495053544155415641574155,0x394c0000001fbd08778b4c7643505261,0xfb89480000015b850f07110fc0570f3f\n"
-    ".octa 0x317e80410000000ebd000002c0a68b4d,0x8001b2fee180c1893046b60f41727400,0xf000003b0b9d231000000b3840f02f9\n"
-    ".octa 0x487e8b49404e8b49000000a3830fc1a3,0x940f06f88300000090820ff9394801b2,0x7e8b497c75d70840c7950f40f93948c2\n"
-    ".octa 0xf4800000000bff92948d231c7ff4850,0xe0be83416376687e3949f943,0xdbd4174c0853046b60f4156ebc2940f\n"
-    ".octa 0xc641ffffff75850f00327e8041000000,0x6348000000000d8d48c8ffed31013246,0x3bef58949f7894ce0ffc801488104\n"
-    ".octa 0xbdffffff44e9ee894c00000000e80000,0x44fb9ff31d231ffffff3ae90000000b,0x40be83491f7506f8831373c1a30f0000\n"
-    ".octa 0xa0be834914ebc0940f4100000001,0xb948c03145e17406f883c7950f400000,0x4cce420f48ce39484000000000000000\n"
-    ".octa 0x7c8840042454880af883cc460f49e139,0x8844000001a0be8d49062444940f0524,0xe80424748d4840568b49072444\n"
-    ".octa 0x415b08c48348e8890873894c3b894c00,0xa0e9093046c641c35d5f415e415d415c\n"
-    ".quad 0x53046c641fffffe\n"
-    ".long 0xfffe96e9\n"
+    ".octa 0x746cbf4910ec83485354415641574155,0x4c0000001fbd08778b4c764350526174,0x8948000001ef850f07110fc0570f3f39\n"
+    ".octa 0xb948000002c0868b49fb,0xc8460f48c13948ce420f48ce39484000,0x56b60f417a7400317e80410000000ebd\n"
+    ".octa 0x2fe804000000001b8fee68040d68930,0x830fd6a30f000003b0be000000b0840f,0xffe3948487e8b4940768b49000000a0\n"
+    ".octa 0xf40fe3948c0940f06fa830000009182,0x507e8b497a7500000000b8c70840c795,0x430f4800000000bffe2948c031c7ff48\n"
+    ".octa 0xe0be8341c0315f76687e3949fe,0xeb840fc0853046b60f4150ebc0940f00,0x69850f00327e80410000000dbd000000\n"
+    ".octa 0x158d48c8ffed31013246c641ffffff,0xbef7894ce0ffd0014882046348000000,0xe9e1894c00000000e8cc894900000003\n"
+    ".octa 0x41f631000001a0be8d49c031ffffff38,0xbe8349f6311172d0a30f410000044fb8,0x7506fa8308e6c1c6950f4000000000a0\n"
+    ".octa 0xc0940f410000000140be8349c0314519,0xafa83c03145c08944c0094118e0c141,0x4110e1c141c1894540568b49c0940f41\n"
+    ".octa 0x278963b490c244c8944c10941f109,0xf641c13041000002488eb60f45797500,0x41ca8945000002808eb60f45687501c1\n"
+    ".octa 0x290be8341207501c2f641c208,0xbbd3eeb15740000000294be80414a75,0x7401c1f641c12041fffffe84e9000000\n"
+    ".octa 0x7501c6f64000000258b6324108eec12b,0xe8c10e7501c0f641000002688632451b,0x24748d48207401a8000002a886324118\n"
+    ".octa 0x48e8890873894c3b894c00000000e80c,0xc08e8949c35d5f415e415c415b10c483,0x41fffffe1de9093046c641e1eb000002\n"
+    ".quad 0xfffe13e9053046c6\n"
     ".byte 0xff\n"
-    ".reloc .Ltcp56+218,R_X86_64_PC32,.Ltcp57-4\n"
-    ".reloc .Ltcp56+243,R_X86_64_PLT32,.Ltcp0-4\n"
-    ".reloc .Ltcp56+381,R_X86_64_PLT32,.Ltcp26-4\n"
-    ".section .rodata.tcp.57,\"a\",%progbits\n"
+    ".reloc .Ltcp57+255,R_X86_64_PC32,.Ltcp58-4\n"
+    ".reloc .Ltcp57+280,R_X86_64_PLT32,.Ltcp0-4\n"
+    ".reloc .Ltcp57+530,R_X86_64_PLT32,.Ltcp26-4\n"
+    ".section .rodata.tcp.58,\"a\",%progbits\n"
     ".balign 4\n"
-    ".Ltcp57:\n"
+    ".Ltcp58:\n"
     ".octa 0x0,0x0\n"
     ".quad 0x0\n"
-    ".reloc .Ltcp57+0,R_X86_64_PC32,.Ltcp56+231\n"
-    ".reloc .Ltcp57+4,R_X86_64_PC32,.Ltcp56+235\n"
-    ".reloc .Ltcp57+8,R_X86_64_PC32,.Ltcp56+75\n"
-    ".reloc .Ltcp57+12,R_X86_64_PC32,.Ltcp56+431\n"
-    ".reloc .Ltcp57+16,R_X86_64_PC32,.Ltcp56+83\n"
-    ".reloc .Ltcp57+20,R_X86_64_PC32,.Ltcp56+87\n"
-    ".reloc .Ltcp57+24,R_X86_64_PC32,.Ltcp56+433\n"
-    ".reloc .Ltcp57+28,R_X86_64_PC32,.Ltcp56+95\n"
-    ".reloc .Ltcp57+32,R_X86_64_PC32,.Ltcp56+99\n"
-    ".reloc .Ltcp57+36,R_X86_64_PC32,.Ltcp56+103\n"
-    ".section .text.tcp.58,\"ax\",%progbits\n"
+    ".reloc .Ltcp58+0,R_X86_64_PC32,.Ltcp57+268\n"
+    ".reloc .Ltcp58+4,R_X86_64_PC32,.Ltcp57+272\n"
+    ".reloc .Ltcp58+8,R_X86_64_PC32,.Ltcp57+100\n"
+    ".reloc .Ltcp58+12,R_X86_64_PC32,.Ltcp57+587\n"
+    ".reloc .Ltcp58+16,R_X86_64_PC32,.Ltcp57+108\n"
+    ".reloc .Ltcp58+20,R_X86_64_PC32,.Ltcp57+112\n"
+    ".reloc .Ltcp58+24,R_X86_64_PC32,.Ltcp57+589\n"
+    ".reloc .Ltcp58+28,R_X86_64_PC32,.Ltcp57+120\n"
+    ".reloc .Ltcp58+32,R_X86_64_PC32,.Ltcp57+124\n"
+    ".reloc .Ltcp58+36,R_X86_64_PC32,.Ltcp57+128\n"
+    ".section .text.tcp.59,\"ax\",%progbits\n"
     ".balign 16\n"
-    ".Ltcp58:\n"
+    ".Ltcp59:\n"
     ".globl tcp_c_connection_connect\n"
     ".hidden tcp_c_connection_connect\n"
     ".type tcp_c_connection_connect,%function\n"
@@ -6227,135 +6405,140 @@ __asm__(
     ".octa 0x45202454b70f442824448b4818ec8348,0x12244c894400000001102444c748098b,0xe810244c8d4c24048948162454894466\n"
     ".quad 0x18c4834800000000\n"
     ".byte 0xc3\n"
-    ".reloc .Ltcp58+48,R_X86_64_PLT32,.Ltcp27-4\n"
-    ".section .text.tcp.59,\"ax\",%progbits\n"
-    ".balign 16\n"
-    ".Ltcp59:\n"
-    ".globl tcp_c_connection_consume\n"
-    ".hidden tcp_c_connection_consume\n"
-    ".type tcp_c_connection_consume,%function\n"
-    ".size tcp_c_connection_consume,662\n"
-    "tcp_c_connection_consume:\n"
-    ".octa 0xb84818ec834853544155415641574155,0x4c0000000001c748764350526174746c,0x110fc0570f0739480000001fbd08678b\n"
-    ".octa 0x4510244c8948fe89490000022f850f07,0x44b60f41fee78040c78944312444b60f,0xe90000000ebddb310c7502ff80403024\n"
-    ".octa 0x840fc00841db310000000bbd000000f1,0x249c8b4d0000013824bc8b41000000e1,0x167501f880413c2444b60f4500000140\n"
-    ".octa 0xf4421244cb60f450120247c8041c931,0xd341d989da2945fa8941d9b60f41c945,0x294dd9894deb420f4dd58949d33949ea\n"
-    ".octa 0x83490f77d3394900000140248c894de9,0x8c8b410000019a840f000000015824bc,0x49dbf741d38941ca29fa890000013c24\n"
-    ".octa 0x13c249c8945eb0145d9420f44d539,0x2575d285452a7702fa80c931fc508d00,0x410120247c8041c9311474c08445c931\n"
-    ".octa 0xefd3cf2944cab60fd1450f212454b60f,0x18124bc8041c9b60fc1950fff85,0x18124948841d1440f00000001ba00\n"
-    ".octa 0x1b2fee78040c789ed314503eb01b300,0xc7a30f000003b0bfd2315c7402ff8040,0x394901b248247c8b494024448b4d5073\n"
-    ".octa 0xc7950f40f83949c2940f06f8833f72f8,0x49d231c7ff4850247c8b492b75d70840,0x68247c3949f8430f4900000000bff829\n"
-    ".octa 0x2ebc2940f00000000e024bc83411076,0x44fb9ff31000002c024848b4dd231,0x4000000000a024bc83490d72c1a30f00\n"
-    ".octa 0x7506f88300000000b941ff3145c7950f,0xb948c1940f41000000014024bc83490d,0x4cce420f48ce39484000000000000000\n"
-    ".octa 0x7c88400c2454880af883c8460f49c139,0x44000001a024bc8d490e2444940f0d24,0xe80c24748d484024548b490f244c88\n"
-    ".octa 0x68949764350526174746cb848000000,0x4c1024448b480866894def440f4ddb84,0x415c415b18c48348e889ef450f412889\n"
-    ".octa 0x13c2484c741c35d5f415e415d,0xfffe7a860f02fa80c931fc508d000000\n"
-    ".long 0xfe9fe9ff\n"
-    ".short 0xffff\n"
-    ".reloc .Ltcp59+575,R_X86_64_PLT32,.Ltcp26-4\n"
+    ".reloc .Ltcp59+48,R_X86_64_PLT32,.Ltcp27-4\n"
     ".section .text.tcp.60,\"ax\",%progbits\n"
     ".balign 16\n"
     ".Ltcp60:\n"
-    ".globl tcp_c_connection_emit\n"
-    ".hidden tcp_c_connection_emit\n"
-    ".type tcp_c_connection_emit,%function\n"
-    ".size tcp_c_connection_emit,3736\n"
-    "tcp_c_connection_emit:\n"
-    ".octa 0x98ec814853544155415641574155,0xed31764350526174746cbf48fe894900,0x417f0f41f3c0ef0f66c4940f41c98548\n"
-    ".octa 0x490000001fb8087e8b4d017f0f41f310,0xf8814900000c75850f067f0f41f33e39,0x21b8087e894d3e89491177000005ef\n"
-    ".octa 0x49000000001c2444c700000c5be90000,0x4000000000000000bf48000002c0878b,0xf45f8460f48c73948fe420f48fe3948\n"
-    ".octa 0x4c38247c894801c5f64100000184afb6,0x180bf80410e7500000090248c89,0x8040ee894440478b4900000139840f00\n"
-    ".octa 0xc74801e783feb60f40052474884001f6,0x3145f631db31db314500000000282444,0x8244c894c290c8d4c0ce5c1e58844c0\n"
-    ".octa 0x420f4dc12949e1894dd2314548678b4d,0xfa39483073c0394cd2420f49f22948ca,0x80bf8041000001fa850f01c5f6412b73\n"
-    ".octa 0x181bf8041000001ec850f00000001,0xc5f641000001d9e900000219850f0000,0x1e9840f0000000180bf80410e7501\n"
-    ".octa 0x502444c74024447f0f66c0ef0f6600,0xfe508dc2b60f41052454b60f44000000,0x1ee820fd989492824448b4c02fa83\n"
-    ".octa 0x3138246c8b4c000004ae850f01f88300,0xe80824548b48f631ff894ced,0x4801f8834848478b49344f8b41c38948\n"
-    ".octa 0x41000000018087c6414847894900d083,0xf0afb60f410c740000000181bf80,0x181af884108244c8901f5804000\n"
-    ".octa 0x4e5e9eb894dc0314500000001b8,0x47b60f416024447f0f667024447f0f66,0x48000000cd820fc6a30f0000044fbe30\n"
-    ".octa 0xb70f4140778d4920244c894808245489,0xbf013e7f8041c0313a4fb70f410c57,0x4f8834900000158878b4d2175000000\n"
-    ".octa 0x4fd3c8dc0854df8420f4900000004bf,0xffa2966d1420fd13966f8440f000000,0x483247b60f45000001828fb60f41d042\n"
-    ".octa 0x8b480160247c8000000000e860247c8d,0x4c7824548b4c52750824548b4820244c,0x8b4840478d4968247cb60f70244c8b\n"
-    ".octa 0x7c8948f0420f49c62948ce894cc03145,0xf49d3894c00000001bf02ff80402824,0x52444c6f8420f49cf294ccf014cfa42\n"
-    ".octa 0x81bf8041fffffe05e9c8894dcb894d02,0x314548478b4d40478b49307400000001,0x247c894800000000bfc62948c6894cc9\n"
-    ".octa 0x31db31db314503052444c6f1420f4928,0x314500000002b887c641fffffdcbe9ff,0xed3100000000082444c7db31c03145ed\n"
-    ".octa 0xe830fce394c00000878e938245c8b4c,0xfffe00840f0000000181bf8041fffffe,0x502444c74024447f0f66c0ef0f66ff\n"
-    ".octa 0x41c93145db3145c0314503b241000000,0x244489486024548948d2b60f41c0b60f,0x3e57b60f4178244c894c70245c894c68\n"
-    ".octa 0x9c850f10244c894c20245c894c01fa80,0x8e840f0000000158bf8349000000,0x8244c8b48d231ff894c6024748d4800\n"
-    ".octa 0x894dda894100000000e8d38944c4894d,0x8b41c4894938245c8b4c2024448b4ce1,0x7ad840f0824548903fa80413457\n"
-    ".octa 0x4c102444420f4800000001b802f98041,0x4f8949c8470f48c83948484f8b49c001,0x80410000028b870ffdf980fd498d4148\n"
-    ".octa 0x4c000000d0878949077501000000c8bf,0x4100000283e9000000018187c641e389,0xc0930f02f880415275291c8d4802fa80\n"
-    ".octa 0x8b49227510b0c60840c6940f40c9854d,0x430f48c72948df894cf631c0ff485047,0x100c03e0c0c0940f68773b49ce014cf7\n"
-    ".octa 0x8040fee68040c68944dc014508678b45,0x410867034507ebc30841c3940f4102fe,0x40b78b4900000138878b41c9894910b3\n"
-    ".octa 0x8041c9311375013c7f8041c931000001,0x29cfb60f40f9450f217fb60f4101207f,0xf8420f0000ffffbf0000ffff3de8d3f0\n"
-    ".octa 0x158878b492a74d28400000014b8,0xc08548c8420f4800000004b904f88348,0x4800000014b800000018c50c8d48c889\n"
-    ".octa 0xb70f4134244c8966044fb70f41c1450f,0x8041000000f4af8b4536244c8966384f,0x245c88440524548844282444894c02fa\n"
-    ".octa 0x8824ac89440000008c24bc8906,0xf0010247c8348c1930f02f880411875,0x412f8b45f63100000206840fca08c294\n"
-    ".octa 0xf03896608c0c166342444b70f346f8b,0x44cc0f410243896608c0c166362444b7,0xc6084389c80f0000008824848b046389\n"
-    ".octa 0x8c24848b0d4388062444b60f500c43,0x1043c70e43896608c0c1660000,0xf664577000000fffc814914668d4c00\n"
-    ".octa 0xe2894cd98948dbef0f66e4ef0f66c0ef,0x451820f052454b60f4410fc8349,0x38a850f30a8d0f7f08904c68348\n"
-    ".octa 0xbbe9d2ef0f66d98948e2894cc9ef0f66,0x8b4c00000000e8e6894cdf8948000003,0xb60f4428244c8b4c2024448b4c38245c\n"
-    ".octa 0x4c00000184af8d49000004f3e9052454,0xf410000016b850f01fd804138245c8b,0x188878b4144244489660000018c87b7\n"
-    ".octa 0x24448900000190878b41402444890000,0x878b414c2444890000019487b60f4148,0x477b70f413f8b415024448900000198\n"
-    ".octa 0xe8dc894d0824448b4cc9314024548d48,0x8187c641e3894c00000153e900000000,0x18287c641087501f9804100000001\n"
-    ".octa 0xfc5420f49c0294c01b540ed31450000,0x73c83949000002288f8b49000004dd86,0x294bf80411f7500000278873b4d4b\n"
-    ".octa 0x248877f0f41f3c0ef0f6615750000,0xf41f3c0ef0f66010000029487c64100,0x24087c74900000230877f\n"
-    ".octa 0x30bf804127eb00000258877f0f41f300,0x23087c74900148d491d7401000002,0x409f894d000002389789490000000100\n"
-    ".octa 0x8949ca470f48ca394800148d49000002,0x442e9c5894901b540000002288f,0x4c8b48f631c2ff4968578b4950578b4d\n"
-    ".octa 0x542840fd28548ce420f48d1294c2024,0x294c70478b4d60778b49587f8b490000,0x470f480724548d48f2420f48f23948c6\n"
-    ".octa 0x3602444c74800000523e9c7014cd7,0x782444c7486824447f0ff30000,0xbf83492a750824548b4c013e7f804100\n"
-    ".octa 0x31ff894c6024748d4820740000000158,0x48e3894d00000000e8dc894dd1894cd2,0x77b70f41047fb70f4100000134e9c389\n"
-    ".octa 0x4d00000138878b41000000f4978b4138,0x3c7f8041c9310867034500000140878b,0x44214fb60f4501207f8041c931147501\n"
-    ".octa 0xffff3de8d3c02944c9b60f41c9450f,0x8b410f8b41c0420f440000ffffb84100,0x416608c6c1663a89416608c7c1663447\n"
-    ".octa 0x8528941ca0f04628945cc0f41027289,0x4289456608c0c1416610500c42c74166,0xf66026f0f41f3000000001042c7410e\n"
-    ".octa 0xc1eb0f6608f0710f6608d1710f66c86f,0xc1610f66d1690f66d06f0f66c9ef0f66,0x700f66c8fe0f66eec8700f66c2fe0f66\n"
-    ".octa 0x6610eec1ce89c27e0f66c1fe0f6655c1,0xc1c789f6b70f08c6c166c9b70f08c1c1,0x108c7c166c801c0b70f08c0c16610ef\n"
-    ".octa 0x1b900010019050a048dc101cfb70ff0,0x10e2c1ca892fe9c148c8af0f48800080,0x440fc98508c0c166d0f7c889c101d129\n"
-    ".octa 0x4934478d4900000014bb1042894166c1,0xf480100000184bf8041000001888f8d,0x19087c74908244489008bc144\n"
-    ".octa 0xc766000000000000019887c741000000,0x4501b540000000000045c74800000845,0xff04e8c1f08900000228e9c03145ed31\n"
-    ".octa 0xf66d98948e2894cc9ef0f6603e083c0,0x841f0f2e6666666666d2ef,0xfd0f6608d3710f66d3fd0f66196f0ff3\n"
-    ".octa 0xf66e275c8ff48f0c2834810c18348cb,0x401f0f657230fe8348d96f0f66e26f,0xff320796f0ff310716f0ff3296f0ff3\n"
-    ".octa 0xe9fd0f6608d5710f66d5fd0f6630596f,0xfd0f6608d6710f66e6fd0f66e76f0f66,0xf66fdfd0f66fefd0f6608d7710f66e2\n"
-    ".octa 0x4840c18348dffd0f6608d3710f66e3fd,0x770ffa8348d46f0f66cb6f0f66c0c283,0xf66e1f90f6608f1710f66cb6f0f669f\n"
-    ".octa 0x6608f4720f66e0610f66c8690f66cc6f,0xd4fe0f66d0610f66d36f0f6608f1720f,0xc3700f66dafe0f66d9fe0f66d8690f66\n"
-    ".octa 0x8fa8348f63155c8700f66c3fe0f66ee,0xf48398b482febc031047338245c8b4c,0x49f98949c7b70f4430e8c148f88948cf\n"
-    ".octa 0x44f801c0014410efc1c9b70f4520e9c1,0x6628244c8b4cf8c2834808c18348c801,0xf7b70fcf0f398b147204fa8348c1fe0f\n"
-    ".octa 0x7e0f66fcc2834804c18348fe0110efc1,0x416601b70f44157202fa8348c03145c7,0x44fec2834802c18348c0b70f4508c0c1\n"
-    ".octa 0xc109b60f0a7501fa8348f001f801c601,0xe9c1e989442024448b4cc889c10108e1,0xb70f08c1c166d5b70f4108c5c1416610\n"
-    ".octa 0xc6c166fdb70f08c5c16610eec1ee89c9,0x5d001f201ca01e20144fe01f6b70f08,0xe9c148c8af0f4880008001b900010005\n"
-    ".octa 0xc166d0f7c889c101d12910e2c1ca892f,0x4134578b4110438966c1440fc98508c0,0xe3894cfffff853850f0824548903fa80\n"
-    ".octa 0x4501b540000000018187c64148478b4d,0xfa8001b1fee280c2893047b60f41ed31,0x494b73c2a30f000003b0bac931577402\n"
-    ".octa 0xf8833c72f2394801b148778b4940578b,0x2875ce0840c6950f40f23948c1940f06,0xbef22948c931c6ff4850778b49\n"
-    ".octa 0xe0bf83410f7668773949f2430f4800,0x44fbed231c93102ebc1940f000000,0x950f00000000a0bf83490b72c6a30f00\n"
-    ".octa 0x83490c7506f88300000000bec4894dc2,0x244c880af883c6940f400000000140bf,0x1a0bf8d491e2444940f1d2454881c\n"
-    ".octa 0x4c1c24748d4840578b491f2474884000,0x4350526174746cb84800000000e8d989,0xb8ed8440087e894d06894976\n"
-    ".octa 0xe43145db3100000035b80f750824548b,0x19894800000090248c8b48d231ed3145,0x1c41c71851891069894c0861894c\n"
-    ".octa 0x5e415d415c415b00000098c481480000,0x3048d4cfa894807247c8d48c35d5f41,0x199870ff33949291c8d4e10246c8b4c\n"
-    ".octa 0x830fea394cca2948c2894cf901480000,0x8d4a28348d482a7204fd8349000000c8,0x420f4dd3894dd5394d20246c8b4c0e14\n"
-    ".octa 0x830f20fa8348ea294cfd0149da014cdd,0x8348d389491024748b48d231000000ae,0x182c8847192cb60f46d38949147403e6\n"
-    ".octa 0xf229481024748b48ef75ceff48c3ff49,0x31fffff7fd870f08245c8b48fcfa8348,0xf90148ca430f48d2294c2024548b48c9\n"
-    ".octa 0x4803c0834829048d49c5014803c18348,0x42fd18548842fd1954b60f421024748b,0xff1954b60f42fe18548842fe1954b60f\n"
-    ".octa 0x8349181488421914b60f42ff18548842,0x48c7894cfffff7a0e9cd75de394c04c3\n"
-    ".long 0x894cce89\n"
-    ".byte 0xea\n"
-    "call memmove\n"
-    ".octa 0xfa83481024548b48fffff78ae9ee894c,0xe0e2834862eb08245c8b48d231097320,0x10c383492f1c8d4edd294d20246c8b4c\n"
-    ".octa 0x2b446f0f43f3ed314510c68348ce014c,0x42f3f02e447f0f42f32b0c6f0f43f3f0,0x5c8b4cdd75ea394c20c583492e0c7f0f\n"
-    ".octa 0x1f840f08245c8b48d33949de894c1024,0x8948fffffede840f1c102444f6fffff7,0x8945311c8b44fce283481024548b48d6\n"
-    ".octa 0x10245c8b4cef75f2394804c68348301c,0xfffeabe9fffff6e6840fd33949de894c\n"
-    ".quad 0xe8e9894dff\n"
-    ".long 0xff42e900\n"
-    ".short 0xffff\n"
-    ".reloc .Ltcp60+412,R_X86_64_PLT32,.Ltcp34-4\n"
-    ".reloc .Ltcp60+629,R_X86_64_PLT32,.Ltcp30-4\n"
-    ".reloc .Ltcp60+967,R_X86_64_PLT32,.Ltcp36-4\n"
-    ".reloc .Ltcp60+1562,R_X86_64_PLT32,.Ltcp1-4\n"
-    ".reloc .Ltcp60+1696,R_X86_64_PLT32,.Ltcp31-4\n"
-    ".reloc .Ltcp60+2040,R_X86_64_PLT32,.Ltcp36-4\n"
-    ".reloc .Ltcp60+3187,R_X86_64_PLT32,.Ltcp26-4\n"
-    ".reloc .Ltcp60+3727,R_X86_64_PLT32,.Ltcp35-4\n"
+    ".globl tcp_c_connection_consume\n"
+    ".hidden tcp_c_connection_consume\n"
+    ".type tcp_c_connection_consume,%function\n"
+    ".size tcp_c_connection_consume,814\n"
+    "tcp_c_connection_consume:\n"
+    ".octa 0x74746cb8485053544155415641574155,0x8678b4c0000000001c7487643505261,0x850f07110fc0570f0739480000001fbd\n"
+    ".octa 0x2c0248c8b49fe8949cb8948000002c0,0x48c639484000000000000000b8480000,0x31244cb60f41c1460f48c83948c6420f\n"
+    ".octa 0x2ff8040302474b60f41fee78040cf89,0xbd000000f4e90000000ebdff31450d75,0xe3840ff10840ff31450000000b\n"
+    ".octa 0x140249c8b4d0000013824bc8b41,0x8041c931167501f880413c2444b60f45,0xf45c9450f4421244cb60f450120247c\n"
+    ".octa 0x3949ead341f98944da2945fa8941f9b6,0x894de9294dd9894deb420f4dd58949d3,0x5824bc83490f77d3394900000140248c\n"
+    ".octa 0x13c248c8b410000020b840f00000001,0x44d53949dbf741d38941ca29fa890000,0x568d0000013c249c8945eb0145d9420f\n"
+    ".octa 0x45c9312575d285452a7702fa80c931fc,0x54b60f410120247c8041c9311474c084,0xfff85efd3cf2944cab60fd1450f2124\n"
+    ".octa 0x1ba000000018124bc8041c9b60fc195,0xb7410000018124948841d1440f000000,0x1b9fee280f289ed314503eb01\n"
+    ".octa 0x495373f2a30f000003b0ba5f7402fa80,0xfe834672fa394848247c8b494024548b,0xb9cf0840c7950f40fa3948c1940f06\n"
+    ".octa 0x48c931c7ff4850247c8b492f75000000,0x68247c3949fa430f4800000000bffa29,0xc1940f00000000e024bc8341c9311276\n"
+    ".octa 0xbac03145000001a024bc8d49c93102eb,0x24bc8349c031451472f2a30f0000044f,0x6fe8308e0c141c0950f4100000000a0\n"
+    ".octa 0xc2940f000000014024bc8349d2311575,0x940f410afe83c93145d189ca0918e2c1,0x9c6094410e6c1ce89444024548b49c1\n"
+    ".octa 0x4178750000027824943b4904247489ce,0x7501c6f640ce30400000024824b4b60f,0xca0841f289410000028024b4b60f4166\n"
+    ".octa 0x75000000029024bc8341187501c2f641,0x204039eb0b74000000029424bc804146,0x582484324508e8c141307401c6f640ce\n"
+    ".octa 0x268248c32451e7501c0f641000002,0x2a8248c324118e9c1107501c1f64100,0xe8c189480424748d485d7401c1f60000\n"
+    ".octa 0x8949764350526174746cb84800000000,0x894c0866894de8440f4cff8445c03106,0x415d415c415b08c48348e889e8450f2b\n"
+    ".octa 0x13c2484c741c35d5f415e,0xe9fffffe09860f02fa80c931fc568d00\n"
+    ".quad 0x24848949fffffe2e\n"
+    ".long 0x2c0\n"
+    ".short 0xa6eb\n"
+    ".reloc .Ltcp60+720,R_X86_64_PLT32,.Ltcp26-4\n"
     ".section .text.tcp.61,\"ax\",%progbits\n"
     ".balign 16\n"
     ".Ltcp61:\n"
+    ".globl tcp_c_connection_emit\n"
+    ".hidden tcp_c_connection_emit\n"
+    ".type tcp_c_connection_emit,%function\n"
+    ".size tcp_c_connection_emit,3844\n"
+    "tcp_c_connection_emit:\n"
+    ".octa 0x88ec814853544155415641574155,0xed31764350526174746cbf48fe894900,0x417f0f41f3c0ef0f66c4940f41c98548\n"
+    ".octa 0x490000001fb8087e8b4d017f0f41f310,0xf8814900000cf6850f067f0f41f33e39,0x21b8087e894d3e89491177000005ef\n"
+    ".octa 0xbf48000002c0878b4900000cdce90000,0x48fe420f48fe39484000000000000000,0xf64100000184afb60f45f8460f48c739\n"
+    ".octa 0x7500000080248c894c38247c894801c5,0x4900000136840f0000000180bf80410e,0x40072474884001f68040ee894440478b\n"
+    ".octa 0x4500000000282444c74801e783feb60f,0x4c0ce5c1e58844c03145f631db31db31,0x4dd2314548678b4d08244c894c290c8d\n"
+    ".octa 0xd2420f49f22948ca420f4dc12949e189,0x850f01c5f6412b73fa39483073c0394c,0x1e8850f0000000180bf8041000001f6\n"
+    ".octa 0x215850f0000000181bf80410000,0x180bf80410e7501c5f641000001d5e9,0x7f0f66c0ef0f66000001e5840f000000\n"
+    ".octa 0x2454b60f4400000000702444c7602444,0x2824448b4c02fa83fe508dc2b60f4107,0x4c000004af850f01f883000001ec820f\n"
+    ".octa 0x824548b48f631ff894ced3138246c8b,0x48478b49344f8b41c3894800000000e8,0x8087c6414847894900d0834801f88348\n"
+    ".octa 0xf410c740000000181bf804100000001,0x884108244c8901f58040000000f0afb6,0xeb894de4314500000001b800000181af\n"
+    ".octa 0x24447f0f665024447f0f66000004e8e9,0x820fc6a30f0000044fbe3047b60f4140,0x8d4918244c89480824548948000000cc\n"
+    ".octa 0x8041c0313a4fb70f410c57b70f41405f,0x158b78b49217500000000be013e7f,0x8548fe420f4800000004bf04fe834800\n"
+    ".octa 0x420fd13966f0440f00000004fd348df6,0x45000001828fb60f41d0420ff22966d1,0xe8de894840247c8d483247b60f\n"
+    ".octa 0x824548b4818244c8b480140247c8000,0x247cb60f50244c8b4c5824548b4c4e75,0x420f49c62948ce894cc03145038b4848\n"
+    ".octa 0x4c00000001bf02ff804028247c8948f0,0xf8420f49cf294ccf014cfa420f49d389,0xfffffe09e9c8894dcb894d02072444c6\n"
+    ".octa 0x8b4d40478b4930740000000181bf8041,0xb941c62948c6894cff314847,0x314503072444c6f7420f4828244c894c\n"
+    ".octa 0x2b887c641fffffdcfe9ff31db31db,0x82444c7db31e43145ed31450000,0x394c00000881e938245c8b4ced310000\n"
+    ".octa 0xf0000000181bf8041fffffe12830fce,0xc76024447f0f66c0ef0f66fffffe0484,0xdb3145c0314503b24100000000702444\n"
+    ".octa 0x484024548948d2b60f41c0b60f41db31,0xf4158245c894850245c894c48244489,0x72454884420245c894c01fa803e57b6\n"
+    ".octa 0x840f0000000158bf83490000009f850f,0x8b48d231ff894c4024748d4800000091,0x894900000000e8c3894cdc894908244c\n"
+    ".octa 0x894838245c8b4c2024648b4ce3894cd8,0x82454890307247c8034578b41182444,0x4800000001b802f88041000007b2840f\n"
+    ".octa 0x470f48c83948484f8b49e0014cc3420f,0x28d870ffdf980fd488d41484f8949c8,0xd0878949077501000000c8bf80410000\n"
+    ".octa 0x18245c8b48000000018187c641000000,0x415775292c8d4c02fa804100000285e9,0xc60840c6940f40db8548c0930f02f880\n"
+    ".octa 0xdf894cf631c0ff4850478b49227510b0,0x940f68773b49de0148f7430f48c72948,0xc68944dc014508678b45100c03e0c0c0\n"
+    ".octa 0x40c60840c6940f4002fe8040fee68040,0x4910182444c60867034509eb18247488,0x140b78b4900000138878b41c989\n"
+    ".octa 0x1207f8041c9311375013c7f8041c931,0xe8d3f029cfb60f40f9450f217fb60f41,0x244c89c8420f0000ffffb90000ffff3d\n"
+    ".octa 0x158878b492a74d28400000014b87c,0x8548c8420f4800000004b904f8834800,0x14b800000018c50c8d48c889c0\n"
+    ".octa 0xf4534244c8966044fb70f41c1450f48,0x894c02fa8041000000f4bf8b41385fb7,0x41157536245c89446678247c89282444\n"
+    ".octa 0x840fca08c2940fdb8548c1930f02f880,0x4f8b4508244489078b41f63100000214,0xf004589416608c0c166342444b70f34\n"
+    ".octa 0xcc0f41024589416608c0c166362444b7,0xc64108458941c80f7824448b04658945,0x7c24448b0d458841182444b60f500c45\n"
+    ".octa 0x1045c7410e4589416608c0c166,0x246c8948000000fffd8148146e8d4800,0x4cdbef0f66e4ef0f66c0ef0f66467718\n"
+    ".octa 0x820f2024648b4c10fd8348ea8948e989,0x850f30a8d0f7f08904c683480000044d,0xe9894c1824548b48c9ef0f660000038e\n"
+    ".octa 0x45ee8948ef894c000003b5e9d2ef0f66,0x4c38245c8b4ce1894500000000e8cc89,0x8d49000004f3e92824448b4c2024648b\n"
+    ".octa 0x850f01fd804138245c8b4c00000184af,0x244489660000018c87b70f410000016d,0x90878b416024448900000188878b4164\n"
+    ".octa 0x890000019487b60f4168244489000001,0x8b417024448900000198878b416c2444,0x448b4cc9316024548d480477b70f413f\n"
+    ".octa 0x4100000155e900000000e8dc894d0824,0x18245c8b4801f88041000000018187c6,0x1b540ed3145000000018287c6410875\n"
+    ".octa 0x8f8b49000004e2860fc5420f49e0294c,0x278a73b4d4b73cc394900000228,0xc0ef0f6615750000000294bf80411f75\n"
+    ".octa 0x29487c64100000248877f0f41f3,0xc74900000230877f0f41f3c0ef0f6601,0x258877f0f41f3000000000000024087\n"
+    ".octa 0x8d491d740100000230bf804127eb0000,0x978949000000010000023087c7490414,0x4804148d49000002409f894d00000238\n"
+    ".octa 0x1b540000002288f8949ca470f48ca39,0x68578b4950578b4d00000447e9c58949,0x420f48d1294c20244c8b48f631c2ff49\n"
+    ".octa 0x8b49587f8b49000005cb840fd28548ce,0xf2420f48f23948c6294c70478b4d6077,0x5ace9c7014cd7470f481724548d48\n"
+    ".octa 0x4824447f0ff300000003402444c74800,0x8b4c013e7f804100000000582444c748,0x4820740000000158bf83492a75082454\n"
+    ".octa 0xe8dc894dd1894cd231ff894c4024748d,0x4100000134e9c38948e3894d00000000,0xf4978b413877b70f41047fb70f\n"
+    ".octa 0x34500000140878b4d00000138878b41,0x7f8041c9311475013c7f8041c9310867,0x44c9b60f41c9450f44214fb60f450120\n"
+    ".octa 0x440000ffffb8410000ffff3de8d3c029,0x416608c7c16634478b410f8b41c0420f,0x8945cc0f41027289416608c6c1663a89\n"
+    ".octa 0x6610500c42c7416608528941ca0f0462,0x1042c7410e4289456608c0c141,0x6608d1710f66c86f0f66026f0f41f300\n"
+    ".octa 0xd06f0f66c9ef0f66c1eb0f6608f0710f,0xc8700f66c2fe0f66c1610f66d1690f66,0xf66c1fe0f6655c1700f66c8fe0f66ee\n"
+    ".octa 0xc166c9b70f08c1c16610eec1ce89c27e,0xb70f08c0c16610efc1c789f6b70f08c6,0x48dc101cfb70ff00108c7c166c801c0\n"
+    ".octa 0x48c8af0f4880008001b900010019050a,0xd0f7c889c101d12910e2c1ca892fe9c1,0x14bb1042894166c1440fc98508c0c166\n"
+    ".octa 0x8041000001888f8d4934478d49000000,0x8244489008bc1440f480100000184bf,0x19887c741000000000000019087c749\n"
+    ".octa 0x45c74800000845c766000000000000,0x22de9e43145ed314501b54000000000,0xc9ef0f6603e083c0ff04e8c1f0890000\n"
+    ".octa 0x401f0fd2ef0f66e9894c1824548b48,0xfd0f6608d3710f66d3fd0f66196f0ff3,0xf66e275c8ff48f0c2834810c18348cb\n"
+    ".octa 0x401f0f657230fe8348d96f0f66e26f,0xff320796f0ff310716f0ff3296f0ff3,0xe9fd0f6608d5710f66d5fd0f6630596f\n"
+    ".octa 0xfd0f6608d6710f66e6fd0f66e76f0f66,0xf66fdfd0f66fefd0f6608d7710f66e2,0x4840c18348dffd0f6608d3710f66e3fd\n"
+    ".octa 0x770ffa8348d46f0f66cb6f0f66c0c283,0xf66e1f90f6608f1710f66cb6f0f669f,0x6608f4720f66e0610f66c8690f66cc6f\n"
+    ".octa 0xd4fe0f66d0610f66d36f0f6608f1720f,0xc3700f66dafe0f66d9fe0f66d8690f66,0x8fa8348f63155c8700f66c3fe0f66ee\n"
+    ".octa 0xf48398b4835ebc031047338245c8b4c,0x49cd8944c7b70f4430e8c148f88948cf,0xc0014410efc1c9b70f4520e9c149f989\n"
+    ".octa 0xf8c2834808c18348e98941c80144f801,0xb70fcf0f398b147204fa8348c1fe0f66,0xf66fcc2834804c18348fe0110efc1f7\n"
+    ".octa 0x6601b70f44157202fa8348c03145c77e,0xfec2834802c18348c0b70f4508c0c141,0x9b60f0a7501fa8348f001f801c60144\n"
+    ".octa 0x246c8b482824448b4cc889c10108e1c1,0xb70f08c2c16610e9c1d1890824548b18,0x416610eec1ce8944c9b70f08c1c166d2\n"
+    ".octa 0xfe01f6b70f08c6c166f9b70f4108c1c1,0x8001b90001000505d001f201ca01ea01,0x2910e2c1ca892fe9c148c8af0f488000\n"
+    ".octa 0xc1440fc98508c0c166d0f7c889c101d1,0x54890307247c8034578b411045894166,0x8187c64148678b4dfffff84e850f0824\n"
+    ".octa 0x4118245c8b48ed314501b54000000001,0xfa8000000001b8fee280ca89304fb60f,0x578b494e73caa30f000003b0ba5a7402\n"
+    ".octa 0xc0940f06f9834372f2394848778b4940,0x7500000000b8c60840c6950f40f23948,0xbef22948c031c6ff4850778b492c\n"
+    ".octa 0x8341c031117668773949f2430f480000,0xbf8d49c03102ebc0940f00000000e0bf,0x1172caa30f0000044fbaf631000001a0\n"
+    ".octa 0xe6c1c6950f4000000000a0bf8349f631,0x140bf8349d231147506f98308,0xaf983c03145d089c20918e2c1c2940f\n"
+    ".octa 0xf10910e1c1c1894440578b49c0940f41,0x416f7500000278973b4940244c89c109,0xf41607501c1f6c130000002488fb60f\n"
+    ".octa 0x1c1f641c10841c98941000002808fb6,0x94bf804142750000000290bf83411675,0xc12f7401c1f6c12036eb097400000002\n"
+    ".octa 0x451f7501c6f64000000258b7324108ee,0x4118e8c1127501c0f641000002688732,0x8d4800000164840f01a8000002a88732\n"
+    ".octa 0x80248c8b4800000000e8d9894c402474,0x4350526174746cb8480824548b000000,0xb80f75ed8440c031087e894d06894976\n"
+    ".octa 0x8948d231ed3145e43145db3100000035,0x1c41c71851891069894c0861894c19,0x415d415c415b00000088c48148000000\n"
+    ".octa 0x48d4efa894817247c8d48c35d5f415e,0x14800000189870ff33949191c8d4c28,0xbc830fda3948ca2948c2894cf9\n"
+    ".octa 0x8b4c0e148d4a28348d482a7204fb8348,0xda014cdd420f4dd3894dd5394d20246c,0xae830f20fa8348ea294cfd0149\n"
+    ".octa 0x8949147403e68348d38949de8948d231,0xceff48c3ff49182c8847192cb60f46d3,0x246c8b4cfcfa8348de8948da2948ef75\n"
+    ".octa 0x294c2024548b48c931fffff76f870f08,0x49c5014803c18348f90148ca430f48d2,0x548842fd1954b60f4203c0834829048d\n"
+    ".octa 0xb60f42fe18548842fe1954b60f42fd18,0x1488421914b60f42ff18548842ff1954,0x48c7894c0eebcd75db394c04c3834918\n"
+    ".long 0x8948ce89\n"
+    ".byte 0xda\n"
+    "call memmove\n"
+    ".octa 0xe9000002c09f894dfffff704e9de8948,0x246c8b4cd231097320fb8348fffffe9d,0x4d20246c8b4ce0e28348da89485eeb08\n"
+    ".octa 0xc68348ce014c10c383492f1c8d4edd29,0xc6f0f43f3f02b446f0f43f3ed314510,0x83492e0c7f0f42f3f02e447f0f42f32b\n"
+    ".octa 0x6c8b4cd33948de8948dd75ea394c20c5,0xfffee7840f1cc3f6fffff694840f0824,0x45311c8b44fce28348da8948d68948ff\n"
+    ".octa 0x48de8948ef75f2394804c68348301c89,0xd98949fffffebbe9fffff664840fd339\n"
+    ".quad 0xff46e900000000e8\n"
+    ".short 0xffff\n"
+    ".reloc .Ltcp61+401,R_X86_64_PLT32,.Ltcp34-4\n"
+    ".reloc .Ltcp61+621,R_X86_64_PLT32,.Ltcp30-4\n"
+    ".reloc .Ltcp61+954,R_X86_64_PLT32,.Ltcp36-4\n"
+    ".reloc .Ltcp61+1555,R_X86_64_PLT32,.Ltcp1-4\n"
+    ".reloc .Ltcp61+1686,R_X86_64_PLT32,.Ltcp31-4\n"
+    ".reloc .Ltcp61+2032,R_X86_64_PLT32,.Ltcp36-4\n"
+    ".reloc .Ltcp61+3319,R_X86_64_PLT32,.Ltcp26-4\n"
+    ".reloc .Ltcp61+3835,R_X86_64_PLT32,.Ltcp35-4\n"
+    ".section .text.tcp.62,\"ax\",%progbits\n"
+    ".balign 16\n"
+    ".Ltcp62:\n"
     ".globl tcp_c_connection_free\n"
     ".hidden tcp_c_connection_free\n"
     ".type tcp_c_connection_free,%function\n"
@@ -6365,41 +6548,80 @@ __asm__(
     ".quad 0x1fb807110fc057\n"
     ".long 0x440f0000\n"
     ".short 0xc3c1\n"
-    ".section .text.tcp.62,\"ax\",%progbits\n"
+    ".section .text.tcp.63,\"ax\",%progbits\n"
     ".balign 16\n"
-    ".Ltcp62:\n"
+    ".Ltcp63:\n"
     ".globl tcp_c_connection_listen\n"
     ".hidden tcp_c_connection_listen\n"
     ".type tcp_c_connection_listen,%function\n"
     ".size tcp_c_connection_listen,32\n"
     "tcp_c_connection_listen:\n"
     ".octa 0xc894c00000000102444c74818ec8348,0xc318c4834800000000e810244c8d4c24\n"
-    ".reloc .Ltcp62+23,R_X86_64_PLT32,.Ltcp27-4\n"
-    ".section .text.tcp.63,\"ax\",%progbits\n"
-    ".balign 16\n"
-    ".Ltcp63:\n"
-    ".globl tcp_c_connection_receive\n"
-    ".hidden tcp_c_connection_receive\n"
-    ".type tcp_c_connection_receive,%function\n"
-    ".size tcp_c_connection_receive,470\n"
-    "tcp_c_connection_receive:\n"
-    ".octa 0x894938ec834853544155415641574155,0xc749764350526174746cbe48f4,0x570f3739480000001fb8087f8b4c0000\n"
-    ".octa 0xfe8949c3894c0000018d850f07110fc0,0x8b49d001480ce0c1c0940fd28548c031,0x48102444290f3024548948000002c097\n"
-    ".octa 0xfe894c10247c8d4800000000202444c7,0x80c1893047b60f4100000000e8c28948,0x3b0b9d231577402f98001b2fee1\n"
-    ".octa 0x4801b248778b49404f8b494b73c1a30f,0x950f40f13948c2940f06f8833c72f139,0x48d231c6ff4850778b492875d60840c6\n"
-    ".octa 0x7668773949f1430f4800000000bef129,0xd23102ebc2940f00000000e0bf83410f,0x18244cb60f11246cb60f4410246cb60f\n"
-    ".octa 0xf63128244c894820244c8b480f244c88,0x491f7506f8831373c1a30f0000044fb9,0xbf834914ebc0940f410000000140bf83\n"
-    ".octa 0x3145e17406f883c6950f4000000000a0,0xf49cc39494000000000000000b948c0,0xf883cf460f48f9394830247c8b48cc42\n"
-    ".octa 0x49122444940f1124748840102454880a,0x4840578b491324448844000001a0bf8d,0x526174746cb84800000000e81024748d\n"
-    ".octa 0x481174ed8440087e894d068949764350,0x27ebc5b60f410bc580410000000003c7,0x3c7481474c9840f244cb60f\n"
-    ".octa 0x448b480aeb33c083c0940f02f980c031,0x5d415c415b38c48348c0310389482824\n"
-    ".long 0x5f415e41\n"
-    ".short 0xc35d\n"
-    ".reloc .Ltcp63+116,R_X86_64_PLT32,.Ltcp37-4\n"
-    ".reloc .Ltcp63+373,R_X86_64_PLT32,.Ltcp26-4\n"
+    ".reloc .Ltcp63+23,R_X86_64_PLT32,.Ltcp27-4\n"
     ".section .text.tcp.64,\"ax\",%progbits\n"
     ".balign 16\n"
     ".Ltcp64:\n"
+    ".globl tcp_c_connection_peer\n"
+    ".hidden tcp_c_connection_peer\n"
+    ".type tcp_c_connection_peer,%function\n"
+    ".size tcp_c_connection_peer,99\n"
+    "tcp_c_connection_peer:\n"
+    ".octa 0x394808478b48764350526174746cb948,0x2b740048788348217507110fc0570f0f,0x84789480f89483848b70f4434408b44\n"
+    ".octa 0x6c7c3c0310a894466068944,0x89480f8948c30000001fb8000002c766,0x10b8000002c7660000000006c70847\n"
+    ".short 0x0\n"
+    ".byte 0xc3\n"
+    ".section .text.tcp.65,\"ax\",%progbits\n"
+    ".balign 16\n"
+    ".Ltcp65:\n"
+    ".globl tcp_c_connection_receive\n"
+    ".hidden tcp_c_connection_receive\n"
+    ".type tcp_c_connection_receive,%function\n"
+    ".size tcp_c_connection_receive,597\n"
+    "tcp_c_connection_receive:\n"
+    ".octa 0x894938ec834853544155415641574155,0xc749764350526174746cbf48fe,0x570f3e39490000001fb8087e8b4d0000\n"
+    ".octa 0xc031c3894c00000202850f06110f41c0,0xc0978b49d001480ce0c1c0940fd28548,0xe6394c4000000000000000bc49000002\n"
+    ".octa 0x102444290fe2460f4cd43949e6420f4c,0x894c10247c8d4800000000202444c748,0xca89304fb60f4100000000e8c28948fe\n"
+    ".octa 0x3b0ba5a7402fa8000000001b8fee280,0x4848778b4940578b494e73caa30f0000,0x950f40f23948c0940f06f9834372f239\n"
+    ".octa 0x4850778b492c7500000000b8c60840c6,0xf2430f4800000000bef22948c031c6ff,0xe0bf8341c031117668773949\n"
+    ".octa 0xb60f000001a0bf8d49c03102ebc0940f,0x5488182454b60f11246cb60f4410246c,0x4fbaf63130245489482024548b480f24\n"
+    ".octa 0xa0bf8349f6311172caa30f000004,0xd231147506f98308e6c1c6950f400000,0xc20918e2c1c2940f0000000140bf8349\n"
+    ".octa 0x40578b49c0940f410af983c03145d089,0x3b4910244c89c109f10910e1c1c18944,0x30000002488fb60f416b750000027897\n"
+    ".octa 0x8941000002808fb60f415c7501c1f6c1,0x290bf8341167501c1f641c10841c9,0x32eb09740000000294bf80413e750000\n"
+    ".octa 0x258b7324108eec12b7401c1f6c120,0xf641000002688732451b7501c6f64000,0x1a8000002a887324118e8c10e7501c0\n"
+    ".octa 0x4800000000e8e1894c1024748d486a74,0x87e894d068949764350526174746cb8,0xbc580410000000003c7481174ed8440\n"
+    ".octa 0x481474c9840f244cb60f27ebc5b60f41,0xc083c0940f02f980c0310000000003c7,0xc48348c0310389483024448b480aeb33\n"
+    ".octa 0xc0a7894dc35d5f415e415d415c415b38\n"
+    ".long 0xeb000002\n"
+    ".byte 0x9a\n"
+    ".reloc .Ltcp65+133,R_X86_64_PLT32,.Ltcp37-4\n"
+    ".reloc .Ltcp65+491,R_X86_64_PLT32,.Ltcp26-4\n"
+    ".section .text.tcp.66,\"ax\",%progbits\n"
+    ".balign 16\n"
+    ".Ltcp66:\n"
+    ".globl tcp_c_connection_resend_first\n"
+    ".hidden tcp_c_connection_resend_first\n"
+    ".type tcp_c_connection_resend_first,%function\n"
+    ".size tcp_c_connection_resend_first,597\n"
+    "tcp_c_connection_resend_first:\n"
+    ".octa 0x746cbe4910ec83485354415641574155,0x4c0000001fbd087f8b4c764350526174,0x89480000020f850f07110fc0570f3739\n"
+    ".octa 0xb948000002c0878b49fb,0xc8460f48c13948ce420f48ce39484000,0x36bd3047b60f41000001a0bf8d49\n"
+    ".octa 0x4900000084820fc2a30f0000044fba00,0x47b70f457773f2394848778b4940578b,0xba41013e7f8041ed313a4fb70f450c\n"
+    ".octa 0x4fa834900000158978b4d2775000000,0xd2854de43145da420f4d00000004bb41,0xc1394566d4440f4500000004dd148d46\n"
+    ".octa 0xc0b70f45c5420f44d0294566c1420f45,0xc887c749c6430f4cf03949d00149,0xd887894d000000d09789490000000100\n"
+    ".octa 0x2fa8000000001befee280c289000000,0x40578b495173c2a30f000003b0ba5d74,0xc6940f4006f8834672c2394c48478b4d\n"
+    ".octa 0x7500000000bef00841c0950f41c2394c,0xb841c2294cf631c0ff4950478b4d2e,0x41f63112766847394dc2430f4c000000\n"
+    ".octa 0x45f63102ebc6940f4000000000e0bf83,0x49c031451372c2a30f0000044fbac031,0x8308e0c141c0950f4100000000a0bf83\n"
+    ".octa 0x940f0000000140bf8349d231147506f8,0xf410af883c93145d689f20918e2c1c2,0x9c0094410e0c1c8894440578b49c194\n"
+    ".octa 0xf416e7500000278973b490c244489f0,0xb60f415f7501a8f030400000024887b6,0x7501c2f641f20841c289410000028087\n"
+    ".octa 0x294bf804141750000000290bf834116,0xc1412e7401a8f0204035eb0974000000,0x451d7501c0f6410000025887324508e8\n"
+    ".octa 0x4118eec1107501c1f641000002688f32,0x24748d48207401c6f640000002a8b732,0x48e889087b894c33894c00000000e80c\n"
+    ".octa 0xc08f8949c35d5f415e415c415b10c483\n"
+    ".long 0xeb000002\n"
+    ".byte 0xe1\n"
+    ".reloc .Ltcp66+562,R_X86_64_PLT32,.Ltcp26-4\n"
+    ".section .text.tcp.67,\"ax\",%progbits\n"
+    ".balign 16\n"
+    ".Ltcp67:\n"
     ".globl tcp_c_connection_room\n"
     ".hidden tcp_c_connection_room\n"
     ".type tcp_c_connection_room,%function\n"
@@ -6409,47 +6631,63 @@ __asm__(
     ".octa 0x480fc08348f2450f00000400bef68566,0x148dd6b70ff0e183480fc18348f0e083,0x480a048d48c10148e0e2830000001e55\n"
     ".long 0x2d005\n"
     ".short 0xc300\n"
-    ".section .text.tcp.65,\"ax\",%progbits\n"
+    ".section .text.tcp.68,\"ax\",%progbits\n"
     ".balign 16\n"
-    ".Ltcp65:\n"
+    ".Ltcp68:\n"
     ".globl tcp_c_connection_send\n"
     ".hidden tcp_c_connection_send\n"
     ".type tcp_c_connection_send,%function\n"
-    ".size tcp_c_connection_send,1305\n"
+    ".size tcp_c_connection_send,1462\n"
     "tcp_c_connection_send:\n"
-    ".octa 0x894c48ec834853544155415641574155,0xff31764350526174746cb848fe8949c3,0x8b4d0000000003c748c0940f41d28548\n"
-    ".octa 0x110f41c0570f0639490000001fbd087e,0x8041000002c0878b4900000176850f06,0xc7480000000ebd00000088840f00317f\n"
-    ".octa 0x893057b60f41ed314500000000182444,0xa5840f02f98001b740fee180d1,0x95830fd1a30f000003b0b9ff31\n"
-    ".octa 0x820fc1394c01b74048478b4d404f8b49,0xf41c1394cc7940f4006fa8300000081,0xff31c0ff4950478b4d6c75f80841c095\n"
-    ".octa 0x47394dc1430f4c00000000b841c1294c,0xebc7940f4000000000e0bf8341527668,0x1074ed85450000000bbd306fb60f4544\n"
-    ".octa 0xffffff5ee900000010bd187501fd8341,0x8041ffffff5ce900000000182444c748,0x3be90000000dbd000000b5840f00327f\n"
-    ".octa 0xd1a30f0000044fb9c03145ff31ffffff,0x3145c0950f4100000000a0bf83490c72,0x40bf83490c7506fa8300000000b941e4\n"
-    ".octa 0xb948c1940f4100000001,0xc8460f48c13948ce420f48ce39484000,0x44940f0d244488440c247c88400afa83\n"
-    ".octa 0x8b490f244c8844000001a0bf8d490e24,0x746cb84800000000e80c24748d484057,0xf4d0018247c80068949764350526174\n"
-    ".octa 0x48e889ec450f412b894c087e894dec44,0x8b4dc35d5f415e415d415c415b48c483,0xc98548e2014d50578b4d68678b4d284f\n"
-    ".octa 0x182444c7481377d1394d1874,0xd1294ddb3145fffffe6de90000000fbd,0x394de5294ddd894d605f8b4dcb420f4d\n"
-    ".octa 0x894801b1e9420f4ce9394ce9420f4de9,0xc1c78844fffffe3b840fed854d18244c,0x4d10244c8948584f8b493a048d4c0ce7\n"
-    ".octa 0x394dc93121148d4f30244c894c704f8b,0xc9294920244c8948d1894dcb430f49da,0xc8948cd430f49e9394cc9294cd9894c\n"
-    ".octa 0x48000000fc840f40245c894ccb294d24,0x10245c8b4c1d72382464894c04243c83,0x8349ca2949c1014c20244c8b48da014d\n"
-    ".octa 0x49240c8b48db314500000112830f20fa,0xf749d9894d4f7403e48349d9894dcc89,0x4c382454034c0b148d4d30244c8b48d9\n"
-    ".octa 0x14928245c894c102454034c2024542b,0x480a0488450b04b60f45c931d30149fb,0x48d4cd9f749ec75cc3949c9ff49c1ff\n"
-    ".octa 0xfb8349cb294928245c8b4c240c8b483a,0x4cca294d24148b4c637738244c8b48fc,0x4820245c2b4ccb0149cb014d30245c8b\n"
-    ".octa 0x149f9014903c38349cb014910244c8b,0x8843fd214cb60f43e4314503c18349d1,0xf43fe234c8843fe214cb60f43fd234c\n"
-    ".octa 0x8843210cb60f43ff234c8843ff214cb6,0x40246c3b4ccd75e2394d04c48349230c,0x49240c8b4800000185860f1024648b4c\n"
-    ".octa 0x3145087304f98349c92949e9894dc801,0x20f98348c1294ce1894c00000159e9d2,0x8348240c8b4800000145e9d231451773\n"
-    ".octa 0xb1830f20f9834962ebdb3145177320f9,0x8349ca8949000000ebe9d23145000000,0xc8d4cd3894d10c18348190c8d4be0e2\n"
-    ".octa 0xf43f01144100f43d2314510c1834917,0x8349110c110f42f01144110f42110c10,0xffff5a840f241c394ce175d3394d20c2\n"
-    ".octa 0x8b4cd9894dfffffe80840f1c2404f6ff,0x894cda294d282454894cfce283492414,0x642b4ccc014919248d4f30245c8b4ce1\n"
-    ".octa 0x45c931d10149f90149102464034c2024,0xef75ca394904c183480c1c8945091c8b,0xe9fffffefc840f241c394c28245c8b4c\n"
-    ".octa 0x48240c8b48e0e28349ca894dfffffe27,0x44100f42db314510c18348d10148f901,0x4c110f431c04110f43190c100f42f019\n"
-    ".octa 0x5074d1394de175da394d20c38349101c,0xfce28349ca894dd1894c39741cc1f641,0x243c0348cf0148cc0149cb2949d3894d\n"
-    ".octa 0x4c183480c3c89410a3c8bc931fa0148,0x4311741024648b4cd1394df075cb3949,0xef75d1394dc2ff49140c8843100cb60f\n"
-    ".quad 0xfffb51e9686f014d\n"
-    ".byte 0xff\n"
-    ".reloc .Ltcp65+408,R_X86_64_PLT32,.Ltcp26-4\n"
-    ".section .text.tcp.66,\"ax\",%progbits\n"
+    ".octa 0x894948ec834853544155415641574155,0xd28548c031764350526174746cbc49fe,0xbd087e8b4d0000000000c749c7940f40\n"
+    ".octa 0x850f06110f41c0570f26394d0000001f,0x2c08f8b4dc88949c3894c000001f0,0xf48ce39484000000000000000b94800\n"
+    ".octa 0x840f00317f8041c9460f49c9394cce42,0x102444c7480000000ebd00000083,0xfee68040d6893057b60f41ed31450000\n"
+    ".octa 0xbe00000081840f02fe804000000001b8,0x7f8b4940778b497573d6a30f000003b0,0x40fe3948c0940f06fa836a72fe394848\n"
+    ".octa 0x7f8b49537500000000b8c70840c7950f,0xf4800000000bffe2948c031c7ff4850,0xe0bf8341c0313876687f3949fe43\n"
+    ".octa 0xbbd306fb60f4529ebc0940f0000,0x850f01fd8341000000c2840fed854500,0xc031ffffff5be900000010bd00000131\n"
+    ".octa 0x410000044fb841f631000001a0bf8d49,0x4000000000a0bf8349f6311172d0a30f,0x8349c03145197506fa8308e6c1c6950f\n"
+    ".octa 0x94118e0c141c0940f410000000140bf,0x8b49c0940f410afa83c03145c08944c0,0x44c10941f1094110e1c141c189454057\n"
+    ".octa 0x81850f00000278973b493c244c89,0x1c1f641c13041000002488fb60f4500,0xc20841ca8945000002808fb60f457075\n"
+    ".octa 0x52750000000290bf8341247501c2f641,0x2444c74846eb19740000000294bf8041,0xc1f641c12041fffffeabe90000000010\n"
+    ".octa 0xc6f64000000258b7324108eec12f7401,0x127501c0f641000002688732451f7501,0x21e840f01a8000002a887324118e8c1\n"
+    ".octa 0x3126894d00000000e83c24748d480000,0x894c087e894de8440f4c0010247c80c0,0x415d415c415b48c48348e889e8450f2b\n"
+    ".octa 0xdbd0a7400327f8041c35d5f415e,0x8b4d685f8b4d28778b49fffffe23e900,0x481377ce394c1874c0854dd9014d504f\n"
+    ".octa 0xfe00e90000000fbd00000000102444c7,0x60578b4df2420f49ce294cd23145ffff,0xe8394dee420f4cee394cdd294dd5894d\n"
+    ".octa 0xfed854d102474894801b640e8420f4d,0x49023c8d480ce0c1f88840fffffdcd84,0x2444894c70478b4d082474894858778b\n"
+    ".octa 0x894df2430f49d1394df631180c8d4f30,0x4cc6294cd6894cf029491824748948c8,0x54894cc2294d24348948f5430f49ee39\n"
+    ".octa 0x4c1d7204243c8348000000fd840f4024,0x49fe01481824748b48d1014d0824548b,0x48d2314500000124830f20f98349f129\n"
+    ".octa 0x4d5a7403e18349d0894df1894924348b,0x1c8d4d30247c8b48de894cd8f749d089,0x34c18245c2b4cf3014928247489483a\n"
+    ".octa 0xf631d20149c20149202454894c08245c,0x49c8ff49c6ff48333c8841323cb60f41,0x4c24348b48023c8d48d8f749ec75f139\n"
+    ".octa 0xfcfa8349f229492024548b4c28245c8b,0x14d3024548b4cc1294d240c8b4c6377,0x1490824748b481824542b4cda014dc2\n"
+    ".octa 0x4503c08349d00149c0014903c28349f2,0xb60f43fd1a748843fd1874b60f43db31,0x8843ff1874b60f43fe1a748843fe1874\n"
+    ".octa 0x4c383491a3488431834b60f43ff1a74,0xf08245c8b4c40246c3b4ccd75d9394d,0x4de8894dd7014c24148b4c0000019886\n"
+    ".octa 0x16ce9c93145147304f88349d029,0x48de894cfffffde0e9000002c08f8949,0x14ce9c93145177320fe8348fe29\n"
+    ".octa 0x4962ebd23145177320fe834824348b48,0xf2e9c93145000000bb830f20f883,0x10c6834810348d4be0e18349f1894900\n"
+    ".octa 0xf43c9314510c0834910048d4cca894d,0x42f00e44110f42080c100f43f0084410,0x14394ce175ca394d20c183490e0c110f\n"
+    ".octa 0xfffe6e840f1c2404f6ffffff4e840f24,0x244c894cfce18349240c8b4cd0894dff,0x101c8d4f3024548b4cde894cd1294d20\n"
+    ".octa 0x5c034c18245c2b4cf301492824748948,0x894530148b45f631d00149c001490824,0x2024548b4cef75f1394904c683483314\n"
+    ".octa 0xe9fffffee6840f28245c8b4c2414394c,0x4810348d4ae0e18349c1894dfffffe0b,0x42f01644100f42d2314510c68348d601\n"
+    ".octa 0x4910134c110f431304110f43160c100f,0xc0f6415074c8394de175d1394d20c283,0xca894dfce18349c1894dce894c39741c\n"
+    ".octa 0xc2014824040348f00148f30149f22949,0xc2394904c083480334894102348bc031,0x4b60f42117408245c8b4cc8394df075\n"
+    ".octa 0x6f014def75c8394dc1ff490b0488430f\n"
+    ".long 0xfacfe968\n"
+    ".short 0xffff\n"
+    ".reloc .Ltcp68+536,R_X86_64_PLT32,.Ltcp26-4\n"
+    ".section .text.tcp.69,\"ax\",%progbits\n"
     ".balign 16\n"
-    ".Ltcp66:\n"
+    ".Ltcp69:\n"
+    ".globl tcp_c_connection_set_user_timeout\n"
+    ".hidden tcp_c_connection_set_user_timeout\n"
+    ".type tcp_c_connection_set_user_timeout,%function\n"
+    ".size tcp_c_connection_set_user_timeout,69\n"
+    "tcp_c_connection_set_user_timeout:\n"
+    ".octa 0x1fb808578b48764350526174746cb948,0xc031267507110fc0570f0f3948000000,0x4cf0440f48c0950f41fffe8348c03145\n"
+    ".octa 0xf8948000001c8b28948000001c08289\n"
+    ".long 0x8578948\n"
+    ".byte 0xc3\n"
+    ".section .text.tcp.70,\"ax\",%progbits\n"
+    ".balign 16\n"
+    ".Ltcp70:\n"
     ".globl tcp_c_connection_status\n"
     ".hidden tcp_c_connection_status\n"
     ".type tcp_c_connection_status,%function\n"
@@ -6467,9 +6705,9 @@ __asm__(
     ".octa 0xff350467f0ff32beb08578948078948,0x7f0ff320467f0ff330467f0ff340467f,0xbc41000000006046c748067f0ff31046\n"
     ".octa 0x5f415e415d415c415be089440000001f\n"
     ".short 0xc35d\n"
-    ".section .text.tcp.67,\"ax\",%progbits\n"
+    ".section .text.tcp.71,\"ax\",%progbits\n"
     ".balign 16\n"
-    ".Ltcp67:\n"
+    ".Ltcp71:\n"
     ".globl tcp_c_consume\n"
     ".hidden tcp_c_consume\n"
     ".type tcp_c_consume,%function\n"
@@ -6486,9 +6724,9 @@ __asm__(
     ".quad 0x415e415b1a894c08\n"
     ".short 0x5d5f\n"
     ".byte 0xc3\n"
-    ".section .text.tcp.68,\"ax\",%progbits\n"
+    ".section .text.tcp.72,\"ax\",%progbits\n"
     ".balign 16\n"
-    ".Ltcp68:\n"
+    ".Ltcp72:\n"
     ".globl tcp_c_emit\n"
     ".hidden tcp_c_emit\n"
     ".type tcp_c_emit,%function\n"
@@ -6554,15 +6792,15 @@ __asm__(
     ".quad 0xe8d0894d\n"
     ".long 0xfffaf3e9\n"
     ".byte 0xff\n"
-    ".reloc .Ltcp68+228,R_X86_64_PLT32,.Ltcp31-4\n"
-    ".reloc .Ltcp68+340,R_X86_64_PLT32,.Ltcp34-4\n"
-    ".reloc .Ltcp68+564,R_X86_64_PLT32,.Ltcp30-4\n"
-    ".reloc .Ltcp68+798,R_X86_64_PLT32,.Ltcp36-4\n"
-    ".reloc .Ltcp68+1913,R_X86_64_PLT32,.Ltcp1-4\n"
-    ".reloc .Ltcp68+2621,R_X86_64_PLT32,.Ltcp35-4\n"
-    ".section .text.tcp.69,\"ax\",%progbits\n"
+    ".reloc .Ltcp72+228,R_X86_64_PLT32,.Ltcp31-4\n"
+    ".reloc .Ltcp72+340,R_X86_64_PLT32,.Ltcp34-4\n"
+    ".reloc .Ltcp72+564,R_X86_64_PLT32,.Ltcp30-4\n"
+    ".reloc .Ltcp72+798,R_X86_64_PLT32,.Ltcp36-4\n"
+    ".reloc .Ltcp72+1913,R_X86_64_PLT32,.Ltcp1-4\n"
+    ".reloc .Ltcp72+2621,R_X86_64_PLT32,.Ltcp35-4\n"
+    ".section .text.tcp.73,\"ax\",%progbits\n"
     ".balign 16\n"
-    ".Ltcp69:\n"
+    ".Ltcp73:\n"
     ".globl tcp_c_emit_acknowledgement\n"
     ".hidden tcp_c_emit_acknowledgement\n"
     ".type tcp_c_emit_acknowledgement,%function\n"
@@ -6582,10 +6820,10 @@ __asm__(
     ".octa 0x66c1440fc98508c0c166d0f7c889c101,0x18183c6344b8b00000014b8104689,0x310089490f8941085f894837894c0000\n"
     ".long 0xfe9fe9c0\n"
     ".short 0xffff\n"
-    ".reloc .Ltcp69+202,R_X86_64_PLT32,.Ltcp36-4\n"
-    ".section .text.tcp.70,\"ax\",%progbits\n"
+    ".reloc .Ltcp73+202,R_X86_64_PLT32,.Ltcp36-4\n"
+    ".section .text.tcp.74,\"ax\",%progbits\n"
     ".balign 16\n"
-    ".Ltcp70:\n"
+    ".Ltcp74:\n"
     ".globl tcp_c_emit_partial\n"
     ".hidden tcp_c_emit_partial\n"
     ".type tcp_c_emit_partial,%function\n"
@@ -6642,14 +6880,14 @@ __asm__(
     ".quad 0x894de7894c40244c\n"
     ".long 0xfcfde9e8\n"
     ".short 0xffff\n"
-    ".reloc .Ltcp70+250,R_X86_64_PLT32,.Ltcp31-4\n"
-    ".reloc .Ltcp70+362,R_X86_64_PLT32,.Ltcp34-4\n"
-    ".reloc .Ltcp70+568,R_X86_64_PLT32,.Ltcp30-4\n"
-    ".reloc .Ltcp70+754,R_X86_64_PLT32,.Ltcp36-4\n"
-    ".reloc .Ltcp70+2109,R_X86_64_PLT32,.Ltcp35-4\n"
-    ".section .text.tcp.71,\"ax\",%progbits\n"
+    ".reloc .Ltcp74+250,R_X86_64_PLT32,.Ltcp31-4\n"
+    ".reloc .Ltcp74+362,R_X86_64_PLT32,.Ltcp34-4\n"
+    ".reloc .Ltcp74+568,R_X86_64_PLT32,.Ltcp30-4\n"
+    ".reloc .Ltcp74+754,R_X86_64_PLT32,.Ltcp36-4\n"
+    ".reloc .Ltcp74+2109,R_X86_64_PLT32,.Ltcp35-4\n"
+    ".section .text.tcp.75,\"ax\",%progbits\n"
     ".balign 16\n"
-    ".Ltcp71:\n"
+    ".Ltcp75:\n"
     ".globl tcp_c_emit_train\n"
     ".hidden tcp_c_emit_train\n"
     ".type tcp_c_emit_train,%function\n"
@@ -6718,14 +6956,14 @@ __asm__(
     ".long 0xfffc0be9\n"
     ".short 0xfff\n"
     ".byte 0xb\n"
-    ".reloc .Ltcp71+254,R_X86_64_PLT32,.Ltcp31-4\n"
-    ".reloc .Ltcp71+367,R_X86_64_PLT32,.Ltcp34-4\n"
-    ".reloc .Ltcp71+581,R_X86_64_PLT32,.Ltcp30-4\n"
-    ".reloc .Ltcp71+1322,R_X86_64_PLT32,.Ltcp36-4\n"
-    ".reloc .Ltcp71+2634,R_X86_64_PLT32,.Ltcp35-4\n"
-    ".section .text.tcp.72,\"ax\",%progbits\n"
+    ".reloc .Ltcp75+254,R_X86_64_PLT32,.Ltcp31-4\n"
+    ".reloc .Ltcp75+367,R_X86_64_PLT32,.Ltcp34-4\n"
+    ".reloc .Ltcp75+581,R_X86_64_PLT32,.Ltcp30-4\n"
+    ".reloc .Ltcp75+1322,R_X86_64_PLT32,.Ltcp36-4\n"
+    ".reloc .Ltcp75+2634,R_X86_64_PLT32,.Ltcp35-4\n"
+    ".section .text.tcp.76,\"ax\",%progbits\n"
     ".balign 16\n"
-    ".Ltcp72:\n"
+    ".Ltcp76:\n"
     ".globl tcp_c_free\n"
     ".hidden tcp_c_free\n"
     ".type tcp_c_free,%function\n"
@@ -6735,9 +6973,9 @@ __asm__(
     ".quad 0x1fb807110fc057\n"
     ".long 0x440f0000\n"
     ".short 0xc3c1\n"
-    ".section .text.tcp.73,\"ax\",%progbits\n"
+    ".section .text.tcp.77,\"ax\",%progbits\n"
     ".balign 16\n"
-    ".Ltcp73:\n"
+    ".Ltcp77:\n"
     ".globl tcp_c_listen\n"
     ".hidden tcp_c_listen\n"
     ".type tcp_c_listen,%function\n"
@@ -6747,9 +6985,9 @@ __asm__(
     ".octa 0x13041c6c3084f894817894808740030\n"
     ".quad 0x31084f8948178948\n"
     ".short 0xc3c0\n"
-    ".section .text.tcp.74,\"ax\",%progbits\n"
+    ".section .text.tcp.78,\"ax\",%progbits\n"
     ".balign 16\n"
-    ".Ltcp74:\n"
+    ".Ltcp78:\n"
     ".globl tcp_c_new\n"
     ".hidden tcp_c_new\n"
     ".type tcp_c_new,%function\n"
@@ -6773,11 +7011,11 @@ __asm__(
     ".quad 0x58894828894c3824\n"
     ".long 0xebc03108\n"
     ".byte 0xa5\n"
-    ".reloc .Ltcp74+270,R_X86_64_PLT32,.Ltcp28-4\n"
-    ".reloc .Ltcp74+336,R_X86_64_PC32,.Ltcp102-4\n"
-    ".section .text.tcp.75,\"ax\",%progbits\n"
+    ".reloc .Ltcp78+270,R_X86_64_PLT32,.Ltcp28-4\n"
+    ".reloc .Ltcp78+336,R_X86_64_PC32,.Ltcp106-4\n"
+    ".section .text.tcp.79,\"ax\",%progbits\n"
     ".balign 16\n"
-    ".Ltcp75:\n"
+    ".Ltcp79:\n"
     ".globl tcp_c_next\n"
     ".hidden tcp_c_next\n"
     ".type tcp_c_next,%function\n"
@@ -6796,23 +7034,23 @@ __asm__(
     ".octa 0x1174d28445344e8b45f8014dc0440f4c,0xfffea7e900000007ba41d231484e8b49,0x1d8d4cd3b60f4502fb8041ff\n"
     ".octa 0x35b8fffffe8de9d0430f4893148b47,0xe9d231c931c03145d23145c931450000\n"
     ".long 0xfffffe76\n"
-    ".reloc .Ltcp75+339,R_X86_64_PLT32,.Ltcp30-4\n"
-    ".reloc .Ltcp75+524,R_X86_64_PC32,.Ltcp10+28\n"
-    ".section .text.tcp.76,\"ax\",%progbits\n"
+    ".reloc .Ltcp79+339,R_X86_64_PLT32,.Ltcp30-4\n"
+    ".reloc .Ltcp79+524,R_X86_64_PC32,.Ltcp10+28\n"
+    ".section .text.tcp.80,\"ax\",%progbits\n"
     ".balign 16\n"
-    ".Ltcp76:\n"
+    ".Ltcp80:\n"
     ".globl tcp_c_peer\n"
     ".hidden tcp_c_peer\n"
     ".type tcp_c_peer,%function\n"
-    ".size tcp_c_peer,86\n"
+    ".size tcp_c_peer,99\n"
     "tcp_c_peer:\n"
-    ".octa 0x6c7744350526174746cb948,0x39480000001fb808478b4c000002c766,0x197400487883492c7507110fc0570f0f\n"
-    ".octa 0x847894c0f89483848b70f4534408b41,0x847894c0f8948c3c0310a8944660689\n"
-    ".long 0x10b8\n"
-    ".short 0xc300\n"
-    ".section .text.tcp.77,\"ax\",%progbits\n"
+    ".octa 0x394808478b48744350526174746cb948,0x2b740048788348217507110fc0570f0f,0x84789480f89483848b70f4434408b44\n"
+    ".octa 0x6c7c3c0310a894466068944,0x89480f8948c30000001fb8000002c766,0x10b8000002c7660000000006c70847\n"
+    ".short 0x0\n"
+    ".byte 0xc3\n"
+    ".section .text.tcp.81,\"ax\",%progbits\n"
     ".balign 16\n"
-    ".Ltcp77:\n"
+    ".Ltcp81:\n"
     ".globl tcp_c_pending\n"
     ".hidden tcp_c_pending\n"
     ".type tcp_c_pending,%function\n"
@@ -6829,10 +7067,10 @@ __asm__(
     ".octa 0xc35d5f415e415c415b20c48348c0310e\n"
     ".quad 0xeb0877894c1f8948\n"
     ".byte 0xe8\n"
-    ".reloc .Ltcp77+274,R_X86_64_PLT32,.Ltcp30-4\n"
-    ".section .text.tcp.78,\"ax\",%progbits\n"
+    ".reloc .Ltcp81+274,R_X86_64_PLT32,.Ltcp30-4\n"
+    ".section .text.tcp.82,\"ax\",%progbits\n"
     ".balign 16\n"
-    ".Ltcp78:\n"
+    ".Ltcp82:\n"
     ".globl tcp_c_receive\n"
     ".hidden tcp_c_receive\n"
     ".type tcp_c_receive,%function\n"
@@ -6844,11 +7082,11 @@ __asm__(
     ".octa 0x81048b000000000d8d48138948d1440f\n"
     ".quad 0x415c415b18c48348\n"
     ".long 0xc35f415e\n"
-    ".reloc .Ltcp78+91,R_X86_64_PLT32,.Ltcp37-4\n"
-    ".reloc .Ltcp78+153,R_X86_64_PC32,.Ltcp103-4\n"
-    ".section .text.tcp.79,\"ax\",%progbits\n"
+    ".reloc .Ltcp82+91,R_X86_64_PLT32,.Ltcp37-4\n"
+    ".reloc .Ltcp82+153,R_X86_64_PC32,.Ltcp107-4\n"
+    ".section .text.tcp.83,\"ax\",%progbits\n"
     ".balign 16\n"
-    ".Ltcp79:\n"
+    ".Ltcp83:\n"
     ".globl tcp_c_resend_first\n"
     ".hidden tcp_c_resend_first\n"
     ".type tcp_c_resend_first,%function\n"
@@ -6860,9 +7098,9 @@ __asm__(
     ".octa 0xf4dc1394df10149c9b70f45c8420f44,0xb1894800000001000000c881c748c843,0x8948178948000000d889894c000000d0\n"
     ".octa 0x36b8084f8948178948c35d5b084f\n"
     ".short 0xc300\n"
-    ".section .text.tcp.80,\"ax\",%progbits\n"
+    ".section .text.tcp.84,\"ax\",%progbits\n"
     ".balign 16\n"
-    ".Ltcp80:\n"
+    ".Ltcp84:\n"
     ".globl tcp_c_room\n"
     ".hidden tcp_c_room\n"
     ".type tcp_c_room,%function\n"
@@ -6872,9 +7110,9 @@ __asm__(
     ".octa 0x480fc08348f2450f00000400bef68566,0x148dd6b70ff0e183480fc18348f0e083,0x480a048d48c10148e0e2830000001e55\n"
     ".long 0x1a005\n"
     ".short 0xc300\n"
-    ".section .text.tcp.81,\"ax\",%progbits\n"
+    ".section .text.tcp.85,\"ax\",%progbits\n"
     ".balign 16\n"
-    ".Ltcp81:\n"
+    ".Ltcp85:\n"
     ".globl tcp_c_send\n"
     ".hidden tcp_c_send\n"
     ".type tcp_c_send,%function\n"
@@ -6902,9 +7140,9 @@ __asm__(
     ".octa 0xff493b148842003d54b60f420debee75,0x4f894c07894c6859014dee75fe394dc7\n"
     ".quad 0xfffc99e919894c08\n"
     ".byte 0xff\n"
-    ".section .text.tcp.82,\"ax\",%progbits\n"
+    ".section .text.tcp.86,\"ax\",%progbits\n"
     ".balign 16\n"
-    ".Ltcp82:\n"
+    ".Ltcp86:\n"
     ".globl tcp_c_sent\n"
     ".hidden tcp_c_sent\n"
     ".type tcp_c_sent,%function\n"
@@ -6921,10 +7159,10 @@ __asm__(
     ".octa 0x181868841c03109eb000000018186,0x415b20c48348c0310877894c1f894800,0xe175013c000000018186c641c35f415e\n"
     ".quad 0x18286c641\n"
     ".short 0xd7eb\n"
-    ".reloc .Ltcp82+293,R_X86_64_PLT32,.Ltcp30-4\n"
-    ".section .text.tcp.83,\"ax\",%progbits\n"
+    ".reloc .Ltcp86+293,R_X86_64_PLT32,.Ltcp30-4\n"
+    ".section .text.tcp.87,\"ax\",%progbits\n"
     ".balign 16\n"
-    ".Ltcp83:\n"
+    ".Ltcp87:\n"
     ".globl tcp_c_status\n"
     ".hidden tcp_c_status\n"
     ".type tcp_c_status,%function\n"
@@ -6942,9 +7180,9 @@ __asm__(
     ".octa 0xff350467f0ff32beb08578948078948,0x7f0ff320467f0ff330467f0ff340467f,0xbc41000000006046c748067f0ff31046\n"
     ".octa 0x5f415e415d415c415be089440000001f\n"
     ".short 0xc35d\n"
-    ".section .text.tcp.84,\"ax\",%progbits\n"
+    ".section .text.tcp.88,\"ax\",%progbits\n"
     ".balign 16\n"
-    ".Ltcp84:\n"
+    ".Ltcp88:\n"
     ".globl tcp_c_stray_reset\n"
     ".hidden tcp_c_stray_reset\n"
     ".type tcp_c_stray_reset,%function\n"
@@ -6977,10 +7215,10 @@ __asm__(
     ".octa 0x81c10144c80145f80141d00141c17e0f,0xc148d1af0f4880008001ba00010019c1,0x66d1f7d189ca01fa2910e7c1d7892fea\n"
     ".octa 0xc74910364c894266ca440fd28508c1c1,0x5e415d415c415b08c483480000001407\n"
     ".long 0xc35d5f41\n"
-    ".reloc .Ltcp84+170,R_X86_64_PLT32,.Ltcp1-4\n"
-    ".section .text.tcp.85,\"ax\",%progbits\n"
+    ".reloc .Ltcp88+170,R_X86_64_PLT32,.Ltcp1-4\n"
+    ".section .text.tcp.89,\"ax\",%progbits\n"
     ".balign 16\n"
-    ".Ltcp85:\n"
+    ".Ltcp89:\n"
     ".globl tcp_c_timers\n"
     ".hidden tcp_c_timers\n"
     ".type tcp_c_timers,%function\n"
@@ -6995,9 +7233,9 @@ __asm__(
     ".long 0x689c809\n"
     ".short 0xc031\n"
     ".byte 0xc3\n"
-    ".section .text.tcp.86,\"ax\",%progbits\n"
+    ".section .text.tcp.90,\"ax\",%progbits\n"
     ".balign 16\n"
-    ".Ltcp86:\n"
+    ".Ltcp90:\n"
     ".globl tcp_c_transmit\n"
     ".hidden tcp_c_transmit\n"
     ".type tcp_c_transmit,%function\n"
@@ -7062,33 +7300,28 @@ __asm__(
     ".octa 0x48f0891879894c1071894c0841894804,0x5d5f415e415d415c415b00000088c481,0xf9894dce894cc78948fd8949ed894cc3\n"
     ".quad 0xfae6e900000000e8\n"
     ".short 0xffff\n"
-    ".reloc .Ltcp86+228,R_X86_64_PLT32,.Ltcp31-4\n"
-    ".reloc .Ltcp86+338,R_X86_64_PLT32,.Ltcp34-4\n"
-    ".reloc .Ltcp86+562,R_X86_64_PLT32,.Ltcp30-4\n"
-    ".reloc .Ltcp86+745,R_X86_64_PLT32,.Ltcp36-4\n"
-    ".reloc .Ltcp86+1806,R_X86_64_PLT32,.Ltcp1-4\n"
-    ".reloc .Ltcp86+2563,R_X86_64_PLT32,.Ltcp35-4\n"
-    ".section .text.tcp.87,\"ax\",%progbits\n"
+    ".reloc .Ltcp90+228,R_X86_64_PLT32,.Ltcp31-4\n"
+    ".reloc .Ltcp90+338,R_X86_64_PLT32,.Ltcp34-4\n"
+    ".reloc .Ltcp90+562,R_X86_64_PLT32,.Ltcp30-4\n"
+    ".reloc .Ltcp90+745,R_X86_64_PLT32,.Ltcp36-4\n"
+    ".reloc .Ltcp90+1806,R_X86_64_PLT32,.Ltcp1-4\n"
+    ".reloc .Ltcp90+2563,R_X86_64_PLT32,.Ltcp35-4\n"
+    ".section .text.tcp.91,\"ax\",%progbits\n"
     ".balign 16\n"
-    ".Ltcp87:\n"
+    ".Ltcp91:\n"
     ".globl tcp_c_connection_poll_at\n"
     ".hidden tcp_c_connection_poll_at\n"
     ".type tcp_c_connection_poll_at,%function\n"
-    ".size tcp_c_connection_poll_at,408\n"
+    ".size tcp_c_connection_poll_at,101\n"
     "tcp_c_connection_poll_at:\n"
-    ".octa 0x6c748764350526174746cb948,0xc0570f0f39480000001fb808578b4800,0x49000001a8828b0000016e850f07110f\n"
-    ".octa 0x7600000290823b4000000000000000b9,0x450000028082b60f4febd2314501b007,0xc141c0950f410000000278ba8348c031\n"
-    ".octa 0xb00284b60f46000001b8029c8b4e04e0,0x4dcb394dc0084101f080410134000001,0xc08445d23145000002889a034cd9430f\n"
-    ".octa 0xa882b60f4453564155d3440f4dc0950f,0x1d89a8b48000001d09ab60f44000002,0xcb394cc3084501f3804101f080410000\n"
-    ".octa 0x894dd1394d000002b08a034ccb420f4c,0xf49c3950f41db8445db31c1420f4dd0,0x92b60f44c3450f4cc084c2450f4dd944\n"
-    ".octa 0x2708a8b4c00000268aab60f00000248,0x260b28b4c21750100000258ba800000,0x430f4df1394d357501fd804001b30000\n"
-    ".octa 0x2044eb892feb0d7401fa8041d82044ce,0xb241000002509a8b4c247501fa8041d8,0x4d14ebcb430f4dd9394d1a7501fb8001\n"
-    ".octa 0x3ebda8941dc7401fa8041d82044f189,0x4801fa804111745d5e415bc084d9894d,0x4dc1394d0febc8450f4cffffffffc0c7\n"
-    ".octa 0x89480f8948c8450f4d01fa8041c8430f\n"
-    ".quad 0xc3c0310e894c0857\n"
-    ".section .text.tcp.88,\"ax\",%progbits\n"
+    ".octa 0x50526174746cbf495053544156415741,0x1fb808678b4c0000000006c7487643,0xf389482c7507110fc0570f3f394c0000\n"
+    ".octa 0xe8000001a024bc8d49fe8949,0xffffffffc0c748013c0866894d3e894d,0x5c415b08c48348c031038948c2440f48\n"
+    ".long 0x5f415e41\n"
+    ".byte 0xc3\n"
+    ".reloc .Ltcp91+60,R_X86_64_PLT32,.Ltcp39-4\n"
+    ".section .text.tcp.92,\"ax\",%progbits\n"
     ".balign 16\n"
-    ".Ltcp88:\n"
+    ".Ltcp92:\n"
     ".globl tcp_c_time_wait_pending\n"
     ".hidden tcp_c_time_wait_pending\n"
     ".type tcp_c_time_wait_pending,%function\n"
@@ -7096,9 +7329,9 @@ __asm__(
     "tcp_c_time_wait_pending:\n"
     ".octa 0x6573743f8100000027b80000000006c7,0x100000187f811e77032e7f8366257552,0x2c7f8366c0310f770e2a7f80157700\n"
     ".octa 0xc30000001406c7c30175002b7f800775\n"
-    ".section .text.tcp.89,\"ax\",%progbits\n"
+    ".section .text.tcp.93,\"ax\",%progbits\n"
     ".balign 16\n"
-    ".Ltcp89:\n"
+    ".Ltcp93:\n"
     ".globl tcp_c_time_wait_status\n"
     ".hidden tcp_c_time_wait_status\n"
     ".type tcp_c_time_wait_status,%function\n"
@@ -7107,50 +7340,57 @@ __asm__(
     ".octa 0x27b80000000002c70000000006c7,0x3f9832e4fb70f2875526573743f8100,0x770e2a7f80167700100000187f811f77\n"
     ".octa 0x893e89f8450f0000000abfc985c03110\n"
     ".short 0xc30a\n"
-    ".section .text.tcp.90,\"ax\",%progbits\n"
+    ".section .text.tcp.94,\"ax\",%progbits\n"
     ".balign 16\n"
-    ".Ltcp90:\n"
+    ".Ltcp94:\n"
     ".globl tcp_c_connection_timeout\n"
     ".hidden tcp_c_connection_timeout\n"
     ".type tcp_c_connection_timeout,%function\n"
-    ".size tcp_c_connection_timeout,1456\n"
+    ".size tcp_c_connection_timeout,1697\n"
     "tcp_c_connection_timeout:\n"
-    ".octa 0x74746cbe495053544155415641574155,0xb8085f8b480000000002c77643505261,0x6e850f07110fc0570f37394c0000001f\n"
-    ".octa 0x2c0838b4800000000042444c7000005,0x48ce39484000000000000000b9480000,0xb8bb80ff3145f0460f48c63948f1430f\n"
-    ".octa 0x2c0b389480c7400000000bd00000002,0xa8833900000290838b00000513e90000,0xb60f4453ebc9314501b0410876000001\n"
-    ".octa 0x278bb8348c931450000028083,0x1b819948b4d04e1c141c1950f41,0xf3804101f08041000001b0199cb60f45\n"
-    ".octa 0x28893034cd1430f4cca3949c3084501,0xca440f4dc0950f41db8445c931450000,0x1d09bb60f44000002a893b60f44\n"
-    ".octa 0x4501f3804101f28041000001d8a38b4c,0x2b08b0348cc420f49cc3949d308,0xf58040c58944d1420f4cca894dc9394c\n"
-    ".octa 0xf4dc1940fe1440f4cdb8445e4314501,0xf01f980d4450f4dc08445e90840d145,0x8d4c000000c4870ff23949000000cd85\n"
-    ".octa 0x843043b60f627500317b80000002a8bb,0x43cfd04d58948fd8949f489495a74c0,0xc74843033853b70f344b8b08438b3577\n"
+    ".octa 0xbf4928ec834853544155415641574155,0x8b480000000002c7764350526174746c,0x7110fc0570f3f394c0000001fb8085f\n"
+    ".octa 0xbc49000002c0838b480000065c850f,0x3948f4430f49e6394c40000000000000,0xbe4100000002b8bb80ed31f0460f48c6\n"
+    ".octa 0x8d48d5894910247c89484f7500000000,0xf6894c00000000e8f68949000001a0bb,0x1f980c120c1960ff2394cc0940f013c\n"
+    ".octa 0x1a883390c24448900000290838b1875,0xea894cf6314561ebc93101b01d760000,0x5bbe9000002c0b3894810247c8b48\n"
+    ".octa 0x278bb8348c9310000028083b60f00,0x1b819948b4804e1c1c1950f0000,0x84001f780400134000001b019bcb60f\n"
+    ".octa 0x3100000288930348d4430f49e2394cc7,0x8b48ea894cca440f48c0950fff8440c9,0xd083b60f44000002a893b60f4410247c\n"
+    ".octa 0x411824548944000001d88b8b4c000001,0x420f4de1394dd0084501f0804101f280,0xf4dc98949cc3949000002b0a3034ce1\n"
+    ".octa 0x4dc08445db314501f28041c28941cc42,0xc084d00845c9450f4cc0940f41dc440f,0x3949000000d6850f01f88041cb450f4d\n"
+    ".octa 0x7b80000002a8a38d4c000000cd870ff1,0x43cfd045374c0843043b60f5b750031,0xc74843033853b70f344b8b08438b3577\n"
     ".octa 0x18c938966000000010000018483,0x9483c748000001908389000001888b89,0xe800000003bedf894800000000000001\n"
-    ".octa 0xc0570fe6894cef894cea894800000000,0x29083c70000028083110f,0x508b8b48000002489b8b4c07110f4100\n"
-    ".octa 0x260838b48000002588b8b4c000002,0x4400000270a38b4c00000268938b4c00,0x26be900000003bf4101b5403043b60f\n"
-    ".octa 0x100000248bb80000002508b8b480000,0x7474c88445c1960f41f13948c0940f41,0x44fb941c931d0b60f453043b60f44\n"
-    ".octa 0xf484b3b48404b8b480b72d1a30f4500,0xfd3a30f450000044fbb41c93145c192,0x69850f48533b4c40538b4c0000017a82\n"
-    ".octa 0xda294dc93145c3ff49505b8b4c000001,0x860f685b394cda430f4d00000000bb41,0xe9c1940f4100000000e0bb830000014b\n"
-    ".octa 0x258bb8000000260838b480000013b,0xc88445c1960f41f03948c0940f410100,0x41c0b60f413043b60f44000000a2840f\n"
-    ".octa 0xa0838b483f72c1a30f410000044fb9,0x8b41000000988b8b4c3374c085480000,0xff48d0014c50538b4c404b8b4cfcc144\n"
-    ".octa 0xd08b894c00000001000000c883c748c0,0x298838b48000000d8838948000000,0x48c1430f49c8394c000002208b8b4c00\n"
-    ".octa 0x2489b8b4cc1430f49c8394cc001,0x8b4c00000268938b4c00000298838948,0x314500000001bf4101b54000000270a3\n"
-    ".octa 0x410100000268bb8000000115e9c031c9,0x2044c5960f4000000270b33948c0940f,0xaf880413043b60f44fffffce4840fc5\n"
-    ".octa 0x18083c76601003043c7662b75,0x48000000c883110f000000018283c600,0x9b8b4cc0314500000000000000d883c7\n"
-    ".octa 0x2bf41000002588b8b4c00000248,0x84c93145000000a1e9e43145d2314500,0x83c7480b7400000000a0bb83482b74c9\n"
-    ".octa 0x1000000c883c74800000000000000a0,0x8944000000d083110f4043100f000000,0x1808b08c1940f02f980fee180c1\n"
-    ".octa 0x8b4c000001f08b8b48000001828b0844,0x4cc9430f4cc93949c9014d000002208b,0xc8450fffffffffb9c0ff000002208b89\n"
-    ".octa 0x838b48000002588b8b4c000002908b89,0x270a38b4c00000268938b4c00000260,0x9b894cc931db3145ff314501b5400000\n"
-    ".octa 0x2588b894c000002508b894800000248,0x26893894c000002608389480000,0x894401000002b883c600000270a3894c\n"
-    ".octa 0x31455e74023cc8b60f4101b141fe24c0,0x4c40438b485173c8a30f000003b0b8c9,0x4106f880414172d0394c01b14148538b\n"
-    ".octa 0x4c2a75ca0845c2950f41d0394cc1940f,0xba41d0294cc93145c2ff4950538b,0xe0bb8310766853394cd0430f4c0000\n"
-    ".octa 0xa0838d48c9314503ebc1940f41000000,0xcba30f410000044fbb41d23145000001,0x8948c2950f4100000000a0bb83480c72\n"
-    ".octa 0xbb83480d7506f88041d58949fc8949f1,0xaf88041d23102ebc2940f0000000140,0x88062444940f052454884404244c8844\n"
-    ".octa 0xe8c789480424748d4840538b48072454,0x5f894837894ce7894cea894c00000000,0x313a8944057501fd804000000035b808\n"
-    ".octa 0xc35d5f415e415d415c415b08c48348c0\n"
-    ".reloc .Ltcp90+432,R_X86_64_PLT32,.Ltcp0-4\n"
-    ".reloc .Ltcp90+1408,R_X86_64_PLT32,.Ltcp26-4\n"
-    ".section .text.tcp.91,\"ax\",%progbits\n"
+    ".octa 0xff6894c10247c8b48ea894c00000000,0x29083c70000028083110fc057,0x48000002488b8b482404110f41000000\n"
+    ".octa 0x938b4c000002589b8b4c00000250838b,0x270a38b4c00000268838b4c00000260,0x182444c701b641304bb60f440000\n"
+    ".octa 0xe9000000000c2444c700000003bd0000,0x248bb8000000250838b480000026c,0x74c18444c0960f41f03948c1940f0100\n"
+    ".octa 0x44fb9c031d1b60f45304bb60f4470,0xf48433b4840438b480b72d1a30f4400,0x820fd0a30f450000044fb841c931c092\n"
+    ".octa 0x167850f48433b4c40438b4c00000177,0xba41d0294dc931c2ff4950538b4c0000,0x149860f6853394cd0430f4d00000000\n"
+    ".octa 0x13ae9c1940f00000000e0bb830000,0xf0100000258bb8000000260938b4c00,0xa2840fc18444c0960f41f23949c194\n"
+    ".octa 0x44fb841c9b60f41304bb60f440000,0x8548000000a08b8b483f72c8a30f4100,0x4cfcc84c8b4100000098838b4c3374c9\n"
+    ".octa 0x83c748c1ff48d1014c50538b4c40438b,0x48000000d083894c00000001000000c8,0x8b8b4800000298838b4c000000d88b89\n"
+    ".octa 0x3949c0014dc1430f4cc8394900000220,0x9883894c000002488b8b48c1430f4cc8,0x270a38b4c00000268838b4c000002\n"
+    ".octa 0xe9d23145db314500000001bd01b64100,0x3948c1940f0100000268bb800000011c,0xfcf3840fce2041c6960f4100000270b3\n"
+    ".octa 0x43c7662e750af98041304bb60f44ffff,0x18283c600000000018083c766010030,0x83c748000000c883110fc0570f000000\n"
+    ".octa 0x2488b8b48c9314500000000000000d8,0x314500000002bd000002589b8b4c0000,0x482b74c084c931000000a7e9e43145c0\n"
+    ".octa 0xa083c7480b7400000000a0bb83,0xf00000001000000c883c74800000000,0x3cfe24c88944000000d083110f404310\n"
+    ".octa 0x1828b08000001808308c0940f02,0x148000002208b8b48000001f0838b48,0x8b000002208b8948c8430f48c13948c9\n"
+    ".octa 0x908389c1450fffffffffb8c1ff0c244c,0x260938b4c000002589b8b4c000002,0x4100000270a38b4c00000268838b4c00\n"
+    ".octa 0xc031c931ed31000000010c2444c701b6,0x894c00000250838948000002488b8948,0x2444894c0000026093894c000002589b\n"
+    ".octa 0xc600000270a3894c0000026883894c20,0x1ba41fee08041c8894501000002b883,0xb0b841637402f88041c1b60f41000000\n"
+    ".octa 0x438b4c40638b4c5473c0a30f41000003,0x394dc2940f4106f980414a72c4394d48,0x307500000000ba41d00845c0950f41c4\n"
+    ".octa 0xb841c4294dd23145c0ff4950438b4c,0xd2314513766843394cc4430f4d000000,0xd2314503ebc2940f4100000000e0bb83\n"
+    ".octa 0x451372c0a30f410000044fb841e43145,0xc141c4950f4100000000a0bb8348e431,0x140bb8348c031167506f9804108e4\n"
+    ".octa 0x3145c28941d0094418e0c1c0940f0000,0xe0c14140438b48c0940f410af98041c0,0x78833b481c24448944d00945e0094510\n"
+    ".octa 0x7501c1f6d1304400000081850f000002,0xf6d10844c189440000028083b60f4479,0xf41e485455f75000c247c83297501c1\n"
+    ".octa 0x294bb80c1940f0af98041c095,0xe485453deb227401c0f641d830454875,0xf641d02045c1940f0af98041c4950f41\n"
+    ".octa 0x244c321d7501c4f641dc3045267401c0,0x304418244c8b18eac141147501c1f620,0x481c24548d48fffffa5b840f01c1f6d1\n"
+    ".octa 0xe8c28948d68948f18948000001a0bb8d,0x483f894cea894c10247c8b4800000000,0x2a89047501fe804100000035b8085f89\n"
+    ".octa 0x5d5f415e415d415c415b28c48348c031\n"
+    ".byte 0xc3\n"
+    ".reloc .Ltcp94+121,R_X86_64_PLT32,.Ltcp39-4\n"
+    ".reloc .Ltcp94+480,R_X86_64_PLT32,.Ltcp0-4\n"
+    ".reloc .Ltcp94+1648,R_X86_64_PLT32,.Ltcp26-4\n"
+    ".section .text.tcp.95,\"ax\",%progbits\n"
     ".balign 16\n"
-    ".Ltcp91:\n"
+    ".Ltcp95:\n"
     ".globl tcp_c_timer\n"
     ".hidden tcp_c_timer\n"
     ".type tcp_c_timer,%function\n"
@@ -7167,9 +7407,9 @@ __asm__(
     ".octa 0x8948c031027501fe804000000036b8c6\n"
     ".long 0x5789480f\n"
     ".short 0xc308\n"
-    ".section .text.tcp.92,\"ax\",%progbits\n"
+    ".section .text.tcp.96,\"ax\",%progbits\n"
     ".balign 16\n"
-    ".Ltcp92:\n"
+    ".Ltcp96:\n"
     ".globl tcp_c_connection_peek\n"
     ".hidden tcp_c_connection_peek\n"
     ".type tcp_c_connection_peek,%function\n"
@@ -7184,9 +7424,9 @@ __asm__(
     ".quad 0x31000001009ab60f\n"
     ".short 0xebc0\n"
     ".byte 0x95\n"
-    ".section .text.tcp.93,\"ax\",%progbits\n"
+    ".section .text.tcp.97,\"ax\",%progbits\n"
     ".balign 16\n"
-    ".Ltcp93:\n"
+    ".Ltcp97:\n"
     ".globl tcp_c_peek\n"
     ".hidden tcp_c_peek\n"
     ".type tcp_c_peek,%function\n"
@@ -7201,9 +7441,9 @@ __asm__(
     ".quad 0x31000001009ab60f\n"
     ".short 0xebc0\n"
     ".byte 0x95\n"
-    ".section .text.tcp.94,\"ax\",%progbits\n"
+    ".section .text.tcp.98,\"ax\",%progbits\n"
     ".balign 16\n"
-    ".Ltcp94:\n"
+    ".Ltcp98:\n"
     ".globl tcp_c_parts\n"
     ".hidden tcp_c_parts\n"
     ".type tcp_c_parts,%function\n"
@@ -7263,18 +7503,18 @@ __asm__(
     ".octa 0x4850244c8b48f631ee440f4df6854df8\n"
     ".quad 0xfffab8e958247c8b\n"
     ".byte 0xff\n"
-    ".reloc .Ltcp94+224,R_X86_64_PLT32,.Ltcp31-4\n"
-    ".reloc .Ltcp94+279,R_X86_64_PLT32,.Ltcp34-4\n"
-    ".reloc .Ltcp94+443,R_X86_64_PLT32,.Ltcp30-4\n"
-    ".reloc .Ltcp94+766,R_X86_64_PLT32,.Ltcp36-4\n"
-    ".reloc .Ltcp94+1339,R_X86_64_PC32,.Ltcp100-4\n"
-    ".reloc .Ltcp94+1857,R_X86_64_PC32,.Ltcp100-4\n"
-    ".reloc .Ltcp94+2127,R_X86_64_PLT32,.Ltcp39-4\n"
-    ".reloc .Ltcp94+2372,R_X86_64_PLT32,.Ltcp32-4\n"
-    ".reloc .Ltcp94+2413,R_X86_64_PLT32,.Ltcp39-4\n"
-    ".section .text.tcp.95,\"ax\",%progbits\n"
+    ".reloc .Ltcp98+224,R_X86_64_PLT32,.Ltcp31-4\n"
+    ".reloc .Ltcp98+279,R_X86_64_PLT32,.Ltcp34-4\n"
+    ".reloc .Ltcp98+443,R_X86_64_PLT32,.Ltcp30-4\n"
+    ".reloc .Ltcp98+766,R_X86_64_PLT32,.Ltcp36-4\n"
+    ".reloc .Ltcp98+1339,R_X86_64_PC32,.Ltcp104-4\n"
+    ".reloc .Ltcp98+1857,R_X86_64_PC32,.Ltcp104-4\n"
+    ".reloc .Ltcp98+2127,R_X86_64_PLT32,.Ltcp40-4\n"
+    ".reloc .Ltcp98+2372,R_X86_64_PLT32,.Ltcp32-4\n"
+    ".reloc .Ltcp98+2413,R_X86_64_PLT32,.Ltcp40-4\n"
+    ".section .text.tcp.99,\"ax\",%progbits\n"
     ".balign 16\n"
-    ".Ltcp95:\n"
+    ".Ltcp99:\n"
     ".globl tcp_c_time_wait\n"
     ".hidden tcp_c_time_wait\n"
     ".type tcp_c_time_wait,%function\n"
@@ -7292,9 +7532,9 @@ __asm__(
     ".octa 0x44287e894466245689207e891c6e8918,0x8b2c4e89662b4688ed2444b60f2a4e88,0x5e415d415c415bc0312e468966fc2444\n"
     ".octa 0x39b8085789480f8948c35d5f41\n"
     ".byte 0xc3\n"
-    ".section .text.tcp.96,\"ax\",%progbits\n"
+    ".section .text.tcp.100,\"ax\",%progbits\n"
     ".balign 16\n"
-    ".Ltcp96:\n"
+    ".Ltcp100:\n"
     ".globl tcp_c_time_wait_abort\n"
     ".hidden tcp_c_time_wait_abort\n"
     ".type tcp_c_time_wait_abort,%function\n"
@@ -7306,9 +7546,9 @@ __asm__(
     ".octa 0xff41c0b60f45f1450f41c08445f63112,0xc98566c03145d231f631c0570f0aebc0,0x5789662477891c47130f5265737407c7\n"
     ".octa 0xb92e578944662c478944662b5f884428\n"
     ".quad 0xc3c1450f0000000e\n"
-    ".section .text.tcp.97,\"ax\",%progbits\n"
+    ".section .text.tcp.101,\"ax\",%progbits\n"
     ".balign 16\n"
-    ".Ltcp97:\n"
+    ".Ltcp101:\n"
     ".globl tcp_c_time_wait_arrive\n"
     ".hidden tcp_c_time_wait_arrive\n"
     ".type tcp_c_time_wait_arrive,%function\n"
@@ -7357,10 +7597,10 @@ __asm__(
     ".octa 0x44457504c1f64132eb1d7510e180c989,0x5cb70f4414245c8b10c1f64130244c8b,0x453824542b44117502c1f64117740e24\n"
     ".octa 0xf6314502b105eb03b1f63145077fd285,0xe9fffffc2e850fdb854566d23101b141,0xe914245c8bd231f6314502b1fffffdca\n"
     ".long 0xfffffc04\n"
-    ".reloc .Ltcp97+397,R_X86_64_PLT32,.Ltcp1-4\n"
-    ".section .text.tcp.98,\"ax\",%progbits\n"
+    ".reloc .Ltcp101+397,R_X86_64_PLT32,.Ltcp1-4\n"
+    ".section .text.tcp.102,\"ax\",%progbits\n"
     ".balign 16\n"
-    ".Ltcp98:\n"
+    ".Ltcp102:\n"
     ".globl tcp_c_time_wait_emit\n"
     ".hidden tcp_c_time_wait_emit\n"
     ".type tcp_c_time_wait_emit,%function\n"
@@ -7391,9 +7631,9 @@ __asm__(
     ".octa 0x415d415c415bc0313089490189e42444\n"
     ".long 0x5d5f415e\n"
     ".byte 0xc3\n"
-    ".section .text.tcp.99,\"ax\",%progbits\n"
+    ".section .text.tcp.103,\"ax\",%progbits\n"
     ".balign 16\n"
-    ".Ltcp99:\n"
+    ".Ltcp103:\n"
     ".globl tcp_c_time_wait_timer\n"
     ".hidden tcp_c_time_wait_timer\n"
     ".type tcp_c_time_wait_timer,%function\n"
@@ -7405,22 +7645,22 @@ __asm__(
     ".octa 0x4566f631c0310001b966d231452174f0,0x41c1b60f45f3450f41c984451d74c085,0x75c0854566f63100000036b815ebc0ff\n"
     ".octa 0xf5265737407c7c03145d231c0570fe3,0x44662b578844285789662477891c4713\n"
     ".quad 0xc32e4f89662c4789\n"
-    ".section .rodata.tcp.100,\"a\",%progbits\n"
+    ".section .rodata.tcp.104,\"a\",%progbits\n"
     ".balign 1\n"
-    ".Ltcp100:\n"
-    ".section .rodata.tcp.101,\"a\",%progbits\n"
+    ".Ltcp104:\n"
+    ".section .rodata.tcp.105,\"a\",%progbits\n"
     ".balign 4\n"
-    ".Ltcp101:\n"
+    ".Ltcp105:\n"
     ".octa 0x10000000100000000,0x1000000000000000100000001,0x1000000010000000000000001\n"
     ".octa 0x1000000010000000100000000\n"
-    ".section .rodata.tcp.102,\"a\",%progbits\n"
+    ".section .rodata.tcp.106,\"a\",%progbits\n"
     ".balign 4\n"
-    ".Ltcp102:\n"
+    ".Ltcp106:\n"
     ".octa 0x19000000180000001700000015\n"
     ".long 0x16\n"
-    ".section .rodata.tcp.103,\"a\",%progbits\n"
+    ".section .rodata.tcp.107,\"a\",%progbits\n"
     ".balign 4\n"
-    ".Ltcp103:\n"
+    ".Ltcp107:\n"
     ".quad 0x3300000000\n"
     ".long 0x34\n"
     ".popsection\n"
@@ -7656,8 +7896,8 @@ __asm__(
     ".inst 0xa955d73a,0xaa1903e0,0xf940ab33,0xa915ff3f,0xb5fffa1a,0x17ffffd4,0x2a1f03f6,0x52800048,0xaa1903e0,0x17ffffd8\n"
     ".reloc .Ltcp12+268,R_AARCH64_CALL26,.Ltcp13+0\n"
     ".reloc .Ltcp12+724,R_AARCH64_CALL26,.Ltcp13+0\n"
-    ".reloc .Ltcp12+1136,R_AARCH64_ADR_PREL_PG_HI21,.Ltcp93+0\n"
-    ".reloc .Ltcp12+1140,R_AARCH64_ADD_ABS_LO12_NC,.Ltcp93+0\n"
+    ".reloc .Ltcp12+1136,R_AARCH64_ADR_PREL_PG_HI21,.Ltcp97+0\n"
+    ".reloc .Ltcp12+1140,R_AARCH64_ADD_ABS_LO12_NC,.Ltcp97+0\n"
     ".reloc .Ltcp12+1152,R_AARCH64_CALL26,.Ltcp14+0\n"
     ".reloc .Ltcp12+1188,R_AARCH64_CALL26,.Ltcp16+0\n"
     ".section .text.tcp.13,\"ax\",%progbits\n"
@@ -7893,9 +8133,9 @@ __asm__(
     ".section .text.tcp.23,\"ax\",%progbits\n"
     ".balign 4\n"
     ".Ltcp23:\n"
-    ".type \"tcp_driver::timers::Timers::follow\",%function\n"
-    ".size \"tcp_driver::timers::Timers::follow\",360\n"
-    "\"tcp_driver::timers::Timers::follow\":\n"
+    ".type \"tcp_driver::timers::Timers::start\",%function\n"
+    ".size \"tcp_driver::timers::Timers::start\",360\n"
+    "\"tcp_driver::timers::Timers::start\":\n"
     ".inst 0xf9406c0a,0x39400029,0x3940042e,0x3940082c,0x39400c28,0xeb0a005f,0x54000081,0xf9407c0b,0xf9404011,0x1400000b\n"
     ".inst 0x3941a00b,0x7100057f,0x540000c1,0xf940380b,0xf9404011,0xeb11017f,0x9a91316b,0x14000003,0xf9404011,0xaa1103eb\n"
     ".inst 0xf9400010,0xeb0a005f,0xd2e80012,0x3942a001,0x1a9f17ef,0x8b030224,0xeb12021f,0x2a1f03ed,0x9a923212,0x7100043f\n"
@@ -7952,8 +8192,8 @@ __asm__(
     "bl memcpy\n"
     ".inst 0x714006bf,0x54ffebe8,0xf94017e9,0x2a1f03e8,0xa9004d34,0x17ffff60\n"
     ".reloc .Ltcp24+488,R_AARCH64_CALL26,.Ltcp25+0\n"
-    ".reloc .Ltcp24+528,R_AARCH64_ADR_PREL_PG_HI21,.Ltcp95+0\n"
-    ".reloc .Ltcp24+532,R_AARCH64_ADD_ABS_LO12_NC,.Ltcp95+0\n"
+    ".reloc .Ltcp24+528,R_AARCH64_ADR_PREL_PG_HI21,.Ltcp99+0\n"
+    ".reloc .Ltcp24+532,R_AARCH64_ADD_ABS_LO12_NC,.Ltcp99+0\n"
     ".reloc .Ltcp24+680,R_AARCH64_ADR_PREL_PG_HI21,.Ltcp9+32\n"
     ".reloc .Ltcp24+716,R_AARCH64_LDST128_ABS_LO12_NC,.Ltcp9+32\n"
     ".reloc .Ltcp24+808,R_AARCH64_CALL26,.Ltcp26+0\n"
@@ -8014,31 +8254,38 @@ __asm__(
     ".balign 4\n"
     ".Ltcp26:\n"
     ".type \"tcp_driver::driver::Driver::new::<#d2d8538547da228f>\",%function\n"
-    ".size \"tcp_driver::driver::Driver::new::<#d2d8538547da228f>\",884\n"
+    ".size \"tcp_driver::driver::Driver::new::<#d2d8538547da228f>\",1140\n"
     "\"tcp_driver::driver::Driver::new::<#d2d8538547da228f>\":\n"
-    ".inst 0xd10703ff,0x6f00e400,0x3940c029,0xa91b4ff4,0xa9441c28,0x9102c3f0,0xa940344c,0x121f192f,0xf9402833,0xf9403426\n"
-    ".inst 0x710009ff,0xf9405025,0xb940e032,0xf940a02e,0xf940084a,0xf940006b,0xa91a57fe,0xa918ffff,0xf900c3ff,0xf80e721f\n"
-    ".inst 0xad0b03e0,0x3d8057e0,0xf900a3ff,0x3d8047e0,0x3c84c200,0xad0903e0,0x3d802fe0,0xf90053ff,0x3d8017e0,0xad0103e0\n"
-    ".inst 0xad0303e0,0xad0403e0,0xad0603e0,0xad0703e0,0xf90023ff,0x3d8007e0,0xa9007fff,0x54000120,0x52800031,0x52807614\n"
-    ".inst 0x2a1f03ef,0x1ac92231,0x6a14023f,0x54000080,0xeb07011f,0x54001482,0x5280002f,0x52800034,0x528089f5,0x2a1f03f1\n"
-    ".inst 0x1ac92294,0x6a15029f,0x54000061,0xf10000bf,0x1a9f07f1,0x3cc58020,0xf8431034,0xeb0d019f,0x3dc02422,0xf9401c35\n"
-    ".inst 0xad0b83e2,0xad438021,0xf900cbf4,0xf9406c34,0xad0a83e1,0x3ccc8020,0x3ccb8021,0xf900a3f4,0x91039034,0xad0903e1\n"
-    ".inst 0x3cca8020,0x3dc01281,0xf80e7215,0xf940cc35,0x3d8047e0,0xad410282,0x91052034,0x3d803fe1,0x3cce4021,0xf90053f5\n"
-    ".inst 0xa95a57fe,0xad0683e2,0x3dc04c20,0x3c84c200,0x3ccf4020,0xad0583e1,0xad418281,0xad0403e1,0x3dc00a80,0x3cc18061\n"
-    ".inst 0x3d801fe0,0xad400282,0xf9401c74,0xad0283e2,0x3cc28060,0x3cc18042,0xf84e7202,0xf90023f4,0xad0103e1,0x3cc08060\n"
-    ".inst 0xad0003e2,0xad408021,0x3dc00022,0xf940cbe1,0xb900e012,0x9a8d8192,0xf900a00e,0xad008001,0x3dc063e0,0xeb0a025f\n"
-    ".inst 0x3d800002,0x3dc057e2,0x9a8a3252,0x3c858000,0xad4b03e1,0x3d801c02,0x3dc047e2,0xf8031001,0xf940a3e1,0xad040001\n"
-    ".inst 0xad4903e1,0x3c8a8002,0x3dc037e2,0xa903a002,0xf94023e2,0x3c8c8000,0x3c8b8001,0xad4583e1,0xf9006c01,0xf94053e1\n"
-    ".inst 0xa91db002,0x3c8f4000,0x3cc4c200,0x91039010,0x3c8e4001,0x3d804c00,0xad4707e0,0x3d800a02,0xa919ac01,0x9106a001\n"
-    ".inst 0xad018600,0xad4283e1,0x91052010,0x3900c009,0xa91ea80d,0x9107e00a,0xad000201,0xad440be0,0x3dc01fe1,0xf9013c08\n"
-    ".inst 0xa904cc07,0xa95b4ff4,0xad018a00,0xad4103e2,0x3d800a01,0xd2e80010,0x3dc007e1,0xeb10009f,0xf9003406,0x9a903082\n"
-    ".inst 0x7100193f,0x3d800021,0x1a9f17e3,0xf10001df,0x6f00e401,0x1a9f17ee,0xeb10017f,0xad008022,0x3dc003e0,0x9a90316b\n"
-    ".inst 0x8b02024c,0x7100023f,0xf9005005,0x9a9f118d,0x7100293f,0x8b020169,0x3d800140,0x9108200a,0x1a9f17eb,0x9a9f0129\n"
-    ".inst 0x710001ff,0x3d800141,0x9108a00a,0x9a9f1048,0x2a0f03ef,0xad000541,0x9a9f118a,0x2a1103ec,0xf9014408,0x6a0e0068\n"
-    ".inst 0xf9013809,0x9a9f1049,0xf9010c1f,0xf9011012,0xf901240f,0xf901280a,0xf9012c0c,0xf901300d,0xf901340b,0xf901400f\n"
-    ".inst 0xf901481f,0xf9014c12,0xf901501f,0xf9015408,0xf9015809,0xf9015c1f,0xf9016002,0x910703ff,0xd65f03c0,0x7100193f\n"
-    ".inst 0x2a1f03ef,0x54ffeb80,0xeb07011f,0x54ffeb41,0x9100066f,0xeb0f010f,0x9a8f33ef,0xeb0f00df,0x7a408a40,0x1a9f17ef\n"
-    ".inst 0x17ffff53\n"
+    ".inst 0xa9ba7bfd,0xa9016ffc,0x910003fd,0xa90267fa,0xa9035ff8,0xa90457f6,0xa9054ff4,0xd10a83ff,0xad410462,0xd2e80008\n"
+    ".inst 0xa9402c49,0xeb08009f,0x6f00e400,0xf940084a,0x3940c03b,0xad0107e2,0xad400463,0x9a883083,0xeb0b013f,0xf9402838\n"
+    ".inst 0x9a8b8128,0xa9445c36,0xad0007e3,0x3cc18041,0xeb0a011f,0xf940343a,0xf940503c,0x121f1b6c,0xb940e039,0xf940a035\n"
+    ".inst 0xaa0103f4,0xaa0003f3,0x910643e5,0x9a8a3108,0x910003e7,0x7100099f,0xf81d83bf,0xa93c7fbf,0xf80ef0bf,0xad3c83a0\n"
+    ".inst 0x3c9b03a0,0xf81803bf,0xad3b03a0,0x3c9503a0,0x3c84c0a0,0x3d8067e0,0xf900c3ff,0x3c8b80e0,0xad0803e0,0xad0a03e0\n"
+    ".inst 0xad0b03e0,0xad0d03e0,0xad0e03e0,0x3d804fe0,0xa9042fe9,0xf9002bea,0x3c8583e1,0xa906ffff,0xa907a3ff,0x3c8c80e0\n"
+    ".inst 0x3c8a80e0,0x3c8980e0,0x3c8880e0,0xa90e7fff,0xf9006ff6,0xa90f23ff,0xf90093e3,0x54000120,0x5280002d,0x5280760e\n"
+    ".inst 0x2a1f03ec,0x1adb21ad,0x6a0e01bf,0x54000080,0xeb1702df,0x540018c2,0x5280002c,0x5280002d,0x528089ef,0x2a1f03ee\n"
+    ".inst 0x1adb21ad,0x6a0f01bf,0x54000081,0xf100039f,0x5280200d,0x1a8d03ee,0x71001b7f,0x52a02010,0x3942a3f1,0x1a9f17ed\n"
+    ".inst 0xf10002bf,0x1a9f17ef,0x6a0f01ad,0x1a9f120f,0x71002b7f,0x52a00030,0x1a9f0210,0x7100063f,0x2a0c0210,0x1a9f07f1\n"
+    ".inst 0x2a0e0210,0x6b0c023f,0x2a1001ef,0xb81ec3af,0x54000460,0x394383ef,0x710005ff,0x540000e0,0x370000cc,0xb940f3ec\n"
+    ".inst 0x350003ac,0x3943d3ec,0x360000ac,0x1400001a,0x710005ff,0x54000301,0x340002ec,0x3942e3ec,0x710001df,0x1a9f07ee\n"
+    ".inst 0x7100059f,0x1a9f07ec,0x6b0c01df,0x54000200,0x394323ec,0x71002b7f,0x1a9f17ee,0x7100059f,0x1a9f07ec,0x6b0c01df\n"
+    ".inst 0x54000120,0x394423ec,0x7100059f,0x1a9f07ec,0x4a0c01ac,0x3600008c,0xaa1603ec,0xaa0803ed,0x1400000d,0x910003e0\n"
+    ".inst 0xd10053a1,0xaa1603e2,0x94000000,0xa9442fe9,0x910003e7,0xf9402bea,0xf94043ed,0x910643e5,0xf9406fec,0xf9407fe8\n"
+    ".inst 0xf94093e3,0x3cc58280,0xf843128e,0x3dc02682,0xf9401e8f,0xad3d83a2,0xad438281,0xf81d83ae,0xf9406e8e,0x3ccf4282\n"
+    ".inst 0xad3c83a1,0x3ccc8280,0x3ccb8281,0xf81803ae,0x9103928e,0xad3b03a1,0x3cca8280,0x3dc04e81,0xf80ef0af,0x9105228f\n"
+    ".inst 0x3c9503a0,0x3cce4280,0x3c84c0a1,0xad0c8be0,0xad4181c1,0xad0e03e1,0x3dc009c0,0x3dc011e1,0xf940ce8e,0x3d806fe0\n"
+    ".inst 0xad4101e2,0x3d805fe1,0xf900c3ee,0xf85d83ae,0xad0a83e2,0xad4001e1,0xf84ef0af,0xad0983e1,0xad408a80,0x3dc00281\n"
+    ".inst 0xf803126e,0xf85803ae,0xa91e2e69,0x9107e269,0xad008a60,0x3cdc03a0,0x3cd903a2,0x3d800261,0x3c858260,0xad7d03a1\n"
+    ".inst 0x3d801e62,0x3cd503a2,0xf9006e6e,0x9103926e,0xad040261,0xad7b03a1,0x3c8a8262,0x3dc06fe2,0xa903da6f,0xf940c3ef\n"
+    ".inst 0x3c8c8260,0x3c8b8261,0xad4c83e1,0x3d8009c2,0x3dc057e2,0xf900fa6a,0xf84780ea,0x3c8f4260,0x3cc4c0a0,0x3c8e4261\n"
+    ".inst 0x3d804e60,0xad4e07e0,0x3900c27b,0xa904e277,0xad0185c0,0xad4983e1,0x9105226e,0xf900367a,0x3d8009c2,0xad0001c1\n"
+    ".inst 0xad4b03e1,0xf900527c,0xb900e279,0xad0181c1,0xad4103e1,0xf900a275,0xf900ce6f,0xad0e0261,0xad4003e2,0x3ccb80e1\n"
+    ".inst 0xf9010e6a,0xf901126d,0xad0d0262,0x3cc580e0,0x3cca80e2,0xf9013e6c,0x3d800120,0x3cc680e0,0x91082269,0xf9014e68\n"
+    ".inst 0x3d800120,0x3ccc80e0,0x9108a269,0xf9016263,0xad018121,0x3cc880e0,0x3cc980e1,0x3d800120,0x3cce00e0,0xad008921\n"
+    ".inst 0xf84f00e9,0x3d80a260,0xad4800e1,0xf9014a69,0xad150261,0x910a83ff,0xa9454ff4,0xa94457f6,0xa9435ff8,0xa94267fa\n"
+    ".inst 0xa9416ffc,0xa8c67bfd,0xd65f03c0,0x71001b7f,0x2a1f03ec,0x54ffe740,0xeb1702df,0x54ffe701,0x9100070c,0xeb0c02cc\n"
+    ".inst 0x9a8c33ec,0xeb0c035f,0x7a408b20,0x1a9f17ec,0x17ffff31\n"
+    ".reloc .Ltcp26+568,R_AARCH64_CALL26,.Ltcp23+0\n"
     ".section .text.tcp.27,\"ax\",%progbits\n"
     ".balign 4\n"
     ".Ltcp27:\n"
@@ -8287,6 +8534,20 @@ __asm__(
     ".section .text.tcp.35,\"ax\",%progbits\n"
     ".balign 4\n"
     ".Ltcp35:\n"
+    ".type \"tcp_driver::timers::Timers::next_expiry\",%function\n"
+    ".size \"tcp_driver::timers::Timers::next_expiry\",312\n"
+    "\"tcp_driver::timers::Timers::next_expiry\":\n"
+    ".inst 0xf9406009,0xf940680a,0xaa0003e8,0x3943200b,0x3942e00c,0xf940580e,0xeb09015f,0xb940f00f,0x9a89314d,0x7100057f\n"
+    ".inst 0x9a8901a9,0x7100059f,0xb940080d,0x9a8a0129,0x1a9f156a,0x3942a00b,0xeb0e013f,0x9a8e312c,0x7100055f,0x9a8e018c\n"
+    ".inst 0x7100057f,0x1a9f1540,0x9a890181,0x6b0f01bf,0x540000c9,0x39442109,0x7100053f,0x54000641,0xaa1f03ea,0x14000016\n"
+    ".inst 0xf9406d09,0x5280020b,0x3943810a,0x5280030c,0xf100013f,0x52800409,0x9a890169,0x5280050b,0x9a8b018b,0x38696909\n"
+    ".inst 0x7100055f,0xf86b690b,0xd2e8000a,0xf940750c,0x7a410920,0x1a9f07e9,0xeb0a017f,0x9a8a316a,0x7200013f,0x8b0c014a\n"
+    ".inst 0x9a8a13ea,0x3944210b,0x3940c10c,0xf9401d0d,0xf9408908,0x7100057f,0xd2e8000b,0x7a410980,0x1a9f07ec,0xeb0b01bf\n"
+    ".inst 0x9a8b31ab,0x7200019f,0x8b080168,0x9a8813e8,0xeb0a011f,0x9a8a310b,0x7200019f,0x9a8b114a,0x72000129,0x9a8a1108\n"
+    ".inst 0xeb08003f,0x9a88302a,0x7100041f,0x9a880148,0x6a0c013f,0x1a9f1400,0x9a881021,0xd65f03c0\n"
+    ".section .text.tcp.36,\"ax\",%progbits\n"
+    ".balign 4\n"
+    ".Ltcp36:\n"
     ".type \"tcp_numbers::parts::checksum_in_parts\",%function\n"
     ".size \"tcp_numbers::parts::checksum_in_parts\",1572\n"
     "\"tcp_numbers::parts::checksum_in_parts\":\n"
@@ -8330,14 +8591,14 @@ __asm__(
     ".inst 0x33187ee9,0xb566129,0xb4a4129,0xb15028a,0xb13014a,0xa9454ff4,0xb0b0129,0xb18014a,0xb4c4129,0xb080148\n"
     ".inst 0xa94457f6,0xb080128,0x52900029,0x11001908,0x72b00009,0x9ba97d09,0xa9435ff8,0xd36ffd29,0x4b094129,0x2b090108\n"
     ".inst 0x5a8803e0,0xa8c67bfd,0xd65f03c0\n"
-    ".reloc .Ltcp35+232,R_AARCH64_CALL26,.Ltcp1+0\n"
-    ".reloc .Ltcp35+692,R_AARCH64_CALL26,.Ltcp1+0\n"
-    ".reloc .Ltcp35+712,R_AARCH64_CALL26,.Ltcp1+0\n"
-    ".reloc .Ltcp35+980,R_AARCH64_CALL26,.Ltcp1+0\n"
-    ".reloc .Ltcp35+1348,R_AARCH64_CALL26,.Ltcp1+0\n"
-    ".section .text.tcp.36,\"ax\",%progbits\n"
+    ".reloc .Ltcp36+232,R_AARCH64_CALL26,.Ltcp1+0\n"
+    ".reloc .Ltcp36+692,R_AARCH64_CALL26,.Ltcp1+0\n"
+    ".reloc .Ltcp36+712,R_AARCH64_CALL26,.Ltcp1+0\n"
+    ".reloc .Ltcp36+980,R_AARCH64_CALL26,.Ltcp1+0\n"
+    ".reloc .Ltcp36+1348,R_AARCH64_CALL26,.Ltcp1+0\n"
+    ".section .text.tcp.37,\"ax\",%progbits\n"
     ".balign 4\n"
-    ".Ltcp36:\n"
+    ".Ltcp37:\n"
     ".globl tcp_c_abort\n"
     ".hidden tcp_c_abort\n"
     ".type tcp_c_abort,%function\n"
@@ -8350,10 +8611,10 @@ __asm__(
     ".inst 0xb0b0189,0xb9018a68,0x91065268,0xb9019269,0xf900011f,0xaa1303e0,0x52800061,0x94000000,0x2a1f03e8,0xa9004eb4\n"
     ".inst 0xa9424ff4,0x2a0803e0,0xf9400bf5,0xa8c37bfd,0xd65f03c0,0x52800168,0xa9004c14,0xa9424ff4,0x2a0803e0,0xf9400bf5\n"
     ".inst 0xa8c37bfd,0xd65f03c0\n"
-    ".reloc .Ltcp36+188,R_AARCH64_CALL26,.Ltcp0+0\n"
-    ".section .text.tcp.37,\"ax\",%progbits\n"
+    ".reloc .Ltcp37+188,R_AARCH64_CALL26,.Ltcp0+0\n"
+    ".section .text.tcp.38,\"ax\",%progbits\n"
     ".balign 4\n"
-    ".Ltcp37:\n"
+    ".Ltcp38:\n"
     ".globl tcp_c_acknowledge\n"
     ".hidden tcp_c_acknowledge\n"
     ".type tcp_c_acknowledge,%function\n"
@@ -8362,9 +8623,9 @@ __asm__(
     ".inst 0xd28e8d89,0xa9402808,0xf2ac2e89,0xa9007c1f,0xf2ca0a49,0xf2ee8869,0xeb09011f,0x54000101,0x39460548,0x36000108\n"
     ".inst 0x5280002b,0x3906054b,0xa9002809,0x2a1f03e0,0xd65f03c0,0x528003e0,0xd65f03c0,0x3940c148,0x51001108,0x71000d1f\n"
     ".inst 0x1a9f27eb,0x3906054b,0xa9002809,0x2a1f03e0,0xd65f03c0\n"
-    ".section .text.tcp.38,\"ax\",%progbits\n"
+    ".section .text.tcp.39,\"ax\",%progbits\n"
     ".balign 4\n"
-    ".Ltcp38:\n"
+    ".Ltcp39:\n"
     ".globl tcp_c_arrive\n"
     ".hidden tcp_c_arrive\n"
     ".type tcp_c_arrive,%function\n"
@@ -8420,29 +8681,29 @@ __asm__(
     ".inst 0x1400000b,0x3940c2e8,0x7100011f,0x1a9f07e8,0x390606e8,0x2a1f03e8,0x2a1f03e9,0x1400000b,0x528000a1,0x17ffff8e\n"
     ".inst 0x528001e9,0x910043e3,0xaa1303e0,0x2a0903e1,0x2a1403e2,0x94000000,0x2a1f03e8,0x528006e9,0xb080128,0xa9005eb6\n"
     ".inst 0x17fffe9f\n"
-    ".reloc .Ltcp38+320,R_AARCH64_CALL26,.Ltcp1+0\n"
-    ".reloc .Ltcp38+440,R_AARCH64_ADR_PREL_PG_HI21,.Ltcp9+48\n"
-    ".reloc .Ltcp38+448,R_AARCH64_LDST128_ABS_LO12_NC,.Ltcp9+48\n"
-    ".reloc .Ltcp38+452,R_AARCH64_ADR_PREL_PG_HI21,.Ltcp9+64\n"
-    ".reloc .Ltcp38+484,R_AARCH64_LDST128_ABS_LO12_NC,.Ltcp9+64\n"
-    ".reloc .Ltcp38+776,R_AARCH64_ADR_PREL_PG_HI21,.Ltcp9+80\n"
-    ".reloc .Ltcp38+784,R_AARCH64_LDST128_ABS_LO12_NC,.Ltcp9+80\n"
-    ".reloc .Ltcp38+1044,R_AARCH64_CALL26,.Ltcp18+0\n"
-    ".reloc .Ltcp38+1472,R_AARCH64_CALL26,.Ltcp18+0\n"
-    ".reloc .Ltcp38+1488,R_AARCH64_CALL26,.Ltcp3+0\n"
-    ".reloc .Ltcp38+1512,R_AARCH64_CALL26,.Ltcp18+0\n"
-    ".reloc .Ltcp38+1748,R_AARCH64_CALL26,.Ltcp4+0\n"
-    ".reloc .Ltcp38+1760,R_AARCH64_CALL26,.Ltcp5+0\n"
-    ".reloc .Ltcp38+1768,R_AARCH64_CALL26,.Ltcp11+0\n"
-    ".reloc .Ltcp38+1824,R_AARCH64_CALL26,.Ltcp4+0\n"
-    ".reloc .Ltcp38+1836,R_AARCH64_CALL26,.Ltcp5+0\n"
-    ".reloc .Ltcp38+1844,R_AARCH64_CALL26,.Ltcp11+0\n"
-    ".reloc .Ltcp38+1856,R_AARCH64_CALL26,.Ltcp12+0\n"
-    ".reloc .Ltcp38+1868,R_AARCH64_CALL26,.Ltcp17+0\n"
-    ".reloc .Ltcp38+1940,R_AARCH64_CALL26,.Ltcp18+0\n"
-    ".section .text.tcp.39,\"ax\",%progbits\n"
+    ".reloc .Ltcp39+320,R_AARCH64_CALL26,.Ltcp1+0\n"
+    ".reloc .Ltcp39+440,R_AARCH64_ADR_PREL_PG_HI21,.Ltcp9+48\n"
+    ".reloc .Ltcp39+448,R_AARCH64_LDST128_ABS_LO12_NC,.Ltcp9+48\n"
+    ".reloc .Ltcp39+452,R_AARCH64_ADR_PREL_PG_HI21,.Ltcp9+64\n"
+    ".reloc .Ltcp39+484,R_AARCH64_LDST128_ABS_LO12_NC,.Ltcp9+64\n"
+    ".reloc .Ltcp39+776,R_AARCH64_ADR_PREL_PG_HI21,.Ltcp9+80\n"
+    ".reloc .Ltcp39+784,R_AARCH64_LDST128_ABS_LO12_NC,.Ltcp9+80\n"
+    ".reloc .Ltcp39+1044,R_AARCH64_CALL26,.Ltcp18+0\n"
+    ".reloc .Ltcp39+1472,R_AARCH64_CALL26,.Ltcp18+0\n"
+    ".reloc .Ltcp39+1488,R_AARCH64_CALL26,.Ltcp3+0\n"
+    ".reloc .Ltcp39+1512,R_AARCH64_CALL26,.Ltcp18+0\n"
+    ".reloc .Ltcp39+1748,R_AARCH64_CALL26,.Ltcp4+0\n"
+    ".reloc .Ltcp39+1760,R_AARCH64_CALL26,.Ltcp5+0\n"
+    ".reloc .Ltcp39+1768,R_AARCH64_CALL26,.Ltcp11+0\n"
+    ".reloc .Ltcp39+1824,R_AARCH64_CALL26,.Ltcp4+0\n"
+    ".reloc .Ltcp39+1836,R_AARCH64_CALL26,.Ltcp5+0\n"
+    ".reloc .Ltcp39+1844,R_AARCH64_CALL26,.Ltcp11+0\n"
+    ".reloc .Ltcp39+1856,R_AARCH64_CALL26,.Ltcp12+0\n"
+    ".reloc .Ltcp39+1868,R_AARCH64_CALL26,.Ltcp17+0\n"
+    ".reloc .Ltcp39+1940,R_AARCH64_CALL26,.Ltcp18+0\n"
+    ".section .text.tcp.40,\"ax\",%progbits\n"
     ".balign 4\n"
-    ".Ltcp39:\n"
+    ".Ltcp40:\n"
     ".globl tcp_c_arrive_vouched\n"
     ".hidden tcp_c_arrive_vouched\n"
     ".type tcp_c_arrive_vouched,%function\n"
@@ -8488,24 +8749,24 @@ __asm__(
     ".inst 0x17ffff9d,0x528001e8,0x910043e3,0x2a0803e1,0x94000000,0x2a1f03e8,0x528006e9,0xb080129,0xa9005e96,0x17fffeaa\n"
     ".inst 0xaa0003f3,0x7100021f,0xaa0903e0,0x9a8a41e1,0x94000000,0x910043e1,0xaa1303e0,0x94000000,0xaa1303e0,0x94000000\n"
     ".inst 0x910043e1,0xaa1303e0,0x94000000,0x910043e1,0xaa1303e0,0x94000000,0x2a1f03e8,0x2a1f03e9,0x17ffffeb\n"
-    ".reloc .Ltcp39+344,R_AARCH64_ADR_PREL_PG_HI21,.Ltcp9+96\n"
-    ".reloc .Ltcp39+356,R_AARCH64_LDST128_ABS_LO12_NC,.Ltcp9+96\n"
-    ".reloc .Ltcp39+664,R_AARCH64_CALL26,.Ltcp18+0\n"
-    ".reloc .Ltcp39+1088,R_AARCH64_CALL26,.Ltcp18+0\n"
-    ".reloc .Ltcp39+1112,R_AARCH64_CALL26,.Ltcp3+0\n"
-    ".reloc .Ltcp39+1136,R_AARCH64_CALL26,.Ltcp18+0\n"
-    ".reloc .Ltcp39+1380,R_AARCH64_CALL26,.Ltcp4+0\n"
-    ".reloc .Ltcp39+1392,R_AARCH64_CALL26,.Ltcp5+0\n"
-    ".reloc .Ltcp39+1400,R_AARCH64_CALL26,.Ltcp11+0\n"
-    ".reloc .Ltcp39+1496,R_AARCH64_CALL26,.Ltcp18+0\n"
-    ".reloc .Ltcp39+1536,R_AARCH64_CALL26,.Ltcp4+0\n"
-    ".reloc .Ltcp39+1548,R_AARCH64_CALL26,.Ltcp5+0\n"
-    ".reloc .Ltcp39+1556,R_AARCH64_CALL26,.Ltcp11+0\n"
-    ".reloc .Ltcp39+1568,R_AARCH64_CALL26,.Ltcp12+0\n"
-    ".reloc .Ltcp39+1580,R_AARCH64_CALL26,.Ltcp17+0\n"
-    ".section .text.tcp.40,\"ax\",%progbits\n"
+    ".reloc .Ltcp40+344,R_AARCH64_ADR_PREL_PG_HI21,.Ltcp9+96\n"
+    ".reloc .Ltcp40+356,R_AARCH64_LDST128_ABS_LO12_NC,.Ltcp9+96\n"
+    ".reloc .Ltcp40+664,R_AARCH64_CALL26,.Ltcp18+0\n"
+    ".reloc .Ltcp40+1088,R_AARCH64_CALL26,.Ltcp18+0\n"
+    ".reloc .Ltcp40+1112,R_AARCH64_CALL26,.Ltcp3+0\n"
+    ".reloc .Ltcp40+1136,R_AARCH64_CALL26,.Ltcp18+0\n"
+    ".reloc .Ltcp40+1380,R_AARCH64_CALL26,.Ltcp4+0\n"
+    ".reloc .Ltcp40+1392,R_AARCH64_CALL26,.Ltcp5+0\n"
+    ".reloc .Ltcp40+1400,R_AARCH64_CALL26,.Ltcp11+0\n"
+    ".reloc .Ltcp40+1496,R_AARCH64_CALL26,.Ltcp18+0\n"
+    ".reloc .Ltcp40+1536,R_AARCH64_CALL26,.Ltcp4+0\n"
+    ".reloc .Ltcp40+1548,R_AARCH64_CALL26,.Ltcp5+0\n"
+    ".reloc .Ltcp40+1556,R_AARCH64_CALL26,.Ltcp11+0\n"
+    ".reloc .Ltcp40+1568,R_AARCH64_CALL26,.Ltcp12+0\n"
+    ".reloc .Ltcp40+1580,R_AARCH64_CALL26,.Ltcp17+0\n"
+    ".section .text.tcp.41,\"ax\",%progbits\n"
     ".balign 4\n"
-    ".Ltcp40:\n"
+    ".Ltcp41:\n"
     ".globl tcp_c_arrive_vouched_with_report\n"
     ".hidden tcp_c_arrive_vouched_with_report\n"
     ".type tcp_c_arrive_vouched_with_report,%function\n"
@@ -8565,28 +8826,28 @@ __asm__(
     ".inst 0x1a8803e8,0x7100057f,0x29037d35,0x1a881508,0x17fffe26,0x3946066d,0x17ffffed,0x3946066d,0x710005bf,0x540000a1\n"
     ".inst 0xf9400fed,0xb40000ad,0x5280002d,0x14000006,0x2a1f03ed,0x17ffffe4,0xf940af2d,0xf10001bf,0x1a9f07ed,0x3707fbf2\n"
     ".inst 0xeb1a019f,0x1a8d03ed,0x17ffffdd\n"
-    ".reloc .Ltcp40+396,R_AARCH64_ADR_PREL_PG_HI21,.Ltcp9+112\n"
-    ".reloc .Ltcp40+404,R_AARCH64_LDST128_ABS_LO12_NC,.Ltcp9+112\n"
-    ".reloc .Ltcp40+748,R_AARCH64_CALL26,.Ltcp18+0\n"
-    ".reloc .Ltcp40+1252,R_AARCH64_CALL26,.Ltcp3+0\n"
-    ".reloc .Ltcp40+1632,R_AARCH64_CALL26,.Ltcp4+0\n"
-    ".reloc .Ltcp40+1644,R_AARCH64_CALL26,.Ltcp5+0\n"
-    ".reloc .Ltcp40+1656,R_AARCH64_CALL26,.Ltcp11+0\n"
-    ".reloc .Ltcp40+1772,R_AARCH64_CALL26,.Ltcp4+0\n"
-    ".reloc .Ltcp40+1784,R_AARCH64_CALL26,.Ltcp5+0\n"
-    ".reloc .Ltcp40+1796,R_AARCH64_CALL26,.Ltcp11+0\n"
-    ".reloc .Ltcp40+1808,R_AARCH64_CALL26,.Ltcp12+0\n"
-    ".reloc .Ltcp40+1824,R_AARCH64_CALL26,.Ltcp17+0\n"
-    ".reloc .Ltcp40+1960,R_AARCH64_ADR_PREL_PG_HI21,.Ltcp41+0\n"
-    ".reloc .Ltcp40+1964,R_AARCH64_ADD_ABS_LO12_NC,.Ltcp41+0\n"
-    ".section .rodata.tcp.41,\"a\",%progbits\n"
+    ".reloc .Ltcp41+396,R_AARCH64_ADR_PREL_PG_HI21,.Ltcp9+112\n"
+    ".reloc .Ltcp41+404,R_AARCH64_LDST128_ABS_LO12_NC,.Ltcp9+112\n"
+    ".reloc .Ltcp41+748,R_AARCH64_CALL26,.Ltcp18+0\n"
+    ".reloc .Ltcp41+1252,R_AARCH64_CALL26,.Ltcp3+0\n"
+    ".reloc .Ltcp41+1632,R_AARCH64_CALL26,.Ltcp4+0\n"
+    ".reloc .Ltcp41+1644,R_AARCH64_CALL26,.Ltcp5+0\n"
+    ".reloc .Ltcp41+1656,R_AARCH64_CALL26,.Ltcp11+0\n"
+    ".reloc .Ltcp41+1772,R_AARCH64_CALL26,.Ltcp4+0\n"
+    ".reloc .Ltcp41+1784,R_AARCH64_CALL26,.Ltcp5+0\n"
+    ".reloc .Ltcp41+1796,R_AARCH64_CALL26,.Ltcp11+0\n"
+    ".reloc .Ltcp41+1808,R_AARCH64_CALL26,.Ltcp12+0\n"
+    ".reloc .Ltcp41+1824,R_AARCH64_CALL26,.Ltcp17+0\n"
+    ".reloc .Ltcp41+1960,R_AARCH64_ADR_PREL_PG_HI21,.Ltcp42+0\n"
+    ".reloc .Ltcp41+1964,R_AARCH64_ADD_ABS_LO12_NC,.Ltcp42+0\n"
+    ".section .rodata.tcp.42,\"a\",%progbits\n"
     ".balign 1\n"
-    ".Ltcp41:\n"
+    ".Ltcp42:\n"
     ".octa 0x1000001000001000001000001\n"
     ".short 0x1315\n"
-    ".section .text.tcp.42,\"ax\",%progbits\n"
+    ".section .text.tcp.43,\"ax\",%progbits\n"
     ".balign 4\n"
-    ".Ltcp42:\n"
+    ".Ltcp43:\n"
     ".globl tcp_c_arrive_with_at_once\n"
     ".hidden tcp_c_arrive_with_at_once\n"
     ".type tcp_c_arrive_with_at_once,%function\n"
@@ -8645,26 +8906,26 @@ __asm__(
     ".inst 0x94000000,0x910083e1,0xaa1303e0,0x94000000,0xaa1303e0,0x94000000,0x910083e1,0xaa1303e0,0x94000000,0x910083e1\n"
     ".inst 0xaa1303e0,0x94000000,0x39460668,0x36000088,0xb40000bb,0x52800028,0x14000006,0x2a1f03e9,0x14000009,0xf9400288\n"
     ".inst 0xf100011f,0x1a9f07e8,0x36000075,0x52800029,0x14000003,0xeb17035f,0x1a8803e9,0x2a1f03e8,0x17ffffda\n"
-    ".reloc .Ltcp42+328,R_AARCH64_CALL26,.Ltcp1+0\n"
-    ".reloc .Ltcp42+660,R_AARCH64_CALL26,.Ltcp2+0\n"
-    ".reloc .Ltcp42+1056,R_AARCH64_CALL26,.Ltcp18+0\n"
-    ".reloc .Ltcp42+1500,R_AARCH64_CALL26,.Ltcp18+0\n"
-    ".reloc .Ltcp42+1524,R_AARCH64_CALL26,.Ltcp3+0\n"
-    ".reloc .Ltcp42+1548,R_AARCH64_CALL26,.Ltcp18+0\n"
-    ".reloc .Ltcp42+1812,R_AARCH64_CALL26,.Ltcp4+0\n"
-    ".reloc .Ltcp42+1824,R_AARCH64_CALL26,.Ltcp5+0\n"
-    ".reloc .Ltcp42+1832,R_AARCH64_CALL26,.Ltcp11+0\n"
-    ".reloc .Ltcp42+1936,R_AARCH64_CALL26,.Ltcp18+0\n"
-    ".reloc .Ltcp42+1944,R_AARCH64_ADR_PREL_PG_HI21,.Ltcp94+0\n"
-    ".reloc .Ltcp42+1948,R_AARCH64_ADD_ABS_LO12_NC,.Ltcp94+0\n"
-    ".reloc .Ltcp42+2000,R_AARCH64_CALL26,.Ltcp4+0\n"
-    ".reloc .Ltcp42+2012,R_AARCH64_CALL26,.Ltcp5+0\n"
-    ".reloc .Ltcp42+2020,R_AARCH64_CALL26,.Ltcp11+0\n"
-    ".reloc .Ltcp42+2032,R_AARCH64_CALL26,.Ltcp12+0\n"
-    ".reloc .Ltcp42+2044,R_AARCH64_CALL26,.Ltcp17+0\n"
-    ".section .text.tcp.43,\"ax\",%progbits\n"
+    ".reloc .Ltcp43+328,R_AARCH64_CALL26,.Ltcp1+0\n"
+    ".reloc .Ltcp43+660,R_AARCH64_CALL26,.Ltcp2+0\n"
+    ".reloc .Ltcp43+1056,R_AARCH64_CALL26,.Ltcp18+0\n"
+    ".reloc .Ltcp43+1500,R_AARCH64_CALL26,.Ltcp18+0\n"
+    ".reloc .Ltcp43+1524,R_AARCH64_CALL26,.Ltcp3+0\n"
+    ".reloc .Ltcp43+1548,R_AARCH64_CALL26,.Ltcp18+0\n"
+    ".reloc .Ltcp43+1812,R_AARCH64_CALL26,.Ltcp4+0\n"
+    ".reloc .Ltcp43+1824,R_AARCH64_CALL26,.Ltcp5+0\n"
+    ".reloc .Ltcp43+1832,R_AARCH64_CALL26,.Ltcp11+0\n"
+    ".reloc .Ltcp43+1936,R_AARCH64_CALL26,.Ltcp18+0\n"
+    ".reloc .Ltcp43+1944,R_AARCH64_ADR_PREL_PG_HI21,.Ltcp98+0\n"
+    ".reloc .Ltcp43+1948,R_AARCH64_ADD_ABS_LO12_NC,.Ltcp98+0\n"
+    ".reloc .Ltcp43+2000,R_AARCH64_CALL26,.Ltcp4+0\n"
+    ".reloc .Ltcp43+2012,R_AARCH64_CALL26,.Ltcp5+0\n"
+    ".reloc .Ltcp43+2020,R_AARCH64_CALL26,.Ltcp11+0\n"
+    ".reloc .Ltcp43+2032,R_AARCH64_CALL26,.Ltcp12+0\n"
+    ".reloc .Ltcp43+2044,R_AARCH64_CALL26,.Ltcp17+0\n"
+    ".section .text.tcp.44,\"ax\",%progbits\n"
     ".balign 4\n"
-    ".Ltcp43:\n"
+    ".Ltcp44:\n"
     ".globl tcp_c_arrive_with_report\n"
     ".hidden tcp_c_arrive_with_report\n"
     ".type tcp_c_arrive_with_report,%function\n"
@@ -8733,28 +8994,28 @@ __asm__(
     ".inst 0x7100057f,0x29037d35,0x1a881508,0x17fffe2e,0x3946066d,0x17ffffed,0x3946066d,0x710005bf,0x540000a1,0xf9400fed\n"
     ".inst 0xb40000ad,0x5280002d,0x14000006,0x2a1f03ed,0x17ffffe4,0xf940ae6d,0xf10001bf,0x1a9f07ed,0x3707fbfc,0xeb1a019f\n"
     ".inst 0x1a8d03ed,0x17ffffdd\n"
-    ".reloc .Ltcp43+336,R_AARCH64_CALL26,.Ltcp1+0\n"
-    ".reloc .Ltcp43+672,R_AARCH64_CALL26,.Ltcp2+0\n"
-    ".reloc .Ltcp43+1120,R_AARCH64_CALL26,.Ltcp18+0\n"
-    ".reloc .Ltcp43+1560,R_AARCH64_CALL26,.Ltcp3+0\n"
-    ".reloc .Ltcp43+2024,R_AARCH64_CALL26,.Ltcp4+0\n"
-    ".reloc .Ltcp43+2036,R_AARCH64_CALL26,.Ltcp5+0\n"
-    ".reloc .Ltcp43+2048,R_AARCH64_CALL26,.Ltcp11+0\n"
-    ".reloc .Ltcp43+2112,R_AARCH64_CALL26,.Ltcp4+0\n"
-    ".reloc .Ltcp43+2124,R_AARCH64_CALL26,.Ltcp5+0\n"
-    ".reloc .Ltcp43+2136,R_AARCH64_CALL26,.Ltcp11+0\n"
-    ".reloc .Ltcp43+2148,R_AARCH64_CALL26,.Ltcp12+0\n"
-    ".reloc .Ltcp43+2164,R_AARCH64_CALL26,.Ltcp17+0\n"
-    ".reloc .Ltcp43+2316,R_AARCH64_ADR_PREL_PG_HI21,.Ltcp44+0\n"
-    ".reloc .Ltcp43+2320,R_AARCH64_ADD_ABS_LO12_NC,.Ltcp44+0\n"
-    ".section .rodata.tcp.44,\"a\",%progbits\n"
+    ".reloc .Ltcp44+336,R_AARCH64_CALL26,.Ltcp1+0\n"
+    ".reloc .Ltcp44+672,R_AARCH64_CALL26,.Ltcp2+0\n"
+    ".reloc .Ltcp44+1120,R_AARCH64_CALL26,.Ltcp18+0\n"
+    ".reloc .Ltcp44+1560,R_AARCH64_CALL26,.Ltcp3+0\n"
+    ".reloc .Ltcp44+2024,R_AARCH64_CALL26,.Ltcp4+0\n"
+    ".reloc .Ltcp44+2036,R_AARCH64_CALL26,.Ltcp5+0\n"
+    ".reloc .Ltcp44+2048,R_AARCH64_CALL26,.Ltcp11+0\n"
+    ".reloc .Ltcp44+2112,R_AARCH64_CALL26,.Ltcp4+0\n"
+    ".reloc .Ltcp44+2124,R_AARCH64_CALL26,.Ltcp5+0\n"
+    ".reloc .Ltcp44+2136,R_AARCH64_CALL26,.Ltcp11+0\n"
+    ".reloc .Ltcp44+2148,R_AARCH64_CALL26,.Ltcp12+0\n"
+    ".reloc .Ltcp44+2164,R_AARCH64_CALL26,.Ltcp17+0\n"
+    ".reloc .Ltcp44+2316,R_AARCH64_ADR_PREL_PG_HI21,.Ltcp45+0\n"
+    ".reloc .Ltcp44+2320,R_AARCH64_ADD_ABS_LO12_NC,.Ltcp45+0\n"
+    ".section .rodata.tcp.45,\"a\",%progbits\n"
     ".balign 1\n"
-    ".Ltcp44:\n"
+    ".Ltcp45:\n"
     ".octa 0x1000001000001000001000001\n"
     ".short 0x1315\n"
-    ".section .text.tcp.45,\"ax\",%progbits\n"
+    ".section .text.tcp.46,\"ax\",%progbits\n"
     ".balign 4\n"
-    ".Ltcp45:\n"
+    ".Ltcp46:\n"
     ".globl tcp_c_close\n"
     ".hidden tcp_c_close\n"
     ".type tcp_c_close,%function\n"
@@ -8768,10 +9029,10 @@ __asm__(
     ".inst 0x5280ed0a,0x6a0a013f,0x540001e1,0x7100111f,0x54000061,0x528000a8,0x14000004,0x71001d1f,0x54000081,0x52800128\n"
     ".inst 0x3900c268,0x14000006,0xaa0003f5,0xaa1303e0,0x52800061,0x94000000,0xaa1503e0,0x2a1f03e8,0xa9004c14,0xa9424ff4\n"
     ".inst 0x2a0803e0,0xf9400bf5,0xa8c37bfd,0xd65f03c0\n"
-    ".reloc .Ltcp45+260,R_AARCH64_CALL26,.Ltcp0+0\n"
-    ".section .text.tcp.46,\"ax\",%progbits\n"
+    ".reloc .Ltcp46+260,R_AARCH64_CALL26,.Ltcp0+0\n"
+    ".section .text.tcp.47,\"ax\",%progbits\n"
     ".balign 4\n"
-    ".Ltcp46:\n"
+    ".Ltcp47:\n"
     ".globl tcp_c_connect\n"
     ".hidden tcp_c_connect\n"
     ".type tcp_c_connect,%function\n"
@@ -8781,194 +9042,217 @@ __asm__(
     ".inst 0x528001c8,0xa900240a,0x2a0803e0,0xd65f03c0,0x528003e0,0xd65f03c0,0x3940c128,0x340000a8,0x52800188,0xa900240a\n"
     ".inst 0x2a0803e0,0xd65f03c0,0xb940002b,0x9000000d,0x5280004c,0x3dc001a0,0x79007122,0xb900352b,0x5280002b,0x3900c12c\n"
     ".inst 0x3d801120,0x3906012b,0xa900240a,0x2a0803e0,0xd65f03c0\n"
-    ".reloc .Ltcp46+92,R_AARCH64_ADR_PREL_PG_HI21,.Ltcp9+128\n"
-    ".reloc .Ltcp46+100,R_AARCH64_LDST128_ABS_LO12_NC,.Ltcp9+128\n"
-    ".section .text.tcp.47,\"ax\",%progbits\n"
-    ".balign 4\n"
-    ".Ltcp47:\n"
-    ".globl tcp_c_connection_abort\n"
-    ".hidden tcp_c_connection_abort\n"
-    ".type tcp_c_connection_abort,%function\n"
-    ".size tcp_c_connection_abort,512\n"
-    "tcp_c_connection_abort:\n"
-    ".inst 0xd10143ff,0xa90357f6,0xd28e8d96,0xa9044ff4,0xf2ac2e96,0xa9405008,0xf2ca0a56,0xf2eec876,0xa9017bfd,0x910043fd\n"
-    ".inst 0xa9025ff8,0xeb16011f,0xa9007c1f,0x54000161,0x3940c688,0xf9416297,0xaa0003f3,0x34000128,0x528001d5,0x3940c288\n"
-    ".inst 0x121f1909,0x7100093f,0x540004a1,0x1400002d,0x528003f5,0x1400004e,0x3940c288,0x34000368,0x51000d08,0xaa0103f8\n"
-    ".inst 0x7100111f,0x540001a8,0xb9403688,0x79407289,0x5280002a,0xb9404a8b,0xb9400a8c,0xb901868a,0x79031a89,0xb0b0189\n"
-    ".inst 0xb9018a88,0x91065288,0xb9019289,0xf900011f,0xaa1403e0,0x52800061,0x94000000,0x2a1f03f5,0xaa1803e1,0x3940c288\n"
-    ".inst 0x121f1909,0x7100093f,0x540000e1,0x1400000f,0x52800175,0x3940c288,0x121f1909,0x7100093f,0x54000140,0x5280002a\n"
-    ".inst 0x5280760b,0x2a1f03e9,0x1ac8214a,0x6a0b015f,0x540000a0,0xa9442e8a,0xeb0b015f,0x54000562,0x52800029,0x5280002b\n"
-    ".inst 0x528089ec,0x2a1f03ea,0x1ac8216b,0x6a0c017f,0x540000e0,0x7100191f,0x54000141,0xf940a28b,0xf100017f,0x1a9f17eb\n"
-    ".inst 0x14000007,0xf940528a,0xf100015f,0x1a9f07ea,0x7100191f,0x54ffff00,0x2a1f03eb,0xd2e8000c,0xf9402282,0x91068280\n"
-    ".inst 0xeb0c003f,0x381fc3a9,0x9a8c302c,0xd10013a1,0x381fd3aa,0xeb17019f,0x381ff3ab,0x9a978183,0x7100291f,0x1a9f17e8\n"
-    ".inst 0x381fe3a8,0x94000000,0xa9005276,0x2a1503e0,0xa9444ff4,0xa94357f6,0xa9425ff8,0xa9417bfd,0x910143ff,0xd65f03c0\n"
-    ".inst 0x7100191f,0x2a1f03e9,0x54fffaa0,0xeb0b015f,0x54fffa61,0xf9402a89,0xf940368b,0x91000529,0xeb090149,0x9a8933e9\n"
-    ".inst 0xeb09017f,0x540000a9,0xb940e289,0x7100013f,0x1a9f17e9,0x17ffffc8,0x2a1f03e9,0x17ffffc6\n"
-    ".reloc .Ltcp47+184,R_AARCH64_CALL26,.Ltcp0+0\n"
-    ".reloc .Ltcp47+404,R_AARCH64_CALL26,.Ltcp23+0\n"
+    ".reloc .Ltcp47+92,R_AARCH64_ADR_PREL_PG_HI21,.Ltcp9+128\n"
+    ".reloc .Ltcp47+100,R_AARCH64_LDST128_ABS_LO12_NC,.Ltcp9+128\n"
     ".section .text.tcp.48,\"ax\",%progbits\n"
     ".balign 4\n"
     ".Ltcp48:\n"
-    ".globl tcp_c_connection_acknowledge\n"
-    ".hidden tcp_c_connection_acknowledge\n"
-    ".type tcp_c_connection_acknowledge,%function\n"
-    ".size tcp_c_connection_acknowledge,384\n"
-    "tcp_c_connection_acknowledge:\n"
-    ".inst 0xa9bd7bfd,0xa9024ff4,0xd28e8d94,0x910003fd,0xf9000bf5,0xf2ac2e94,0xa9405408,0xf2ca0a54,0xf2eec874,0xa9007c1f\n"
-    ".inst 0xeb14011f,0x54000461,0x3940c2a8,0x394606aa,0xaa0003f3,0x51001109,0x121f190c,0x71000d3f,0xf94162a9,0x1a9f27eb\n"
-    ".inst 0x7100099f,0x2a0a016a,0x390606aa,0x54000140,0x5280002b,0x5280760c,0x2a1f03ea,0x1ac8216b,0x6a0c017f,0x540000a0\n"
-    ".inst 0xa94432ab,0xeb0c017f,0x540005c2,0x5280002a,0x5280002c,0x528089ed,0x2a1f03eb,0x1ac8218c,0x6a0d019f,0x54000180\n"
-    ".inst 0x7100191f,0x540001e1,0xf940a2ac,0xf100019f,0x1a9f17ec,0x1400000c,0x528003e0,0xa9424ff4,0xf9400bf5,0xa8c37bfd\n"
-    ".inst 0xd65f03c0,0xf94052ab,0xf100017f,0x1a9f07eb,0x7100191f,0x54fffe60,0x2a1f03ec,0xd2e8000d,0xf94022a2,0x910682a0\n"
-    ".inst 0xeb0d003f,0x390073aa,0x9a8d302d,0x910073a1,0x390077ab,0xeb0901bf,0x39007fac,0x9a8981a3,0x7100291f,0x1a9f17e8\n"
-    ".inst 0x39007ba8,0x94000000,0x2a1f03e0,0xa9005674,0xa9424ff4,0xf9400bf5,0xa8c37bfd,0xd65f03c0,0x7100191f,0x2a1f03ea\n"
-    ".inst 0x54fffa40,0xeb0c017f,0x54fffa01,0xf9402aaa,0xf94036ac,0x9100054a,0xeb0a016a,0x9a8a33ea,0xeb0a019f,0x540000a9\n"
-    ".inst 0xb940e2aa,0x7100015f,0x1a9f17ea,0x17ffffc5,0x2a1f03ea,0x17ffffc3\n"
-    ".reloc .Ltcp48+284,R_AARCH64_CALL26,.Ltcp23+0\n"
+    ".globl tcp_c_connection_abort\n"
+    ".hidden tcp_c_connection_abort\n"
+    ".type tcp_c_connection_abort,%function\n"
+    ".size tcp_c_connection_abort,708\n"
+    "tcp_c_connection_abort:\n"
+    ".inst 0xa9bc7bfd,0xa90257f6,0xd28e8d96,0x910003fd,0xa9034ff4,0xf2ac2e96,0xa9405008,0xf2ca0a56,0xf2eec876,0xf9000bf7\n"
+    ".inst 0xa9007c1f,0xeb16011f,0x54000201,0xd2e80008,0xf9416289,0x3940c68a,0xeb08003f,0xaa0003f3,0x9a883028,0xeb09011f\n"
+    ".inst 0x9a898103,0x340001ca,0x528001d5,0x3940c288,0x121f1909,0x7100093f,0x54000541,0x14000032,0x528003f5,0x2a1503e0\n"
+    ".inst 0xa9434ff4,0xa94257f6,0xf9400bf7,0xa8c47bfd,0xd65f03c0,0x3940c288,0x34000368,0x51000d08,0xaa0303f7,0x7100111f\n"
+    ".inst 0x540001a8,0xb9403688,0x79407289,0x5280002a,0xb9404a8b,0xb9400a8c,0xb901868a,0x79031a89,0xb0b0189,0xb9018a88\n"
+    ".inst 0x91065288,0xb9019289,0xf900011f,0xaa1403e0,0x52800061,0x94000000,0x2a1f03f5,0xaa1703e3,0x3940c288,0x121f1909\n"
+    ".inst 0x7100093f,0x540000e1,0x1400000f,0x52800175,0x3940c288,0x121f1909,0x7100093f,0x54000140,0x5280002a,0x5280760b\n"
+    ".inst 0x2a1f03e9,0x1ac8214a,0x6a0b015f,0x540000a0,0xa9442e8a,0xeb0b015f,0x540005e2,0x52800029,0x5280002b,0x528089ec\n"
+    ".inst 0x2a1f03ea,0x1ac8216b,0x6a0c017f,0x54000100,0x7100191f,0x54000181,0xf940a28b,0xf100017f,0x52a0200b,0x1a9f016b\n"
+    ".inst 0x14000008,0xf940528a,0xf100015f,0x5280200a,0x1a8a03ea,0x7100191f,0x54fffec0,0x2a1f03eb,0xf9402282,0x7100291f\n"
+    ".inst 0x52a0002c,0x2a0a012d,0xf9413e8e,0x1a9f018c,0x2a0b01ad,0x2a0c01ac,0xeb0e005f,0xb9001fac,0x54000721,0x3949228c\n"
+    ".inst 0x7100059f,0x1a9f07ec,0x6b09019f,0x54000680,0x394a028c,0x7100059f,0x540002e0,0x370002c9,0xb9429289,0x350005c9\n"
+    ".inst 0x394a5289,0x360002a9,0x1400002b,0x7100191f,0x2a1f03e9,0x54fffa20,0xeb0b015f,0x54fff9e1,0xf9402a89,0xf940368b\n"
+    ".inst 0x91000529,0xeb090149,0x9a8933e9,0xeb09017f,0x54000529,0xb940e289,0x7100013f,0x1a9f17e9,0x17ffffc4,0x7100059f\n"
+    ".inst 0x54000321,0x34000309,0x39496289,0x7100015f,0x1a9f07ea,0x7100053f,0x1a9f07e9,0x6b09015f,0x54000220,0x3949a289\n"
+    ".inst 0x7100291f,0x1a9f17e8,0x7100053f,0x1a9f07e9,0x6b09011f,0x54000140,0x394aa288,0x7100017f,0x1a9f07e9,0x7100051f\n"
+    ".inst 0x1a9f07e8,0x6b08013f,0x54000060,0xf9016283,0x14000004,0x91068280,0x910073a1,0x94000000,0xa9005276,0x2a1503e0\n"
+    ".inst 0xa9434ff4,0xa94257f6,0xf9400bf7,0xa8c47bfd,0xd65f03c0,0x2a1f03e9,0x17ffff9e\n"
+    ".reloc .Ltcp48+220,R_AARCH64_CALL26,.Ltcp0+0\n"
+    ".reloc .Ltcp48+668,R_AARCH64_CALL26,.Ltcp23+0\n"
     ".section .text.tcp.49,\"ax\",%progbits\n"
     ".balign 4\n"
     ".Ltcp49:\n"
-    ".globl tcp_c_connection_arrive\n"
-    ".hidden tcp_c_connection_arrive\n"
-    ".type tcp_c_connection_arrive,%function\n"
-    ".size tcp_c_connection_arrive,3620\n"
-    "tcp_c_connection_arrive:\n"
-    ".inst 0xd103c3ff,0xd28e8d8b,0xa90e4ff4,0xf100009f,0xf2ac2e8b,0xa9404c09,0xf2ca0a4b,0x52820008,0xa90b67fa,0xf2eec86b\n"
-    ".inst 0x9a9f0108,0xa9097bfd,0xeb0b013f,0xa90a6ffc,0x910243fd,0x9a9f027a,0xa90c5ff8,0xa90d57f6,0xa9007c1f,0x54000201\n"
-    ".inst 0x394ae269,0xb9400056,0xb9400074,0xb81bc3bf,0x7100053f,0x540001c1,0x2a1f03e8,0x2a1f03e9,0xaa1f03f4,0x2a1f03ea\n"
-    ".inst 0x2a1f03f7,0x2a1f03f8,0xa9004c0b,0x52800740,0x14000165,0x6f00e400,0x528003e0,0xad0000c0,0x14000165,0x3940c278\n"
-    ".inst 0x8b08009b,0x71002b1f,0x54000081,0xf10038bf,0x54000122,0x1400000a,0x121f1b08,0x7100211f,0x540000e1,0xf10038bf\n"
-    ".inst 0x540000a3,0xf940a268,0xb4000068,0x39403768,0x371005e8,0xd2e80008,0x6f00e400,0xf9416269,0xeb08003f,0xf81f03bf\n"
-    ".inst 0x9a883028,0xa9029be0,0xeb09011f,0x9a898103,0xf10050bf,0xad3e83a0,0x3c9c03a0,0x54000062,0x52800028,0x1400006e\n"
-    ".inst 0x529ffd68,0xeb0800bf,0x54000069,0x52800048,0x14000069,0xf103fcbf,0x54000448,0x6f00e401,0xaa0503e9,0xaa1b03e8\n"
-    ".inst 0x3cc10502,0xd1004129,0xf1003d3f,0x4e618441,0x6f181440,0x54ffff68,0x4f185402,0x927c0caa,0xd100414a,0xcb0a00ab\n"
-    ".inst 0x6e628421,0xf100616b,0x2f18a422,0x6f18a421,0x6e601021,0x2e601040,0x4ea18400,0x4eb1b800,0x5400028a,0x2a1f03ea\n"
-    ".inst 0x1400001c,0x2a1f03e8,0x2a1f03e9,0xaa1f03f4,0x2a1f03ea,0x2a1f03f7,0x2a1f03f8,0xa9004c0b,0x52800760,0x1400011a\n"
-    ".inst 0xaa1b03e0,0xaa0503e1,0xaa0303f7,0xaa0503f5,0x94000000,0xaa1503e5,0xaa1703e3,0x14000023,0xf9400108,0xdac00d08\n"
-    ".inst 0x12003d09,0xd360fd0c,0x8b48c129,0xb484128,0x8b0a0369,0xb2c210a,0x91006128,0xaa0b03e9,0xf100112c,0x54000062\n"
-    ".inst 0x2a1f03eb,0x14000006,0xb8404509,0x5ac00929,0x53107d2b,0xb29216b,0xaa0c03e9,0x1e26000c,0xf100092e,0x54000062\n"
-    ".inst 0x2a1f03ed,0x14000004,0x78402509,0x5ac0052d,0xaa0e03e9,0xb0c014a,0xb0d016b,0xf100053f,0xb0b0140,0x54000061\n"
-    ".inst 0x39400108,0xb082000,0x4e040ec0,0x90000008,0x4e040e81,0x3dc00102,0x90000008,0x5ac00a8a,0x6ea24403,0x6ea24422\n"
-    ".inst 0x4e825862,0x6e026043,0x4e831842,0x3dc00103,0x5ac00ac8,0x4e231c42,0x4eb1b842,0x1e260049,0xb484128,0xb4a4009\n"
-    ".inst 0xb0800a8,0xb090108,0x320083e9,0x11001908,0xb084108,0x4b0803e8,0x6b09011f,0x54000769,0x52800068,0xb940e269\n"
-    ".inst 0x2a1f03eb,0x2a1f03ea,0x2a1f03fc,0x2a1f03f9,0x2a1f03f5,0xb9003bff,0xaa1f03f4,0x2a1f03f7,0x2a1f03ec,0x2a1f03f8\n"
-    ".inst 0x2a1f03fb,0xaa1f03ed,0xf9402262,0xb40001e2,0xf9413e6e,0xb50001ae,0xb942926e,0x3400016e,0xf940f26f,0xf941026e\n"
-    ".inst 0xeb0e01ff,0x540000e2,0xa95ec26f,0xeb0f01df,0x9a8f81ce,0xeb1001df,0x9a9031ce,0xf901126e,0x3948c34e,0x710005df\n"
-    ".inst 0x540006c1,0xf9411e6e,0xeb0201df,0x54000668,0xf941226e,0xd2c02010,0x39482351,0x9108c34f,0xeb0e006e,0xa9007dff\n"
-    ".inst 0x9a8e33ee,0xf90009ff,0xeb1001df,0x9a9031ce,0x34000311,0xf9410a6f,0xf9410e70,0xeb0e01f1,0xcb0f01ce,0x8b100610\n"
-    ".inst 0xda918631,0x8b0f0dce,0x8b10022f,0xd343fdce,0xd342fdef,0x1400000e,0x3940336a,0x52800088,0x7101415f,0x54fff883\n"
-    ".inst 0xd344fd4b,0xd37ef575,0xeb1500a9,0x54fff803,0x7100157f,0x54001581,0xd10052a8,0x140000c7,0xd341fdcf,0x52800030\n"
-    ".inst 0xd37ef5f1,0xf9010750,0xf940fe70,0xf9010a6e,0xf9010e6f,0xeb10023f,0x9a908230,0xa95ec672,0x8b0e0210,0xeb12021f\n"
-    ".inst 0x9a928210,0xeb11021f,0x9a91320e,0xf901126e,0x394a834e,0xf10001bf,0x1a8e03ef,0xa0f018f,0x710005ff,0x54000421\n"
-    ".inst 0x3948226d,0x710005bf,0x540001c1,0xf9410e6d,0xf940fe6f,0xf9410a70,0xd37ef5ad,0xeb0f01bf,0x9a8f81ad,0xa95ebe71\n"
-    ".inst 0x8b1001ad,0xeb1101bf,0x9a9181ad,0xeb0f01bf,0x9a8f31ad,0xf901126d,0x6f00e400,0x9109226f,0x3d8001e0,0x7100019f\n"
-    ".inst 0x1a8e13ec,0x390a834c,0x370003ca,0x3400042b,0x6f00e400,0x910aa26a,0x3d800140,0x3940c26a,0x121f194b,0x7100097f\n"
-    ".inst 0x540004e0,0x1400001d,0xf10001bf,0x1a9f17ed,0xf100005f,0x1a8d03ef,0xa0f018f,0x710005ff,0x54000141,0x6f00e400\n"
-    ".inst 0x5280002d,0xb902927f,0x3d80a260,0x7100019f,0x1a8e11ac,0x390a834c,0x3607fd2a,0x14000005,0x7100019f,0x1a8e11ac\n"
-    ".inst 0x390a834c,0x3607fc8a,0x6f00e400,0x9109a26a,0x3d800140,0x35fffc2b,0x3940c26a,0x121f194b,0x7100097f,0x54000140\n"
-    ".inst 0x5280002c,0x5280760d,0x2a1f03eb,0x1aca218c,0x6a0d019f,0x540000a0,0xf940266c,0xeb0c005f,0x54000822,0x5280002b\n"
-    ".inst 0x5280002c,0x528089ed,0x2a1f03e9,0x1aca218c,0x6a0d019f,0x54000081,0xf9405269,0xf100013f,0x1a9f07e9,0x2a0803f6\n"
-    ".inst 0x7100195f,0x540000a1,0xf940a268,0xf100011f,0x1a9f17e8,0x14000002,0x2a1f03e8,0x7100295f,0x381bd3a9,0x91068260\n"
-    ".inst 0x1a9f17e9,0xd10113a1,0x381bc3ab,0x381be3a9,0x381bf3a8,0x94000000,0xd28e8d89,0x51000788,0xf2ac2e89,0x7100091f\n"
-    ".inst 0xf94017e8,0xf2ca0a49,0xf2eec869,0xa9006909,0x540000a2,0xf9401be6,0xb9403be9,0x528006e8,0x14000006,0xf9401be6\n"
-    ".inst 0xb9403be9,0x2a1603e0,0x3400009c,0x2a1f03e8,0x7100079f,0x1a881500,0x12001d29,0x710002bf,0x12000328,0x1a8907e9\n"
-    ".inst 0x12001f6a,0x290024c8,0xf90004d4,0x29025cca,0x29037cd8,0xa94e4ff4,0xa94d57f6,0xa94c5ff8,0xa94b67fa,0xa94a6ffc\n"
-    ".inst 0xa9497bfd,0x9103c3ff,0xd65f03c0,0x7100195f,0x2a1f03eb,0x54fff7e0,0xeb0c005f,0x54fff7a1,0xf9402a6b,0xf940366c\n"
-    ".inst 0x9100056b,0xeb0b004b,0x9a8b33eb,0x7100013f,0xfa4b0180,0x1a9f97eb,0x17ffffb4,0x9100536b,0xd10052a8,0x928004ed\n"
-    ".inst 0xd10052ac,0x14000005,0xb10005ad,0x8b0e016b,0xcb0e018c,0x540001c2,0xb400028c,0x3940016e,0x710005df,0x54ffff20\n"
-    ".inst 0x3400014e,0xf100059f,0x54000100,0x3940056e,0xf10009df,0x540000a3,0xeb0e019f,0x54fffe22,0x14000002,0xb40000ec\n"
-    ".inst 0xaa1f03ed,0x386d696e,0x350017ce,0x910005ad,0xeb0d019f,0x54ffff81,0x2940bb6d,0x39400b6f,0x39400f70,0x12000d4a\n"
-    ".inst 0x3940076b,0x39403762,0x39403f71,0x5ac009bc,0x9000000d,0x5ac009d9,0x3dc001a2,0x39403b6e,0xd370bded,0x381c03ab\n"
-    ".inst 0x3940036c,0x7940276f,0x6ea24421,0x6ea24400,0xd3481dce,0xaa1021ad,0xaa0a8330,0x2a1c618c,0xaa11c1ca,0x5ac009ee\n"
-    ".inst 0x53087f92,0xe612821,0xaa02a20b,0x53187f80,0x2a0d018c,0x53107dce,0x781c53b2,0xaa0b014b,0xb81c13ac,0x8b15036c\n"
-    ".inst 0xf81c83ab,0x9100536b,0xe001821,0xa93da3ab,0xe612800,0xb940026b,0x381c73a0,0x781d03ae,0x781d23bf,0x1e260028\n"
-    ".inst 0xb81d43bf,0xa93ea7ac,0xf9000ffb,0x6b08017f,0x540000c1,0xd348fda8,0x79400a6b,0x6b08017f,0x1a9f07e8,0x14000002\n"
-    ".inst 0x52800028,0xe001800,0xb940366b,0xd370fd52,0x1e26000c,0x6b0c017f,0x540000c1,0x785c03aa,0x7940726b,0x6b0b015f\n"
-    ".inst 0x1a9f07ea,0x14000002,0x5280002a,0x7100071f,0x1a8a93ea,0x2a0a0108,0x360004a8,0x2a1f03e1,0xaa1a03ee,0x2a1f03f7\n"
-    ".inst 0xf8450dcf,0x12001c34,0xb9003be1,0x7100469f,0xf90013ef,0x54001fa2,0xaa1503fc,0xaa0303f5,0xd10103a3,0xaa1303e0\n"
-    ".inst 0xaa0203fb,0x2a1603e2,0xaa0e03f9,0xaa0503f6,0x94000000,0x7100229f,0x52800028,0x529f4bc9,0x1a9f17ee,0x7200037f\n"
-    ".inst 0x1ad42108,0xfa5c02c0,0x5280007c,0x72a00029,0x1a9c03fb,0x6a09011f,0xaa1503e3,0x54000360,0xb9403bec,0xf94013eb\n"
-    ".inst 0x5280005c,0xaa1903ea,0x1400001e,0x51000f08,0x7100211f,0x54000b62,0x5301044a,0x12000048,0xb9413a6c,0xb941426d\n"
-    ".inst 0xb090109,0xb940f66e,0xb0a0130,0xa9442a69,0x4b0d018f,0xb9400a6b,0x2a1001f1,0x34000b31,0x34000b70,0x6b0d019f\n"
-    ".inst 0x54000b61,0x37100f62,0x37200d62,0x14000095,0x52800028,0x5280b409,0xb9403bec,0x1ad42108,0xf94013eb,0xaa1903ea\n"
-    ".inst 0x6a09011f,0x54000ee0,0x12001d88,0x52800029,0x1ac82128,0x529b6d89,0x72a00029,0x6a09011f,0x54000060,0x5280002d\n"
-    ".inst 0x14000002,0x2a1f03ed,0xf9400148,0xb940e269,0xeb0b0108,0x9a8833f4,0x71002b1f,0x54000161,0x12001d88,0x5280002b\n"
-    ".inst 0x2a1f03ea,0x1ac82168,0x12004108,0x7216791f,0x540000a1,0xf9400fe8,0x3940350a,0x14000002,0x2a1f03ea,0x12001d88\n"
-    ".inst 0x5280002b,0x1ac82168,0x12004108,0x7216791f,0x540002c0,0x2a0d03f9,0x3400012e,0x2a1f03f5,0x52800028,0x2a1503eb\n"
-    ".inst 0x52800035,0x5280002c,0x52800038,0xaa0903ed,0x17fffe50,0x2a1f03eb,0x2a1f03ec,0x2a1f03f8,0xaa1f03ed,0x52800028\n"
-    ".inst 0x52800035,0x17fffe49,0xf10001bf,0x528000a8,0x1a880508,0x17fffe38,0x72001f7f,0x52800035,0x2a0d03f9,0x1a9f05cb\n"
-    ".inst 0x3707fd4e,0x2a1f03ec,0x2a1f03f8,0xaa1f03ed,0x52800028,0x17fffe3b,0x71000b1f,0x54000700,0x7100071f,0x540008a1\n"
-    ".inst 0x37100582,0x37200bc2,0x721f005f,0x52800088,0x1a880501,0x17ffff77,0x6b0e039f,0x54000180,0x14000010,0x4b0e0390\n"
-    ".inst 0x14000007,0x4b0e0391,0x6b0f023f,0x540000c3,0x2a2e03f1,0xb1c0210,0xb110210,0x6b0f021f,0x540000c2,0x37100362\n"
-    ".inst 0x370806c2,0x372006e2,0x528001a1,0x17ffff65,0x37100282,0x52800121,0x3627ec42,0x6b0d019f,0x54ffec01,0x37080562\n"
-    ".inst 0xb09016b,0xd2c0002d,0x4b0b032b,0x8b0b012c,0xeb0d018d,0x9a8d33ed,0x7100017f,0x9a8c41ab,0x71000f1f,0x54000681\n"
-    ".inst 0xeb0a017f,0x54000781,0x52800241,0x1400002e,0x52800021,0x17ffff4f,0x6b0e039f,0x52800148,0x1a880501,0x17ffff4b\n"
-    ".inst 0x2a1f03ed,0x5280003c,0x17ffff92,0xaa1303e0,0x2a1903e1,0xaa0203fb,0xf9001ff5,0xaa0303f5,0xaa0503f4,0xaa1203f7\n"
-    ".inst 0x94000000,0xaa1503e3,0xf9401ff5,0xaa1703f2,0xaa1b03e2,0xaa1403e5,0x2a0003e1,0x17ffff39,0x721e005f,0x52800028\n"
-    ".inst 0x1a881501,0x17ffff35,0x52800121,0x17ffff33,0x52800181,0x17ffff31,0xb09016b,0xd2c0002d,0x4b0b032b,0x8b0b012c\n"
-    ".inst 0xeb0d018d,0x9a8d33ed,0x7100017f,0x9a8c41ab,0x71000f1f,0x54000181,0xeb0a017f,0x54000201,0x52800221,0xaa0a03eb\n"
-    ".inst 0x14000010,0xeb0b015f,0x540000e3,0x52800241,0x1400000c,0x52800061,0x17ffff1c,0xeb0b015f,0x540000e2,0x528001c1\n"
-    ".inst 0x17ffff18,0x52800201,0x17ffff16,0x528001e1,0x17ffff14,0x52800221,0xaa1a03ee,0xf940366d,0xf8450dcf,0x910005ec\n"
-    ".inst 0xeb0c014a,0x3940f66c,0x9a8a33ea,0xeb0a01bf,0x9a8a31aa,0xeb1500bf,0x7a400900,0x1acc2248,0xb940e26c,0xfa400944\n"
-    ".inst 0xfa491160,0x7a4c0100,0x1a9f17f7,0x12001c34,0xb9003be1,0x7100469f,0xf90013ef,0x54ffe0a3,0x71004a9f,0xf9000bee\n"
-    ".inst 0x54000221,0xaa0203fb,0xaa0503f6,0xaa0303f4,0x71000f1f,0x540003a1,0x3940f66a,0x3940ca69,0xf9402668,0x291ce67c\n"
-    ".inst 0x1aca224a,0x321e0129,0xf9002268,0x3900c269,0xb900e26a,0x3906027f,0x14000013,0xf940af48,0x71000f1f,0xaa0203f6\n"
-    ".inst 0xaa0503f4,0xa9000fe8,0x54000441,0x3940f66a,0x3940ca69,0xf9402668,0x291ce67c,0x1aca224a,0x321e0129,0xf9002268\n"
-    ".inst 0x3900c269,0xb900e26a,0x3906027f,0x14000018,0xf9402268,0xb9400a69,0xd2c0002a,0x91010340,0xb080129,0x4b090329\n"
-    ".inst 0x8b090108,0xeb0a010a,0x9a8a33ea,0x7100013f,0x9a884141,0x94000000,0xd10103a1,0xaa1303e0,0x94000000,0x2a0003f9\n"
-    ".inst 0xaa1303e0,0x94000000,0x39460748,0x360003e8,0x52800028,0x14000020,0xf9402268,0xb9400a69,0xd2c0002a,0x91010340\n"
-    ".inst 0xb080129,0x4b090329,0x8b090108,0xeb0a010a,0x9a8a33ea,0x7100013f,0x9a884141,0x94000000,0xd10103a1,0xaa1303e0\n"
-    ".inst 0x94000000,0x2a0003f9,0xaa1303e0,0x94000000,0xd10103a1,0xaa1303e0,0x94000000,0x2a0003fb,0xd10103a1,0xaa1303e0\n"
-    ".inst 0x94000000,0x36000240,0x5280003b,0x14000013,0x3940c268,0x7100011f,0x1a9f07e8,0x39060748,0x7200037f,0xb9403bec\n"
-    ".inst 0xf9400bea,0xf94013eb,0xfa5502c0,0x5280007c,0x3946066d,0xaa1403e3,0x1a9c03fb,0x2a1903ee,0x17fffee2,0x720002df\n"
-    ".inst 0xfa550280,0x1a9b03fb,0xa940abe3,0x2a1903ee,0x39460668,0xb9403bec,0xf94013eb,0x7100051f,0x540000a1,0xf94003e8\n"
-    ".inst 0xb40000a8,0x52800028,0x14000006,0x2a1f03ed,0x14000009,0xf940af48,0xf100011f,0x1a9f07e8,0x37000096,0xeb15029f\n"
-    ".inst 0x1a8803ed,0x14000002,0x5280002d,0x5280007c,0x17fffec8\n"
-    ".reloc .Ltcp49+456,R_AARCH64_CALL26,.Ltcp1+0\n"
-    ".reloc .Ltcp49+612,R_AARCH64_ADR_PREL_PG_HI21,.Ltcp9+144\n"
-    ".reloc .Ltcp49+620,R_AARCH64_LDST128_ABS_LO12_NC,.Ltcp9+144\n"
-    ".reloc .Ltcp49+624,R_AARCH64_ADR_PREL_PG_HI21,.Ltcp9+160\n"
-    ".reloc .Ltcp49+652,R_AARCH64_LDST128_ABS_LO12_NC,.Ltcp9+160\n"
-    ".reloc .Ltcp49+1460,R_AARCH64_CALL26,.Ltcp23+0\n"
-    ".reloc .Ltcp49+1816,R_AARCH64_ADR_PREL_PG_HI21,.Ltcp9+176\n"
-    ".reloc .Ltcp49+1824,R_AARCH64_LDST128_ABS_LO12_NC,.Ltcp9+176\n"
-    ".reloc .Ltcp49+2136,R_AARCH64_CALL26,.Ltcp18+0\n"
-    ".reloc .Ltcp49+2840,R_AARCH64_CALL26,.Ltcp3+0\n"
-    ".reloc .Ltcp49+3300,R_AARCH64_CALL26,.Ltcp4+0\n"
-    ".reloc .Ltcp49+3312,R_AARCH64_CALL26,.Ltcp5+0\n"
-    ".reloc .Ltcp49+3324,R_AARCH64_CALL26,.Ltcp11+0\n"
-    ".reloc .Ltcp49+3388,R_AARCH64_CALL26,.Ltcp4+0\n"
-    ".reloc .Ltcp49+3400,R_AARCH64_CALL26,.Ltcp5+0\n"
-    ".reloc .Ltcp49+3412,R_AARCH64_CALL26,.Ltcp11+0\n"
-    ".reloc .Ltcp49+3424,R_AARCH64_CALL26,.Ltcp12+0\n"
-    ".reloc .Ltcp49+3440,R_AARCH64_CALL26,.Ltcp17+0\n"
+    ".globl tcp_c_connection_acknowledge\n"
+    ".hidden tcp_c_connection_acknowledge\n"
+    ".type tcp_c_connection_acknowledge,%function\n"
+    ".size tcp_c_connection_acknowledge,588\n"
+    "tcp_c_connection_acknowledge:\n"
+    ".inst 0xa9bd7bfd,0xa9024ff4,0xd28e8d94,0x910003fd,0xf9000bf5,0xf2ac2e94,0xa9405408,0xf2ca0a54,0xf2eec874,0xa9007c1f\n"
+    ".inst 0xeb14011f,0x54000521,0xd2e80009,0xf94162aa,0x3940c2a8,0xeb09003f,0xaa0003f3,0x9a893029,0x5100110b,0xeb0a013f\n"
+    ".inst 0x9a8a8123,0x394606a9,0x71000d7f,0x1a9f27ea,0x121f190b,0x2a090149,0x7100097f,0x390606a9,0x54000140,0x5280002a\n"
+    ".inst 0x5280760b,0x2a1f03e9,0x1ac8214a,0x6a0b015f,0x540000a0,0xa9442eaa,0xeb0b015f,0x54000682,0x52800029,0x5280002b\n"
+    ".inst 0x528089ec,0x2a1f03ea,0x1ac8216b,0x6a0c017f,0x540001a0,0x7100191f,0x54000221,0xf940a2ab,0xf100017f,0x52a0200b\n"
+    ".inst 0x1a9f016b,0x1400000d,0x528003e0,0xa9424ff4,0xf9400bf5,0xa8c37bfd,0xd65f03c0,0xf94052aa,0xf100015f,0x5280200a\n"
+    ".inst 0x1a8a03ea,0x7100191f,0x54fffe20,0x2a1f03eb,0xf94022a2,0x7100291f,0x52a0002c,0x2a0a012d,0xf9413eae,0x1a9f018c\n"
+    ".inst 0x2a0b01ad,0x2a0c01ac,0xeb0e005f,0xb9001fac,0x540007c1,0x394922ac,0x7100059f,0x1a9f07ec,0x6b09019f,0x54000720\n"
+    ".inst 0x394a02ac,0x7100059f,0x540002e0,0x370002c9,0xb94292a9,0x35000669,0x394a52a9,0x360002a9,0x14000030,0x7100191f\n"
+    ".inst 0x2a1f03e9,0x54fff980,0xeb0b015f,0x54fff941,0xf9402aa9,0xf94036ab,0x91000529,0xeb090149,0x9a8933e9,0xeb09017f\n"
+    ".inst 0x540005a9,0xb940e2a9,0x7100013f,0x1a9f17e9,0x17ffffbf,0x7100059f,0x540003c1,0x340003a9,0x394962a9,0x7100015f\n"
+    ".inst 0x1a9f07ea,0x7100053f,0x1a9f07e9,0x6b09015f,0x540002c0,0x3949a2a9,0x7100291f,0x1a9f17e8,0x7100053f,0x1a9f07e9\n"
+    ".inst 0x6b09011f,0x540001e0,0x394aa2a8,0x7100017f,0x1a9f07e9,0x7100051f,0x1a9f07e8,0x6b08013f,0x54000100,0xf90162a3\n"
+    ".inst 0x2a1f03e0,0xa9005674,0xa9424ff4,0xf9400bf5,0xa8c37bfd,0xd65f03c0,0x910682a0,0x910073a1,0x94000000,0x2a1f03e0\n"
+    ".inst 0xa9005674,0xa9424ff4,0xf9400bf5,0xa8c37bfd,0xd65f03c0,0x2a1f03e9,0x17ffff95\n"
+    ".reloc .Ltcp49+552,R_AARCH64_CALL26,.Ltcp23+0\n"
     ".section .text.tcp.50,\"ax\",%progbits\n"
     ".balign 4\n"
     ".Ltcp50:\n"
-    ".globl tcp_c_connection_close\n"
-    ".hidden tcp_c_connection_close\n"
-    ".type tcp_c_connection_close,%function\n"
-    ".size tcp_c_connection_close,532\n"
-    "tcp_c_connection_close:\n"
-    ".inst 0xa9bc7bfd,0xa90257f6,0xd28e8d96,0x910003fd,0xa9034ff4,0xf2ac2e96,0xa9405008,0xf2ca0a56,0xf2eec876,0xf9000bf7\n"
-    ".inst 0xa9007c1f,0xeb16011f,0x54000401,0x3940c688,0xf9416297,0xaa0003f3,0x340007e8,0x528001d5,0x3940c288,0x121f1909\n"
-    ".inst 0x7100093f,0x54000140,0x5280002a,0x5280760b,0x2a1f03e9,0x1ac8214a,0x6a0b015f,0x540000a0,0xa9442e8a,0xeb0b015f\n"
-    ".inst 0x54000722,0x52800029,0x5280002b,0x528089ec,0x2a1f03ea,0x1ac8216b,0x6a0c017f,0x540001c0,0x7100191f,0x54000221\n"
-    ".inst 0xf940a28b,0xf100017f,0x1a9f17eb,0x1400000e,0x528003f5,0x2a1503e0,0xa9434ff4,0xa94257f6,0xf9400bf7,0xa8c47bfd\n"
-    ".inst 0xd65f03c0,0xf940528a,0xf100015f,0x1a9f07ea,0x7100191f,0x54fffe20,0x2a1f03eb,0xd2e8000c,0xf9402282,0x91068280\n"
-    ".inst 0xeb0c003f,0x390073a9,0x9a8c302c,0x910073a1,0x390077aa,0xeb17019f,0x39007fab,0x9a978183,0x7100291f,0x1a9f17e8\n"
-    ".inst 0x39007ba8,0x94000000,0xa9005276,0x2a1503e0,0xa9434ff4,0xa94257f6,0xf9400bf7,0xa8c47bfd,0xd65f03c0,0x3940c288\n"
-    ".inst 0x340000a8,0x3940ca89,0x360002a9,0x528001b5,0x17ffffbe,0x52800175,0x17ffffbc,0x7100191f,0x2a1f03e9,0x54fff8e0\n"
-    ".inst 0xeb0b015f,0x54fff8a1,0xf9402a89,0xf940368b,0x91000529,0xeb090149,0x9a8933e9,0xeb09017f,0x540001e9,0xb940e289\n"
-    ".inst 0x7100013f,0x1a9f17e9,0x17ffffba,0x52800029,0x7100291f,0x3900ca89,0x54000288,0x1ac82129,0x5280ed0a,0x6a0a013f\n"
-    ".inst 0x540000a0,0x2a1f03f5,0x17ffffa2,0x2a1f03e9,0x17ffffae,0x7100111f,0x54000081,0x2a1f03f5,0x528000a8,0x14000005\n"
-    ".inst 0x71001d1f,0x540000a1,0x2a1f03f5,0x52800128,0x3900c288,0x17ffff95,0xaa1403e0,0xaa0103f5,0x52800061,0x94000000\n"
-    ".inst 0xaa1503e1,0x2a1f03f5,0x17ffff8e\n"
-    ".reloc .Ltcp50+284,R_AARCH64_CALL26,.Ltcp23+0\n"
-    ".reloc .Ltcp50+516,R_AARCH64_CALL26,.Ltcp0+0\n"
+    ".globl tcp_c_connection_arrive\n"
+    ".hidden tcp_c_connection_arrive\n"
+    ".type tcp_c_connection_arrive,%function\n"
+    ".size tcp_c_connection_arrive,4000\n"
+    "tcp_c_connection_arrive:\n"
+    ".inst 0xd10403ff,0xa90c67fa,0xd28e8d99,0xf100009f,0xa90f4ff4,0xf2ac2e99,0x52820008,0xa9404c09,0xf2ca0a59,0xf2eec879\n"
+    ".inst 0x9a9f0108,0xa90a7bfd,0xa90b6ffc,0x910283fd,0xeb19013f,0xa90d5ff8,0x9a9f027a,0xa90e57f6,0xa9007c1f,0x540001a1\n"
+    ".inst 0x394ae269,0x7100053f,0x540001c1,0x2a1f03e8,0x2a1f03e9,0xaa1f03f5,0x2a1f03ea,0x2a1f03fc,0x2a1f03fb,0xa9004c19\n"
+    ".inst 0x52800740,0x140001bd,0x6f00e400,0x528003e0,0xad0000c0,0x140001bd,0x3940c26e,0xb9400042,0x8b08008d,0xb9400075\n"
+    ".inst 0x710029df,0x54000081,0xf10038bf,0x54000122,0x1400000a,0x121f19c8,0x7100211f,0x540000e1,0xf10038bf,0x540000a3\n"
+    ".inst 0xf940a268,0xb4000068,0x394035a8,0x371005e8,0xd2e80008,0x6f00e400,0xf9416269,0xeb08003f,0xf81f03bf,0x9a883028\n"
+    ".inst 0xeb09011f,0x9a898103,0xf10050bf,0xad3e83a0,0x3c9c03a0,0x54000062,0x52800028,0x14000078,0x529ffd68,0xeb0800bf\n"
+    ".inst 0x54000069,0x52800048,0x14000073,0xf103fcbf,0xb81b43ae,0x54000448,0x6f00e401,0xaa0503e8,0xaa0d03e9,0x3cc10522\n"
+    ".inst 0xd1004108,0xf1003d1f,0x4e618441,0x6f181440,0x54ffff68,0x4f185402,0x927c0caa,0xd100414a,0xcb0a00ab,0x6e628421\n"
+    ".inst 0xf100616b,0x2f18a422,0x6f18a421,0x6e601021,0x2e601040,0x4ea18400,0x4eb1b800,0x5400038a,0x2a1f03ea,0x14000024\n"
+    ".inst 0x2a1f03e8,0x2a1f03e9,0xaa1f03f5,0x2a1f03ea,0x2a1f03fc,0x2a1f03fb,0xa9004c19,0x52800760,0x14000170,0xaa0003f7\n"
+    ".inst 0xaa0d03e0,0xaa0503e1,0xaa0d03fb,0xaa0603f8,0xaa0303f6,0xaa0503fc,0x2a0203f4,0x94000000,0x2a1403e2,0xaa1c03e5\n"
+    ".inst 0xaa1603e3,0xaa1803e6,0x2a0003e8,0xaa1703e0,0x14000024,0xf9400128,0xdac00d08,0x12003d09,0xd360fd0c,0x8b48c129\n"
+    ".inst 0xb484128,0x8b0a01a9,0x91006129,0xb2c210a,0xaa0b03e8,0xf100110c,0x54000062,0x2a1f03eb,0x14000006,0xb8404528\n"
+    ".inst 0x5ac00908,0x53107d0b,0xb28216b,0xaa0c03e8,0x1e26000c,0xf100090e,0xaa0d03fb,0x54000062,0x2a1f03ed,0x14000004\n"
+    ".inst 0x78402528,0x5ac0050d,0xaa0e03e8,0xb0c014a,0xb0d016b,0xf100051f,0xb0b0148,0x54000061,0x39400129,0xb092108\n"
+    ".inst 0x4e040c40,0x90000009,0x4e040ea1,0x3dc00122,0x90000009,0x5ac00aab,0xb4b4108,0x6ea24403,0x6ea24422,0x4e825862\n"
+    ".inst 0x6e026043,0x4e831842,0x3dc00123,0x5ac00849,0x4e231c42,0x4eb1b842,0x1e26004a,0xb494149,0xb0900a9,0xb080128\n"
+    ".inst 0x320083e9,0x11001908,0xb084108,0x4b0803e8,0x6b09011f,0x54000789,0x52800068,0xb9004be8,0xb940e268,0x2a1f03ea\n"
+    ".inst 0x2a1f03e9,0x2a1f03e7,0x2a1f03e5,0x2a1f03f6,0x2a1f03e1,0xaa1f03f5,0x2a1f03fc,0x2a1f03ec,0x2a1f03fb,0x2a1f03e4\n"
+    ".inst 0xaa1f03ed,0xf9402262,0xf9413e6b,0xb40001c2,0xb50001ab,0xb942926e,0x3400016e,0xf940f26f,0xf941026e,0xeb0e01ff\n"
+    ".inst 0x540000e2,0xa95ec26f,0xeb0f01df,0x9a8f81ce,0xeb1001df,0x9a9031ce,0xf901126e,0x3948c34e,0x710005df,0x54000721\n"
+    ".inst 0xf9411e6e,0xeb0201df,0x540006c8,0xf941226e,0xd2c02010,0x39482351,0x9108c34f,0xeb0e006e,0xa9007dff,0x9a8e33ee\n"
+    ".inst 0xf90009ff,0xeb1001df,0x9a9031ce,0x34000371,0xf9410a6f,0xf9410e70,0xeb0e01f1,0xcb0f01ce,0x8b100610,0xda918631\n"
+    ".inst 0x8b0f0dce,0x8b10022f,0xd343fdce,0xd342fdef,0x14000011,0x3940336a,0x52800088,0xb9004be8,0x7101415f,0x54fff863\n"
+    ".inst 0xd344fd49,0xd37ef524,0xeb0400a8,0x54fff7e3,0xaa1b03f4,0x7100153f,0x54001d01,0xb85b43bb,0xd1005089,0x14000103\n"
+    ".inst 0xd341fdcf,0x52800030,0xd37ef5f1,0xf9010750,0xf940fe70,0xf9010a6e,0xf9010e6f,0xeb10023f,0x9a908230,0xa95ec672\n"
+    ".inst 0x8b0e0210,0xeb12021f,0x9a928210,0xeb11021f,0x9a91320e,0xf901126e,0x394a834e,0xf10001bf,0x1a8e03ef,0xa0f018f\n"
+    ".inst 0x710005ff,0x54000421,0x3948226d,0x710005bf,0x540001c1,0xf9410e6d,0xf940fe6f,0xf9410a70,0xd37ef5ad,0xeb0f01bf\n"
+    ".inst 0x9a8f81ad,0xa95ebe71,0x8b1001ad,0xeb1101bf,0x9a9181ad,0xeb0f01bf,0x9a8f31ad,0xf901126d,0x6f00e400,0x9109226f\n"
+    ".inst 0x3d8001e0,0x7100019f,0x1a8e13ec,0x390a834c,0x370003c9,0x3400042a,0x6f00e400,0x910aa269,0x3d800120,0x3940c269\n"
+    ".inst 0x121f192a,0x7100095f,0x540004e0,0x1400001d,0xf10001bf,0x1a9f17ed,0xf100005f,0x1a8d03ef,0xa0f018f,0x710005ff\n"
+    ".inst 0x54000141,0x6f00e400,0x5280002d,0xb902927f,0x3d80a260,0x7100019f,0x1a8e11ac,0x390a834c,0x3607fd29,0x14000005\n"
+    ".inst 0x7100019f,0x1a8e11ac,0x390a834c,0x3607fc89,0x6f00e400,0x9109a269,0x3d800120,0x35fffc2a,0x3940c269,0x121f192a\n"
+    ".inst 0x7100095f,0x54000140,0x5280002c,0x5280760d,0x2a1f03ea,0x1ac9218c,0x6a0d019f,0x540000a0,0xf940266c,0xeb0c005f\n"
+    ".inst 0x54000562,0x5280002a,0x5280002c,0x528089ed,0x2a1f03e8,0x1ac9218c,0x6a0d019f,0x540000a1,0xf9405268,0xf100011f\n"
+    ".inst 0x52802008,0x1a8803e8,0x7100193f,0x540000c1,0xf940a26c,0xf100019f,0x52a0200c,0x1a9f018c,0x14000002,0x2a1f03ec\n"
+    ".inst 0x7100293f,0x52a0002d,0x2a08014e,0x1a9f01ad,0x2a0c01ce,0xeb0b005f,0x2a0d01cd,0xb81c03ad,0x540006e1,0x3949226b\n"
+    ".inst 0x7100057f,0x1a9f07eb,0x6b0a017f,0x54000640,0x394a026b,0x7100057f,0x540002a0,0x3700028a,0xb942926a,0x3500058a\n"
+    ".inst 0x394a526a,0x3600026a,0x14000029,0x7100193f,0x2a1f03ea,0x54fffaa0,0xeb0c005f,0x54fffa61,0xf9402a6a,0xf940366c\n"
+    ".inst 0x9100054a,0xeb0a004a,0x9a8a33ea,0x7100011f,0xfa4a0180,0x1a9f97ea,0x17ffffca,0x7100057f,0x54000321,0x3400030a\n"
+    ".inst 0x3949626a,0x7100011f,0x1a9f07e8,0x7100055f,0x1a9f07ea,0x6b0a011f,0x54000220,0x3949a268,0x7100293f,0x1a9f17e9\n"
+    ".inst 0x7100051f,0x1a9f07e8,0x6b08013f,0x54000140,0x394aa268,0x7100019f,0x1a9f07e9,0x7100051f,0x1a9f07e8,0x6b08013f\n"
+    ".inst 0x54000060,0xf9016263,0x1400001c,0xb81b43b6,0xaa0003f6,0x91068260,0x2a0103f7,0xd10103a1,0xaa0603f3,0x2a0403f9\n"
+    ".inst 0x2a0503f8,0xaa1503f4,0xaa1a03f5,0x2a1c03fa,0x2a0703fc,0x94000000,0x2a1903e4,0xd28e8d99,0xaa1603e0,0xf2ac2e99\n"
+    ".inst 0xb85b43b6,0x2a1c03e7,0xf2ca0a59,0x2a1a03fc,0xaa1503fa,0xaa1403f5,0x2a1803e5,0xf2eec879,0x2a1703e1,0xaa1303e6\n"
+    ".inst 0x510004e8,0xa9006819,0x7100091f,0x54000062,0x528006e8,0x14000004,0xb9404be0,0x34000087,0x2a1f03e8,0x710004ff\n"
+    ".inst 0x1a881500,0x12001c29,0x710002df,0x120000a8,0x1a8907e9,0x12001c8a,0x290024c8,0xf90004d5,0x290270ca,0x29037cdb\n"
+    ".inst 0xa94f4ff4,0xa94e57f6,0xa94d5ff8,0xa94c67fa,0xa94b6ffc,0xa94a7bfd,0x910403ff,0xd65f03c0,0xb85b43bb,0x9100528b\n"
+    ".inst 0xd1005089,0x928004ed,0xd100508c,0x14000005,0xb10005ad,0x8b0e016b,0xcb0e018c,0x540001c2,0xb400028c,0x3940016e\n"
+    ".inst 0x710005df,0x54ffff20,0x3400014e,0xf100059f,0x54000100,0x3940056e,0xf10009df,0x540000a3,0xeb0e019f,0x54fffe22\n"
+    ".inst 0x14000002,0xb40000ec,0xaa1f03ed,0x386d696e,0x3500188e,0x910005ad,0xeb0d019f,0x54ffff81,0x2940ba8d,0x39400a8f\n"
+    ".inst 0x39400e90,0x12000d4a,0x3940068b,0x39403697,0x39403e91,0x5ac009be,0x9000000d,0x5ac009c1,0x3dc001a2,0x39403a8e\n"
+    ".inst 0xd370bded,0x381c03ab,0x3940028c,0x7940268f,0x6ea24421,0x6ea24400,0xd3481dce,0xaa1021ad,0xaa0a8030,0x2a1e618c\n"
+    ".inst 0xaa11c1ca,0x5ac009ee,0x53087fd2,0xe612821,0xaa17a20b,0x53187fc7,0x2a0d018c,0x53107dce,0x781c53b2,0xaa0b014b\n"
+    ".inst 0xb81c13ac,0x8b04028c,0xf81c83ab,0x9100528b,0xe001821,0xa93da7ab,0xe612800,0xb940026b,0x381c73a7,0x781d03ae\n"
+    ".inst 0x781d23bf,0x1e260029,0xb81d43bf,0xa93ea3ac,0x6b09017f,0x540000c1,0xd348fda9,0x79400a6b,0x6b09017f,0x1a9f07e9\n"
+    ".inst 0x14000002,0x52800029,0xe001800,0xb940366b,0xd370fd52,0x1e26000c,0x6b0c017f,0x540000c1,0x785c03aa,0x7940726b\n"
+    ".inst 0x6b0b015f,0x1a9f07ea,0x14000002,0x5280002a,0x7100077f,0xf90023e4,0x1a8a93ea,0xf90017f4,0x2a0a0129,0x36000529\n"
+    ".inst 0x2a1f03ee,0xaa1a03ef,0x2a1f03fc,0xf8450df8,0x12001dd4,0xf9001fe3,0x7100469f,0xf90027f8,0x54002142,0xaa0003f5\n"
+    ".inst 0xd10103a3,0xaa1303e0,0x2a0e03e1,0xaa0f03f8,0xaa0603fb,0xb90033ee,0xaa0503f6,0x94000000,0xa943a3e3,0x7100229f\n"
+    ".inst 0x2a1403ea,0x1a9f17f4,0x720002ff,0x529f4bc9,0x52800067,0xaa1b03e6,0xfa4802c0,0x52800028,0x72a00029,0x1aca2108\n"
+    ".inst 0x1a8703e4,0xaa1503e0,0x6a09011f,0x54000380,0xb94033e1,0xb85b43bb,0x52800047,0xf94027eb,0xaa1803ea,0x1400001f\n"
+    ".inst 0x51000f69,0x7100213f,0x54000b62,0x530106ea,0x120002e9,0xb9413a6c,0xb941426d,0xb080128,0xb940f66e,0xb0a0110\n"
+    ".inst 0xa9442a68,0x4b0d018f,0xb9400a6b,0x2a1001f1,0x34000b31,0x34000b70,0x6b0d019f,0x54000b61,0x37100f77,0x37200d77\n"
+    ".inst 0x1400009d,0x52800028,0x5280b409,0xb94033e1,0x1aca2108,0xb85b43bb,0xf94027eb,0xaa1803ea,0x6a09011f,0x54000ec0\n"
+    ".inst 0x12001c28,0x52800029,0x1ac82128,0x529b6d89,0x72a00029,0x6a09011f,0x54000060,0x52800025,0x14000002,0x2a1f03e5\n"
+    ".inst 0xf9400148,0xeb0b0108,0x9a8833f5,0xb940e268,0x71002b7f,0x54000161,0x12001c2a,0x5280002b,0x2a1f03e9,0x1aca216a\n"
+    ".inst 0x1200414a,0x7216795f,0x540000a1,0xf94017e9,0x39403529,0x14000002,0x2a1f03e9,0x12001c2a,0x5280002b,0x1aca216a\n"
+    ".inst 0x1200414a,0x7216795f,0x540002c0,0x34000154,0x2a1f03f6,0x5280002a,0x5280002c,0x5280003b,0xb9004bea,0x2a1603ea\n"
+    ".inst 0x52800036,0xaa0803ed,0x17fffe0b,0x2a1f03ea,0x2a1f03ec,0x2a1f03fb,0xaa1f03ed,0xb9004beb,0x52800036,0x17fffe04\n"
+    ".inst 0xf10001bf,0x528000a8,0x1a880508,0x17fffdf2,0x72001c9f,0x52800036,0x1a9f068a,0x3707fd54,0x2a1f03ec,0x2a1f03fb\n"
+    ".inst 0xaa1f03ed,0xb9004beb,0x17fffdf7,0x71000b7f,0x54000700,0x7100077f,0x540009a1,0x37100597,0x37200cd7,0x721f02ff\n"
+    ".inst 0x52800088,0x1a88050e,0x17ffff73,0x6b0e03df,0x54000180,0x14000010,0x4b0e03d0,0x14000007,0x4b0e03d1,0x6b0f023f\n"
+    ".inst 0x540000c3,0x2a2e03f1,0xb1e0210,0xb110210,0x6b0f021f,0x540000c2,0x37100377,0x370807d7,0x372007f7,0x528001ae\n"
+    ".inst 0x17ffff61,0x37100297,0x5280012e,0x3627ebd7,0x6b0d019f,0x54ffeb81,0x37080677,0xb08016b,0xd2c0002d,0x4b0b002b\n"
+    ".inst 0x8b0b010c,0xeb0d018d,0x9a8d33ed,0x7100017f,0x9a8c41ab,0x71000f7f,0x54000781,0xeb0a017f,0x54000881,0x5280024e\n"
+    ".inst 0x14000036,0x5280002e,0x17ffff4b,0x6b0e03df,0x52800148,0x1a88050e,0x17ffff47,0x2a1f03e5,0x52800027,0x17ffff93\n"
+    ".inst 0xf90013e0,0xaa1303e0,0xaa0303f6,0xb90033e2,0x2a1703e2,0xaa0503fc,0xf90027f7,0xaa0603f7,0xaa0103f8,0xb9001bfe\n"
+    ".inst 0xaa1203f5,0x94000000,0xb9401bfe,0xb94033e2,0xaa1703e6,0xf94027f7,0x2a0003ee,0xf94013e0,0xaa1503f2,0xaa1803e1\n"
+    ".inst 0xaa1c03e5,0xaa1603e3,0x17ffff2d,0x721e02ff,0x52800028,0x1a88150e,0x17ffff29,0x5280012e,0x17ffff27,0x5280018e\n"
+    ".inst 0x17ffff25,0xb08016b,0xd2c0002d,0x4b0b002b,0x8b0b010c,0xeb0d018d,0x9a8d33ed,0x7100017f,0x9a8c41ab,0x71000f7f\n"
+    ".inst 0x54000181,0xeb0a017f,0x54000201,0x5280022e,0xaa0a03eb,0x14000010,0xeb0b015f,0x540000e3,0x5280024e,0x1400000c\n"
+    ".inst 0x5280006e,0x17ffff10,0xeb0b015f,0x540000e2,0x528001ce,0x17ffff0c,0x5280020e,0x17ffff0a,0x528001ee,0x17ffff08\n"
+    ".inst 0x5280022e,0xaa1a03ef,0xf940366d,0xf8450df8,0x9100070c,0xeb0c014a,0xf94023ec,0x9a8a33ea,0xeb0a01bf,0x9a8a31aa\n"
+    ".inst 0xeb0c00bf,0x3940f66c,0x7a400920,0x1acc2249,0xb940e26c,0xfa400944,0xfa481160,0x7a4c0120,0x1a9f17fc,0x12001dd4\n"
+    ".inst 0xf9001fe3,0x7100469f,0xf90027f8,0x54ffdf03,0x71004a9f,0xa90183ef,0x54000241,0xb85b43bb,0x2a0e03f5,0xaa0603f6\n"
+    ".inst 0xf90007e5,0x71000f7f,0x540003e1,0x3940f66a,0x3940ca69,0xf9402668,0x291c867e,0x1aca224a,0x321e0129,0xf9002268\n"
+    ".inst 0x3900c269,0xb900e26a,0x3906027f,0x14000015,0xb85b43bb,0xf940af48,0x2a0e03f5,0xaa0503f6,0xf9000be6,0x71000f7f\n"
+    ".inst 0xf9001be8,0x54000461,0x3940f66a,0x3940ca69,0xf9402668,0x291c867e,0x1aca224a,0x321e0129,0xf9002268,0x3900c269\n"
+    ".inst 0xb900e26a,0x3906027f,0x14000019,0xf9402268,0xb9400a69,0xd2c0002a,0xf94023f8,0x91010340,0xb080129,0x4b090029\n"
+    ".inst 0x8b090108,0xeb0a010a,0x9a8a33ea,0x7100013f,0x9a884141,0x94000000,0xd10103a1,0xaa1303e0,0x94000000,0x2a0003f4\n"
+    ".inst 0xaa1303e0,0x94000000,0x39460748,0x360003e8,0x52800028,0x14000020,0xf9402268,0xb9400a69,0xd2c0002a,0x91010340\n"
+    ".inst 0xb080129,0x4b090029,0x8b090108,0xeb0a010a,0x9a8a33ea,0x7100013f,0x9a884141,0x94000000,0xd10103a1,0xaa1303e0\n"
+    ".inst 0x94000000,0x2a0003f4,0xaa1303e0,0x94000000,0xd10103a1,0xaa1303e0,0x94000000,0xb90007e0,0xd10103a1,0xaa1303e0\n"
+    ".inst 0x94000000,0x36000260,0x52800024,0x14000016,0x3940c268,0x7100011f,0x1a9f07e8,0xf94007e9,0xa94183ea,0x39060748\n"
+    ".inst 0x720002ff,0x52800067,0xf9401fe3,0xf94027eb,0xfa580120,0x39460665,0xaa1603e6,0x2a1503e1,0x1a8703e4,0x17fffed5\n"
+    ".inst 0xf94023e8,0x720002ff,0xfa4802c0,0xb94007e8,0x1a8803e4,0xa9412be6,0x2a1503e1,0x39460668,0xf94013e0,0xaa1803eb\n"
+    ".inst 0xf9401fe3,0x7100051f,0x540000a1,0xf9401be8,0xb40000a8,0x52800028,0x14000006,0x2a1f03e5,0x1400000a,0xf940af48\n"
+    ".inst 0xf100011f,0x1a9f07e8,0x370000b7,0xf94023e9,0xeb0902df,0x1a8803e5,0x14000002,0x52800025,0x52800067,0x17fffeb7\n"
+    ".reloc .Ltcp50+468,R_AARCH64_CALL26,.Ltcp1+0\n"
+    ".reloc .Ltcp50+644,R_AARCH64_ADR_PREL_PG_HI21,.Ltcp9+144\n"
+    ".reloc .Ltcp50+652,R_AARCH64_LDST128_ABS_LO12_NC,.Ltcp9+144\n"
+    ".reloc .Ltcp50+656,R_AARCH64_ADR_PREL_PG_HI21,.Ltcp9+160\n"
+    ".reloc .Ltcp50+688,R_AARCH64_LDST128_ABS_LO12_NC,.Ltcp9+160\n"
+    ".reloc .Ltcp50+1780,R_AARCH64_CALL26,.Ltcp23+0\n"
+    ".reloc .Ltcp50+2104,R_AARCH64_ADR_PREL_PG_HI21,.Ltcp9+176\n"
+    ".reloc .Ltcp50+2112,R_AARCH64_LDST128_ABS_LO12_NC,.Ltcp9+176\n"
+    ".reloc .Ltcp50+2428,R_AARCH64_CALL26,.Ltcp18+0\n"
+    ".reloc .Ltcp50+3164,R_AARCH64_CALL26,.Ltcp3+0\n"
+    ".reloc .Ltcp50+3660,R_AARCH64_CALL26,.Ltcp4+0\n"
+    ".reloc .Ltcp50+3672,R_AARCH64_CALL26,.Ltcp5+0\n"
+    ".reloc .Ltcp50+3684,R_AARCH64_CALL26,.Ltcp11+0\n"
+    ".reloc .Ltcp50+3748,R_AARCH64_CALL26,.Ltcp4+0\n"
+    ".reloc .Ltcp50+3760,R_AARCH64_CALL26,.Ltcp5+0\n"
+    ".reloc .Ltcp50+3772,R_AARCH64_CALL26,.Ltcp11+0\n"
+    ".reloc .Ltcp50+3784,R_AARCH64_CALL26,.Ltcp12+0\n"
+    ".reloc .Ltcp50+3800,R_AARCH64_CALL26,.Ltcp17+0\n"
     ".section .text.tcp.51,\"ax\",%progbits\n"
     ".balign 4\n"
     ".Ltcp51:\n"
+    ".globl tcp_c_connection_close\n"
+    ".hidden tcp_c_connection_close\n"
+    ".type tcp_c_connection_close,%function\n"
+    ".size tcp_c_connection_close,716\n"
+    "tcp_c_connection_close:\n"
+    ".inst 0xd10103ff,0xa90257f6,0xd28e8d96,0xa9034ff4,0xf2ac2e96,0xa9405008,0xf2ca0a56,0xf2eec876,0xa9017bfd,0x910043fd\n"
+    ".inst 0xa9007c1f,0xeb16011f,0x540004c1,0xd2e80008,0xf9416289,0x3940c68a,0xeb08003f,0xaa0003f3,0x9a883028,0xeb09011f\n"
+    ".inst 0x9a898103,0x3400088a,0x528001d5,0x3940c288,0x121f1909,0x7100093f,0x54000140,0x5280002a,0x5280760b,0x2a1f03e9\n"
+    ".inst 0x1ac8214a,0x6a0b015f,0x540000a0,0xa9442e8a,0xeb0b015f,0x540007c2,0x52800029,0x5280002b,0x528089ec,0x2a1f03ea\n"
+    ".inst 0x1ac8216b,0x6a0c017f,0x540001e0,0x7100191f,0x54000261,0xf940a28b,0xf100017f,0x52a0200b,0x1a9f016b,0x1400000f\n"
+    ".inst 0x528003f5,0x2a1503e0,0xa9434ff4,0xa94257f6,0xa9417bfd,0x910103ff,0xd65f03c0,0xf940528a,0xf100015f,0x5280200a\n"
+    ".inst 0x1a8a03ea,0x7100191f,0x54fffde0,0x2a1f03eb,0xf9402282,0x7100291f,0x52a0002c,0x2a0a012d,0xf9413e8e,0x1a9f018c\n"
+    ".inst 0x2a0b01ad,0x2a0c01ac,0xeb0e005f,0xb81fc3ac,0x54000821,0x3949228c,0x7100059f,0x1a9f07ec,0x6b09019f,0x54000780\n"
+    ".inst 0x394a028c,0x7100059f,0x540003e0,0x370003c9,0xb9429289,0x350006c9,0x394a5289,0x360003a9,0x14000033,0x3940c288\n"
+    ".inst 0x340000a8,0x3940ca89,0x36000729,0x528001b5,0x17ffffb9,0x52800175,0x17ffffb7,0x7100191f,0x2a1f03e9,0x54fff840\n"
+    ".inst 0xeb0b015f,0x54fff801,0xf9402a89,0xf940368b,0x91000529,0xeb090149,0x9a8933e9,0xeb09017f,0x54000669,0xb940e289\n"
+    ".inst 0x7100013f,0x1a9f17e9,0x17ffffb5,0x7100059f,0x54000321,0x34000309,0x39496289,0x7100015f,0x1a9f07ea,0x7100053f\n"
+    ".inst 0x1a9f07e9,0x6b09015f,0x54000220,0x3949a289,0x7100291f,0x1a9f17e8,0x7100053f,0x1a9f07e9,0x6b09011f,0x54000140\n"
+    ".inst 0x394aa288,0x7100017f,0x1a9f07e9,0x7100051f,0x1a9f07e8,0x6b08013f,0x54000060,0xf9016283,0x14000004,0x91068280\n"
+    ".inst 0xd10013a1,0x94000000,0xa9005276,0x2a1503e0,0xa9434ff4,0xa94257f6,0xa9417bfd,0x910103ff,0xd65f03c0,0x52800029\n"
+    ".inst 0x7100291f,0x3900ca89,0x54000288,0x1ac82129,0x5280ed0a,0x6a0a013f,0x540000a0,0x2a1f03f5,0x17ffff79,0x2a1f03e9\n"
+    ".inst 0x17ffff85,0x7100111f,0x54000081,0x2a1f03f5,0x528000a8,0x14000005,0x71001d1f,0x540000a1,0x2a1f03f5,0x52800128\n"
+    ".inst 0x3900c288,0x17ffff6c,0xaa1403e0,0x52800061,0xaa0303f5,0x94000000,0xaa1503e3,0x2a1f03f5,0x17ffff65\n"
+    ".reloc .Ltcp51+564,R_AARCH64_CALL26,.Ltcp23+0\n"
+    ".reloc .Ltcp51+700,R_AARCH64_CALL26,.Ltcp0+0\n"
+    ".section .text.tcp.52,\"ax\",%progbits\n"
+    ".balign 4\n"
+    ".Ltcp52:\n"
     ".globl tcp_c_connection_connect\n"
     ".hidden tcp_c_connection_connect\n"
     ".type tcp_c_connection_connect,%function\n"
@@ -8976,89 +9260,94 @@ __asm__(
     "tcp_c_connection_connect:\n"
     ".inst 0xd10083ff,0xb94000a8,0x52800029,0x910023e5,0xf90007e9,0x79001fe6,0xaa0703e6,0xa9017bfd,0x910043fd,0xb800a3e8\n"
     ".inst 0x94000000,0xa9417bfd,0x910083ff,0xd65f03c0\n"
-    ".reloc .Ltcp51+40,R_AARCH64_CALL26,.Ltcp24+0\n"
-    ".section .text.tcp.52,\"ax\",%progbits\n"
-    ".balign 4\n"
-    ".Ltcp52:\n"
-    ".globl tcp_c_connection_consume\n"
-    ".hidden tcp_c_connection_consume\n"
-    ".type tcp_c_connection_consume,%function\n"
-    ".size tcp_c_connection_consume,704\n"
-    "tcp_c_connection_consume:\n"
-    ".inst 0xa9bb7bfd,0xa90357f6,0xd28e8d95,0x910003fd,0xf900007f,0xf2ac2e95,0xa9405808,0xf2ca0a55,0xf2eec875,0xf9000bf9\n"
-    ".inst 0xa9025ff8,0xeb15011f,0xa9044ff4,0xa9007c1f,0x540001e1,0x3940c6c9,0x3940c2c8,0xaa0303f3,0xaa0003f4,0x121f192a\n"
-    ".inst 0x7100095f,0x540001e1,0x2a1f03f9,0xaa1f03f7,0x528001d8,0x121f1909,0x7100093f,0x540008c1,0x1400004e,0x528003e0\n"
-    ".inst 0xa9444ff4,0xf9400bf9,0xa94357f6,0xa9425ff8,0xa8c57bfd,0xd65f03c0,0x2a090109,0x34000169,0x3940f2c9,0xf940a2cc\n"
-    ".inst 0x7100053f,0x540001c1,0x394082ca,0x394086cb,0x7100055f,0x1a9f016a,0x12001d4d,0x14000009,0x2a1f03f9,0xaa1f03f7\n"
-    ".inst 0x52800178,0x121f1909,0x7100093f,0x540006a0,0x1400002b,0x2a1f03ed,0xeb02019f,0xb9413aca,0x9a823197,0xeb02019f\n"
-    ".inst 0xcb17018b,0xf900a2cb,0x54000068,0xf940aece,0xb4000d0e,0xb9413ece,0x4b0e014f,0xeb0f02ff,0x5a8f35ce,0xb1701ce\n"
-    ".inst 0xb9013ece,0x5100110e,0x710009df,0x2a1f03ee,0x540001c8,0x4b0c014c,0x1acd258c,0x3500016c,0x340000c9,0x394082c9\n"
-    ".inst 0x394086cc,0x7100053f,0x1a9f0189,0x12001d29,0x4b0b014a,0x1ac92549,0x7100013f,0x1a9f07ee,0x394606c9,0x52800178\n"
-    ".inst 0x52800039,0x2a0e0129,0x12000129,0x390606c9,0x121f1909,0x7100093f,0x54000140,0x5280002a,0x5280760b,0x2a1f03e9\n"
-    ".inst 0x1ac8214a,0x6a0b015f,0x540000a0,0xa9442eca,0xeb0b015f,0x540005e2,0x52800029,0x5280002c,0xf94162ca,0x528089ed\n"
-    ".inst 0x1ac8218c,0x2a1f03eb,0x6a0d019f,0x540000e0,0x7100191f,0x54000141,0xf940a2cc,0xf100019f,0x1a9f17ec,0x14000007\n"
-    ".inst 0xf94052cb,0xf100017f,0x1a9f07eb,0x7100191f,0x54ffff00,0x2a1f03ec,0xd2e8000d,0xf94022c2,0x910682c0,0xeb0d003f\n"
-    ".inst 0x390073a9,0x9a8d302d,0x910073a1,0x390077ab,0xeb0a01bf,0x39007fac,0x9a8a81a3,0x7100291f,0x1a9f17e8,0x39007ba8\n"
-    ".inst 0x94000000,0x7100033f,0xa9005a95,0x9a9f12e8,0x1a9813e0,0xf9000268,0xa9444ff4,0xf9400bf9,0xa94357f6,0xa9425ff8\n"
-    ".inst 0xa8c57bfd,0xd65f03c0,0x7100191f,0x2a1f03e9,0x54fffa20,0xeb0b015f,0x54fff9e1,0xf9402ac9,0xf94036cb,0x91000529\n"
-    ".inst 0xeb090149,0x9a8933e9,0xeb09017f,0x54000169,0xb940e2c9,0x7100013f,0x1a9f17e9,0x17ffffc4,0xb9013edf,0x5100110e\n"
-    ".inst 0x710009df,0x2a1f03ee,0x54fff3e9,0x17ffffab,0x2a1f03e9,0x17ffffbc\n"
-    ".reloc .Ltcp52+560,R_AARCH64_CALL26,.Ltcp23+0\n"
+    ".reloc .Ltcp52+40,R_AARCH64_CALL26,.Ltcp24+0\n"
     ".section .text.tcp.53,\"ax\",%progbits\n"
     ".balign 4\n"
     ".Ltcp53:\n"
+    ".globl tcp_c_connection_consume\n"
+    ".hidden tcp_c_connection_consume\n"
+    ".type tcp_c_connection_consume,%function\n"
+    ".size tcp_c_connection_consume,888\n"
+    "tcp_c_connection_consume:\n"
+    ".inst 0xa9bb7bfd,0xa90357f6,0xd28e8d95,0x910003fd,0xf900007f,0xf2ac2e95,0xa9405808,0xf2ca0a55,0xf2eec875,0xf9000bf9\n"
+    ".inst 0xa9025ff8,0xeb15011f,0xa9044ff4,0xa9007c1f,0x540002a1,0xd2e80008,0xf94162ca,0x3940c6c9,0xeb08003f,0xaa0303f3\n"
+    ".inst 0xaa0003f4,0x9a883028,0x121f192b,0xeb0a011f,0x9a8a8103,0x3940c2c8,0x7100097f,0x540001e1,0x2a1f03f9,0xaa1f03f7\n"
+    ".inst 0x528001d8,0x121f1909,0x7100093f,0x540008c1,0x1400004e,0x528003e0,0xa9444ff4,0xf9400bf9,0xa94357f6,0xa9425ff8\n"
+    ".inst 0xa8c57bfd,0xd65f03c0,0x2a090109,0x34000169,0x3940f2c9,0xf940a2cc,0x7100053f,0x540001c1,0x394082ca,0x394086cb\n"
+    ".inst 0x7100055f,0x1a9f016a,0x12001d4d,0x14000009,0x2a1f03f9,0xaa1f03f7,0x52800178,0x121f1909,0x7100093f,0x540006a0\n"
+    ".inst 0x1400002b,0x2a1f03ed,0xeb02019f,0xb9413aca,0x9a823197,0xeb02019f,0xcb17018b,0xf900a2cb,0x54000068,0xf940aece\n"
+    ".inst 0xb400120e,0xb9413ece,0x4b0e014f,0xeb0f02ff,0x5a8f35ce,0xb1701ce,0xb9013ece,0x5100110e,0x710009df,0x2a1f03ee\n"
+    ".inst 0x540001c8,0x4b0c014c,0x1acd258c,0x3500016c,0x340000c9,0x394082c9,0x394086cc,0x7100053f,0x1a9f0189,0x12001d29\n"
+    ".inst 0x4b0b014a,0x1ac92549,0x7100013f,0x1a9f07ee,0x394606c9,0x52800178,0x52800039,0x2a0e0129,0x12000129,0x390606c9\n"
+    ".inst 0x121f1909,0x7100093f,0x54000140,0x5280002a,0x5280760b,0x2a1f03e9,0x1ac8214a,0x6a0b015f,0x540000a0,0xa9442eca\n"
+    ".inst 0xeb0b015f,0x540005e2,0x52800029,0x5280002b,0x528089ec,0x2a1f03ea,0x1ac8216b,0x6a0c017f,0x54000100,0x7100191f\n"
+    ".inst 0x54000181,0xf940a2cb,0xf100017f,0x52a0200b,0x1a9f016b,0x14000008,0xf94052ca,0xf100015f,0x5280200a,0x1a8a03ea\n"
+    ".inst 0x7100191f,0x54fffec0,0x2a1f03eb,0xf94022c2,0x7100291f,0x52a0002c,0x2a0a012d,0xf9413ece,0x1a9f018c,0x2a0b01ad\n"
+    ".inst 0x2a0c01ac,0xeb0e005f,0xb9001fac,0x54000721,0x394922cc,0x7100059f,0x1a9f07ec,0x6b09019f,0x54000680,0x394a02cc\n"
+    ".inst 0x7100059f,0x540002e0,0x370002c9,0xb94292c9,0x350005c9,0x394a52c9,0x360002a9,0x1400002b,0x7100191f,0x2a1f03e9\n"
+    ".inst 0x54fffa20,0xeb0b015f,0x54fff9e1,0xf9402ac9,0xf94036cb,0x91000529,0xeb090149,0x9a8933e9,0xeb09017f,0x54000669\n"
+    ".inst 0xb940e2c9,0x7100013f,0x1a9f17e9,0x17ffffc4,0x7100059f,0x54000321,0x34000309,0x394962c9,0x7100015f,0x1a9f07ea\n"
+    ".inst 0x7100053f,0x1a9f07e9,0x6b09015f,0x54000220,0x3949a2c9,0x7100291f,0x1a9f17e8,0x7100053f,0x1a9f07e9,0x6b09011f\n"
+    ".inst 0x54000140,0x394aa2c8,0x7100017f,0x1a9f07e9,0x7100051f,0x1a9f07e8,0x6b08013f,0x54000060,0xf90162c3,0x14000004\n"
+    ".inst 0x910682c0,0x910073a1,0x94000000,0x7100033f,0xa9005a95,0x9a9f12e8,0x1a9813e0,0xf9000268,0xa9444ff4,0xf9400bf9\n"
+    ".inst 0xa94357f6,0xa9425ff8,0xa8c57bfd,0xd65f03c0,0xb9013edf,0x5100110e,0x710009df,0x2a1f03ee,0x54ffeee9,0x17ffff83\n"
+    ".inst 0x2a1f03e9,0x17ffff94\n"
+    ".reloc .Ltcp53+808,R_AARCH64_CALL26,.Ltcp23+0\n"
+    ".section .text.tcp.54,\"ax\",%progbits\n"
+    ".balign 4\n"
+    ".Ltcp54:\n"
     ".globl tcp_c_connection_emit\n"
     ".hidden tcp_c_connection_emit\n"
     ".type tcp_c_connection_emit,%function\n"
-    ".size tcp_c_connection_emit,3232\n"
+    ".size tcp_c_connection_emit,3412\n"
     "tcp_c_connection_emit:\n"
     ".inst 0xd10343ff,0x6f00e400,0xa90967fa,0xd28e8d9a,0xa90b57f6,0xf2ac2e9a,0xf100007f,0xf2ca0a5a,0x52820008,0xa9077bfd\n"
     ".inst 0xf2eec87a,0x9a9f0119,0xa9086ffc,0xad0000a0,0x9101c3fd,0xa9405409,0xa90a5ff8,0xa90c4ff4,0xa9007c1f,0xeb1a013f\n"
-    ".inst 0x540000e1,0xaa0003f4,0xf117bc9f,0x540000c8,0xa900569a,0x52800420,0x140002e6,0x528003e0,0x140002e4,0xd2e80008\n"
-    ".inst 0xf94162a9,0x394612bc,0xeb08003f,0xaa0503f3,0xb90027ff,0x9a883028,0xeb09011f,0x9a898110,0x7100079f,0x54000060\n"
-    ".inst 0x394602a8,0x360007c8,0x7100079f,0xf94022aa,0x2a1f03f8,0x1a9f07f6,0xaa1f03fb,0xaa1f03ef,0xaa1f03e9,0xaa1f03eb\n"
-    ".inst 0xaa1603ec,0xf94026a8,0x8b190077,0xeb0a010d,0x9a8d33ed,0xeb09004e,0x9a8e33ee,0xeb0b015f,0x54000162,0xeb0c01df\n"
-    ".inst 0x54000122,0x7100079f,0x54002760,0x394602a9,0x37002729,0x394606a9,0x7100053f,0x540007e0,0x14000135,0x7100079f\n"
-    ".inst 0x54000060,0x394602aa,0x360006ca,0x51000ac9,0xa902ffff,0x7100093f,0xb9003bff,0x54000763,0x710006df,0x540017a1\n"
-    ".inst 0xaa1503e0,0x2a1f03e1,0xaa1703e2,0xaa1003f8,0x94000000,0xf94026a9,0x394606aa,0xaa0003f9,0xb94036b7,0x2a1f03e8\n"
-    ".inst 0x390602bf,0xf100053f,0x9a9f8529,0xf90026a9,0x3600006a,0x3943c2a8,0x52000108,0xaa1f03fb,0x12000108,0x52800036\n"
-    ".inst 0xaa1803f0,0x390606a8,0x140000bf,0x3940c2a8,0x52800029,0xad3e83a0,0x1ac82128,0x528089e9,0x6a09011f,0x54002021\n"
-    ".inst 0x3940faaa,0x79401aa8,0xaa1003f8,0x794076a9,0xaa0203f6,0xaa0303f7,0x7100055f,0x54001b81,0xf940aeaa,0x5280008b\n"
-    ".inst 0xf100115f,0x9a8b314c,0xf100015f,0x2a0c0d6b,0x1a8b03ea,0x140000d5,0xeb0d013f,0x54fff942,0x394606a9,0x3607f909\n"
-    ".inst 0xaa1f03ef,0xaa1f03fb,0x2a1f03f8,0x52800076,0xa902ffff,0xb9003bff,0x3940faa9,0x2a1603ea,0x2a1803eb,0xa93d2faa\n"
-    ".inst 0x7100053f,0xa93e3fbb,0x54000401,0xf940aeaa,0xb40003ca,0xd100c3a1,0xaa1503e0,0x2a1f03e2,0xaa1703e3,0xaa1003f7\n"
-    ".inst 0xaa0f03f9,0x94000000,0xaa1903ef,0xaa1703f0,0xaa0003f9,0xb94036b7,0x71000edf,0x54004500,0x71000b1f,0xf94026a9\n"
-    ".inst 0x51000f0a,0x9a9f35e8,0x8b1b0108,0xeb09011f,0x9a898109,0x31000d5f,0xf90026a9,0x54000ee8,0x394322a9,0x7100053f\n"
-    ".inst 0x54000041,0xf9006aa8,0x390606bf,0x14000075,0x71000adf,0x54000501,0xb9400aa8,0x7100071f,0xb1b0112,0x52800208\n"
-    ".inst 0x54000188,0xb400016f,0xf9402aa8,0xf94036aa,0x91000508,0xeb080368,0x9a8833e8,0x8b0f0108,0xeb0a011f,0x52800208\n"
-    ".inst 0x5280030a,0x1a880148,0x121f1b0a,0x7100095f,0x1a9f17ea,0x2a0a0111,0x3940f2ab,0xb9413aa8,0xf940a2aa,0x7100057f\n"
-    ".inst 0x540002e0,0x4b0a0108,0x529fffea,0x1adf2508,0x6b0a011f,0x1a8a3105,0x35000389,0x52800289,0x79400aba,0x794072a7\n"
-    ".inst 0x71000adf,0xb940f6a6,0x54000480,0xaa1f03ec,0x1400016f,0xb9400aaa,0x52800211,0xb080152,0x3940f2ab,0xb9413aa8\n"
-    ".inst 0xf940a2aa,0x7100057f,0x54fffd61,0x394082ab,0x394086ac,0x7100057f,0x1a9f018b,0x12001d6b,0x4b0a0108,0x529fffea\n"
-    ".inst 0x1acb2508,0x6b0a011f,0x1a8a3105,0x34fffcc9,0xf940aea8,0x52800089,0xf100111f,0x9a893109,0xf100011f,0x52800288\n"
-    ".inst 0xd37df129,0x91006129,0x9a890109,0x79400aba,0x794072a7,0x71000adf,0xb940f6a6,0x54fffbc1,0x7100071f,0xaa1f03ec\n"
-    ".inst 0x54002968,0xb400294f,0xf9402aa8,0xf94036ab,0x8b0902e4,0xd10007a0,0x9100050a,0xeb0a0368,0x9a8833e8,0xb400148b\n"
-    ".inst 0xa945b6ae,0xf9403aac,0xcb0c01ad,0xeb0d017f,0x9a8d3161,0x9a8081c2,0x8b0c01c0,0x1400009e,0x910612b8,0x7100079f\n"
-    ".inst 0x54000ec0,0x3940faaa,0x52800069,0xa93e7fbf,0xa93d7fa9,0x7100055f,0x54001061,0xf940aea9,0xb4001029,0xd100c3a1\n"
-    ".inst 0xaa1503e0,0x2a1f03e2,0xaa1703e3,0xaa1003f6,0x94000000,0x14000077,0x7100071f,0x390606bf,0x54000041,0x39060abf\n"
-    ".inst 0xeb1b0108,0x9a8833f6,0x540004c9,0xf94116a8,0xeb08037f,0x54000222,0xf9413ea9,0xeb09037f,0x54000101,0x394a52a9\n"
-    ".inst 0x370000c9,0x6f00e400,0x910922a9,0x5280002a,0x390a52aa,0x3d800120,0x6f00e400,0x910962a9,0xf90122bf,0x3d808ea0\n"
-    ".inst 0x3d800120,0x14000009,0x3948c2a9,0x7100053f,0x540000c0,0x52800029,0x8b16036a,0xf90122b0,0xf9011aa9,0xf9011eaa\n"
-    ".inst 0x8b160369,0xeb08013f,0x9a888128,0xf90116a8,0x52800038,0x3940c2a8,0x121f1909,0x7100093f,0x540030a1,0x1400018d\n"
-    ".inst 0xaa1f03f6,0x52800038,0x3940c2a8,0x121f1909,0x7100093f,0x54002fc1,0x14000186,0x2a1f03ea,0x6b08013f,0x39460aa3\n"
-    ".inst 0x3940caa4,0x1a883128,0xd100c3a0,0x910102a1,0x6b2a2108,0x1a8833e2,0x94000000,0x385d03a8,0xaa1703e3,0xaa1603e2\n"
-    ".inst 0xaa1803f0,0x7100051f,0x540001c1,0xa97e3fbb,0x52800056,0xf84402aa,0x385d83b8,0xeb0a0368,0xaa1b03eb,0x9a8833e9\n"
-    ".inst 0x71000b1f,0x9a9f35e8,0x8b1b0108,0xeb1b0108,0x9a8833ec,0x17fffec6,0x394606a8,0x34000148,0xa9442eaa,0x2a1f03f8\n"
-    ".inst 0xaa1f03fb,0xaa1f03ef,0xaa1f03ec,0x52800076,0xeb0a0168,0x9a8833e9,0x17fffebb,0xaa1f03f6,0xaa1f03fb,0xaa1f03f9\n"
-    ".inst 0x2a1f03f7,0x2a1f03f8,0x390ae2bf,0x3940c2a8,0x121f1909,0x7100093f,0x54002a80,0x1400014a,0xb9418aa8,0x79431aa9\n"
-    ".inst 0x9100a3e2,0xb94192aa,0xb94002a0,0x2a1f03e3,0xb9002be8,0x394652a8,0xaa1703e4,0x79005be9,0xb9419aa9,0xaa1003f6\n"
-    ".inst 0x79400aa1,0x290623ea,0xb9003be9,0x94000000,0xaa1603f0,0xaa0003f9,0x14000063,0x3940f2ad,0xb9400aae,0x79400aa9\n"
-    ".inst 0x794072ab,0xb940f6aa,0xb9413aac,0x710005bf,0xb0801c8,0xf940a2ad,0x540004a1,0x394082ae,0x394086af,0x710005df\n"
-    ".inst 0x1a9f01ee,0x12001dce,0x14000020,0xaa1f03e1,0xd10007a2,0x8b0f010b,0xeb01017f,0x54002de8,0x8b080001,0xcb010088\n"
-    ".inst 0xeb0f011f,0x540000a2,0xf10021ff,0x54000b42,0xaa1f03e8,0x1400008c,0xaa0403e0,0xaa0f03e2,0xf9000ff0,0x2900ebf1\n"
-    ".inst 0xaa0f03fa,0x2a1203f9,0x290197e7,0x2a0603fc\n"
+    ".inst 0x540000e1,0xaa0003f4,0xf117bc9f,0x540000c8,0xa900569a,0x52800420,0x14000323,0x528003e0,0x14000321,0xd2e80008\n"
+    ".inst 0xf94162a9,0x394612bc,0xeb08003f,0xaa0503f3,0x9a883028,0xeb09011f,0x9a898110,0x7100079f,0x54000060,0x394602a8\n"
+    ".inst 0x360007c8,0x7100079f,0xf94022aa,0x2a1f03f8,0x1a9f07f6,0xaa1f03fb,0xaa1f03ef,0xaa1f03e9,0xaa1f03eb,0xaa1603ec\n"
+    ".inst 0xf94026a8,0x8b190077,0xeb0a010d,0x9a8d33ed,0xeb09004e,0x9a8e33ee,0xeb0b015f,0x54000162,0xeb0c01df,0x54000122\n"
+    ".inst 0x7100079f,0x54002760,0x394602a9,0x37002729,0x394606a9,0x7100053f,0x540007e0,0x14000135,0x7100079f,0x54000060\n"
+    ".inst 0x394602aa,0x360006ca,0x51000ac9,0xa902ffff,0x7100093f,0xb9003bff,0x54000763,0x710006df,0x540017a1,0xaa1503e0\n"
+    ".inst 0x2a1f03e1,0xaa1703e2,0xaa1003f8,0x94000000,0xf94026a9,0x394606aa,0xaa0003f9,0xb94036b7,0x2a1f03e8,0x390602bf\n"
+    ".inst 0xf100053f,0x9a9f8529,0xf90026a9,0x3600006a,0x3943c2a8,0x52000108,0xaa1f03fb,0x12000108,0x52800036,0xaa1803f0\n"
+    ".inst 0x390606a8,0x140000bf,0x3940c2a8,0x52800029,0xad3e83a0,0x1ac82128,0x528089e9,0x6a09011f,0x54002021,0x3940faaa\n"
+    ".inst 0x79401aa8,0xaa1003f8,0x794076a9,0xaa0203f6,0xaa0303f7,0x7100055f,0x54001b81,0xf940aeaa,0x5280008b,0xf100115f\n"
+    ".inst 0x9a8b314c,0xf100015f,0x2a0c0d6b,0x1a8b03ea,0x140000d5,0xeb0d013f,0x54fff942,0x394606a9,0x3607f909,0xaa1f03ef\n"
+    ".inst 0xaa1f03fb,0x2a1f03f8,0x52800076,0xa902ffff,0xb9003bff,0x3940faa9,0x2a1603ea,0x2a1803eb,0xa93d2faa,0x7100053f\n"
+    ".inst 0xa93e3fbb,0x54000401,0xf940aeaa,0xb40003ca,0xd100c3a1,0xaa1503e0,0x2a1f03e2,0xaa1703e3,0xaa1003f7,0xaa0f03f9\n"
+    ".inst 0x94000000,0xaa1903ef,0xaa1703f0,0xaa0003f9,0xb94036b7,0x71000edf,0x54004500,0x71000b1f,0xf94026a9,0x51000f0a\n"
+    ".inst 0x9a9f35e8,0x8b1b0108,0xeb09011f,0x9a898109,0x31000d5f,0xf90026a9,0x54000ee8,0x394322a9,0x7100053f,0x54000041\n"
+    ".inst 0xf9006aa8,0x390606bf,0x14000075,0x71000adf,0x54000501,0xb9400aa8,0x7100071f,0xb1b0112,0x52800208,0x54000188\n"
+    ".inst 0xb400016f,0xf9402aa8,0xf94036aa,0x91000508,0xeb080368,0x9a8833e8,0x8b0f0108,0xeb0a011f,0x52800208,0x5280030a\n"
+    ".inst 0x1a880148,0x121f1b0a,0x7100095f,0x1a9f17ea,0x2a0a0111,0x3940f2ab,0xb9413aa8,0xf940a2aa,0x7100057f,0x540002e0\n"
+    ".inst 0x4b0a0108,0x529fffea,0x1adf2508,0x6b0a011f,0x1a8a3105,0x35000389,0x52800289,0x79400aba,0x794072a7,0x71000adf\n"
+    ".inst 0xb940f6a6,0x54000480,0xaa1f03ec,0x1400016f,0xb9400aaa,0x52800211,0xb080152,0x3940f2ab,0xb9413aa8,0xf940a2aa\n"
+    ".inst 0x7100057f,0x54fffd61,0x394082ab,0x394086ac,0x7100057f,0x1a9f018b,0x12001d6b,0x4b0a0108,0x529fffea,0x1acb2508\n"
+    ".inst 0x6b0a011f,0x1a8a3105,0x34fffcc9,0xf940aea8,0x52800089,0xf100111f,0x9a893109,0xf100011f,0x52800288,0xd37df129\n"
+    ".inst 0x91006129,0x9a890109,0x79400aba,0x794072a7,0x71000adf,0xb940f6a6,0x54fffbc1,0x7100071f,0xaa1f03ec,0x54002968\n"
+    ".inst 0xb400294f,0xf9402aa8,0xf94036ab,0x8b0902e4,0xd10007a0,0x9100050a,0xeb0a0368,0x9a8833e8,0xb400148b,0xa945b6ae\n"
+    ".inst 0xf9403aac,0xcb0c01ad,0xeb0d017f,0x9a8d3161,0x9a8081c2,0x8b0c01c0,0x1400009e,0x910612b8,0x7100079f,0x54000ec0\n"
+    ".inst 0x3940faaa,0x52800069,0xa93e7fbf,0xa93d7fa9,0x7100055f,0x54001061,0xf940aea9,0xb4001029,0xd100c3a1,0xaa1503e0\n"
+    ".inst 0x2a1f03e2,0xaa1703e3,0xaa1003f6,0x94000000,0x14000077,0x7100071f,0x390606bf,0x54000041,0x39060abf,0xeb1b0108\n"
+    ".inst 0x9a8833f6,0x540004c9,0xf94116a8,0xeb08037f,0x54000222,0xf9413ea9,0xeb09037f,0x54000101,0x394a52a9,0x370000c9\n"
+    ".inst 0x6f00e400,0x910922a9,0x5280002a,0x390a52aa,0x3d800120,0x6f00e400,0x910962a9,0xf90122bf,0x3d808ea0,0x3d800120\n"
+    ".inst 0x14000009,0x3948c2a9,0x7100053f,0x540000c0,0x52800029,0x8b16036a,0xf90122b0,0xf9011aa9,0xf9011eaa,0x8b160369\n"
+    ".inst 0xeb08013f,0x9a888128,0xf90116a8,0x52800038,0x3940c2a8,0x121f1909,0x7100093f,0x540030a1,0x1400018d,0xaa1f03f6\n"
+    ".inst 0x52800038,0x3940c2a8,0x121f1909,0x7100093f,0x54002fc1,0x14000186,0x2a1f03ea,0x6b08013f,0x39460aa3,0x3940caa4\n"
+    ".inst 0x1a883128,0xd100c3a0,0x910102a1,0x6b2a2108,0x1a8833e2,0x94000000,0x385d03a8,0xaa1703e3,0xaa1603e2,0xaa1803f0\n"
+    ".inst 0x7100051f,0x540001c1,0xa97e3fbb,0x52800056,0xf84402aa,0x385d83b8,0xeb0a0368,0xaa1b03eb,0x9a8833e9,0x71000b1f\n"
+    ".inst 0x9a9f35e8,0x8b1b0108,0xeb1b0108,0x9a8833ec,0x17fffec6,0x394606a8,0x34000148,0xa9442eaa,0x2a1f03f8,0xaa1f03fb\n"
+    ".inst 0xaa1f03ef,0xaa1f03ec,0x52800076,0xeb0a0168,0x9a8833e9,0x17fffebb,0xaa1f03f6,0xaa1f03fb,0xaa1f03f9,0x2a1f03f7\n"
+    ".inst 0x2a1f03f8,0x390ae2bf,0x3940c2a8,0x121f1909,0x7100093f,0x54002a80,0x1400014a,0xb9418aa8,0x79431aa9,0x9100a3e2\n"
+    ".inst 0xb94192aa,0xb94002a0,0x2a1f03e3,0xb9002be8,0x394652a8,0xaa1703e4,0x79005be9,0xb9419aa9,0xaa1003f6,0x79400aa1\n"
+    ".inst 0x290623ea,0xb9003be9,0x94000000,0xaa1603f0,0xaa0003f9,0x14000063,0x3940f2ad,0xb9400aae,0x79400aa9,0x794072ab\n"
+    ".inst 0xb940f6aa,0xb9413aac,0x710005bf,0xb0801c8,0xf940a2ad,0x540004a1,0x394082ae,0x394086af,0x710005df,0x1a9f01ee\n"
+    ".inst 0x12001dce,0x14000020,0xaa1f03e1,0xd10007a2,0x8b0f010b,0xeb01017f,0x540033a8,0x8b080001,0xcb010088,0xeb0f011f\n"
+    ".inst 0x540000a2,0xf10021ff,0x54000b42,0xaa1f03e8,0x1400008c,0xaa0403e0,0xaa0f03e2,0xf90013f0,0x2901ebf1,0xaa0f03fa\n"
+    ".inst 0x2a1203f9,0x290297e7,0x2a0603fc\n"
     "bl memmove\n"
-    ".inst 0x294197e7,0xb94007f1,0x2a1c03e6,0x2a1903f2,0xaa1a03ef,0xb9400bfa,0xf9400ff0,0x14000080,0x2a1f03ee,0x4b0d018c\n"
+    ".inst 0x294297e7,0xb9400ff1,0x2a1c03e6,0x2a1903f2,0xaa1a03ef,0xb94013fa,0xf94013f0,0x14000080,0x2a1f03ee,0x4b0d018c\n"
     ".inst 0x529fffed,0x5ac00529,0x1ace258c,0xb94002ae,0xb94036af,0x790002e9,0x5ac00569,0x5ac00908,0x6b0d019f,0x790006e9\n"
     ".inst 0x5ac00949,0x1a8d318b,0x2900a6e8,0x52820a08,0x5ac0096a,0x79001ae8,0x53087dc8,0x53107d49,0x53087dea,0x5ac009eb\n"
     ".inst 0x12181d08,0x52800299,0xb90012ff,0x79001ee9,0x33187dc8,0x5ac009c9,0x3dc002e0,0xb4f6108,0x4e201800,0xb494108\n"
@@ -9076,8 +9365,8 @@ __asm__(
     ".inst 0xf103ff3f,0x390036f1,0x79001ee8,0xb90012ff,0x54000368,0x6f00e401,0x6f00e400,0xf100433f,0xaa1703e8,0xaa1903e9\n"
     ".inst 0x54000123,0xaa1903e9,0xaa1703e8,0x3cc10502,0xd1004129,0xf1003d3f,0x4e618441,0x6f181440,0x54ffff68,0x4f185402\n"
     ".inst 0xf100212b,0x6e628421,0x2f18a422,0x6f18a421,0x6e601021,0x2e601040,0x4ea18400,0x4eb1b800,0x540002a2,0x2a1f03ea\n"
-    ".inst 0x1400001b,0xaa1703e0,0xa9015bfb,0xaa1703fb,0x2a0103f7,0xaa1903e1,0x2a1803fc,0xaa1003f8,0xaa0f03fa,0x2a0203f6\n"
-    ".inst 0x94000000,0x2a1603e2,0x2a1703e1,0xaa1b03f7,0xa9415bfb,0xaa1a03ef,0xaa1803f0,0x2a1c03f8,0x14000021,0xf8408509\n"
+    ".inst 0x1400001b,0xaa1703e0,0xa901dbf7,0xaa1b03f7,0x2a0103fb,0xaa1903e1,0x2a1803fc,0xaa1003f8,0xaa0f03fa,0x2a0203f6\n"
+    ".inst 0x94000000,0x2a1603e2,0x2a1b03e1,0xaa1703fb,0xa941dbf7,0xaa1a03ef,0xaa1803f0,0x2a1c03f8,0x14000021,0xf8408509\n"
     ".inst 0xdac00d29,0x12003d2a,0xd360fd2c,0x8b49c14a,0xb494149,0xb2c212a,0xaa0b03e9,0xf100112c,0x54000062,0x2a1f03eb\n"
     ".inst 0x14000006,0xb8404509,0x5ac00929,0x53107d2b,0xb29216b,0xaa0c03e9,0x1e26000c,0xf100092e,0x54000062,0x2a1f03ed\n"
     ".inst 0x14000004,0x78402509,0x5ac0052d,0xaa0e03e9,0xb0c014a,0xb0d016b,0xf100053f,0xb0b0140,0x54000061,0x39400108\n"
@@ -9086,68 +9375,114 @@ __asm__(
     ".inst 0x11001508,0xb000108,0x9ba97d09,0xd36ffd29,0x4b094129,0x2b090108,0x2a2803e8,0x5ac00908,0x53107d08,0x1a8803e8\n"
     ".inst 0x790022e8,0xb94036b7,0x71000edf,0x54ffbb41,0xf94026bb,0xaa1f03f6,0x390606bf,0x52800038,0x3940c2a8,0x121f1909\n"
     ".inst 0x7100093f,0x54000140,0x5280002a,0x5280760b,0x2a1f03e9,0x1ac8214a,0x6a0b015f,0x540000a0,0xa9442eaa,0xeb0b015f\n"
-    ".inst 0x54000662,0x52800029,0x5280002b,0x528089ec,0x2a1f03ea,0x1ac8216b,0x6a0c017f,0x540000e0,0x7100191f,0x54000141\n"
-    ".inst 0xf940a2ab,0xf100017f,0x1a9f17eb,0x14000007,0xf94052aa,0xf100015f,0x1a9f07ea,0x7100191f,0x54ffff00,0x2a1f03eb\n"
-    ".inst 0x7100291f,0xf94022a2,0x910682a0,0x1a9f17e8,0x910093e1,0xaa1003e3,0x390093e9,0x390097ea,0x39009be8,0x39009feb\n"
-    ".inst 0x94000000,0xa900569a,0x36000078,0x2a1f03e0,0x14000006,0xaa1f03f9,0xaa1f03fb,0xaa1f03f6,0x2a1f03f7,0x528006a0\n"
-    ".inst 0xa9006e79,0xf9000a76,0x29037e77,0xa94c4ff4,0xa94b57f6,0xa94a5ff8,0xa94967fa,0xa9486ffc,0xa9477bfd,0x910343ff\n"
-    ".inst 0xd65f03c0,0x7100191f,0x2a1f03e9,0x54fff9a0,0xeb0b015f,0x54fff961,0xf9402aa9,0xf94036ab,0x91000529,0xeb090149\n"
-    ".inst 0x9a8933e9,0xeb09017f,0x540000a9,0xb940e2a9,0x7100013f,0x1a9f17e9,0x17ffffc0,0x2a1f03e9,0x17ffffbe,0xaa0803e3\n"
-    ".inst 0x290197e7,0xaa0f03e5,0x2900ebf2,0xaa0f03fa,0x2a1103fc,0xf9000ff0,0x2a0603f9,0x94000000,0x294197e7,0xb94007f2\n"
-    ".inst 0x2a1903e6,0x2a1c03f1,0x17fffe9a\n"
-    ".reloc .Ltcp53+336,R_AARCH64_CALL26,.Ltcp30+0\n"
-    ".reloc .Ltcp53+604,R_AARCH64_CALL26,.Ltcp32+0\n"
-    ".reloc .Ltcp53+1136,R_AARCH64_CALL26,.Ltcp32+0\n"
-    ".reloc .Ltcp53+1384,R_AARCH64_CALL26,.Ltcp27+0\n"
-    ".reloc .Ltcp53+1612,R_AARCH64_CALL26,.Ltcp28+0\n"
-    ".reloc .Ltcp53+2540,R_AARCH64_CALL26,.Ltcp1+0\n"
-    ".reloc .Ltcp53+3020,R_AARCH64_CALL26,.Ltcp23+0\n"
-    ".reloc .Ltcp53+3208,R_AARCH64_CALL26,.Ltcp31+0\n"
-    ".section .text.tcp.54,\"ax\",%progbits\n"
+    ".inst 0x540005e2,0x52800029,0x5280002b,0x528089ec,0x2a1f03ea,0x1ac8216b,0x6a0c017f,0x54000100,0x7100191f,0x54000181\n"
+    ".inst 0xf940a2ab,0xf100017f,0x52a0200b,0x1a9f016b,0x14000008,0xf94052aa,0xf100015f,0x5280200a,0x1a8a03ea,0x7100191f\n"
+    ".inst 0x54fffec0,0x2a1f03eb,0xf94022a2,0x7100291f,0x52a0002c,0x2a0a012d,0xf9413eae,0x1a9f018c,0x2a0b01ad,0x2a0c01ac\n"
+    ".inst 0xeb0e005f,0xb81d03ac,0x54000721,0x394922ac,0x7100059f,0x1a9f07ec,0x6b09019f,0x54000680,0x394a02ac,0x7100059f\n"
+    ".inst 0x540002e0,0x370002c9,0xb94292a9,0x350005c9,0x394a52a9,0x360002a9,0x1400002b,0x7100191f,0x2a1f03e9,0x54fffa20\n"
+    ".inst 0xeb0b015f,0x54fff9e1,0xf9402aa9,0xf94036ab,0x91000529,0xeb090149,0x9a8933e9,0xeb09017f,0x540006e9,0xb940e2a9\n"
+    ".inst 0x7100013f,0x1a9f17e9,0x17ffffc4,0x7100059f,0x54000321,0x34000309,0x394962a9,0x7100015f,0x1a9f07ea,0x7100053f\n"
+    ".inst 0x1a9f07e9,0x6b09015f,0x54000220,0x3949a2a9,0x7100291f,0x1a9f17e8,0x7100053f,0x1a9f07e9,0x6b09011f,0x54000140\n"
+    ".inst 0x394aa2a8,0x7100017f,0x1a9f07e9,0x7100051f,0x1a9f07e8,0x6b08013f,0x54000060,0xf90162b0,0x14000005,0x910682a0\n"
+    ".inst 0xd100c3a1,0xaa1003e3,0x94000000,0xa900569a,0x36000078,0x2a1f03e0,0x14000006,0xaa1f03f9,0xaa1f03fb,0xaa1f03f6\n"
+    ".inst 0x2a1f03f7,0x528006a0,0xa9006e79,0xf9000a76,0x29037e77,0xa94c4ff4,0xa94b57f6,0xa94a5ff8,0xa94967fa,0xa9486ffc\n"
+    ".inst 0xa9477bfd,0x910343ff,0xd65f03c0,0x2a1f03e9,0x17ffff90,0xaa0803e3,0x290297e7,0xaa0f03e5,0x2901ebf2,0xaa0f03fa\n"
+    ".inst 0x2a1103fc,0xf90013f0,0x2a0603f9,0x94000000,0x294297e7,0xb9400ff2,0x2a1903e6,0x2a1c03f1,0x17fffe6c\n"
+    ".reloc .Ltcp54+332,R_AARCH64_CALL26,.Ltcp30+0\n"
+    ".reloc .Ltcp54+600,R_AARCH64_CALL26,.Ltcp32+0\n"
+    ".reloc .Ltcp54+1132,R_AARCH64_CALL26,.Ltcp32+0\n"
+    ".reloc .Ltcp54+1380,R_AARCH64_CALL26,.Ltcp27+0\n"
+    ".reloc .Ltcp54+1608,R_AARCH64_CALL26,.Ltcp28+0\n"
+    ".reloc .Ltcp54+2536,R_AARCH64_CALL26,.Ltcp1+0\n"
+    ".reloc .Ltcp54+3264,R_AARCH64_CALL26,.Ltcp23+0\n"
+    ".reloc .Ltcp54+3388,R_AARCH64_CALL26,.Ltcp31+0\n"
+    ".section .text.tcp.55,\"ax\",%progbits\n"
     ".balign 4\n"
-    ".Ltcp54:\n"
+    ".Ltcp55:\n"
     ".globl tcp_c_connection_free\n"
     ".hidden tcp_c_connection_free\n"
     ".type tcp_c_connection_free,%function\n"
     ".size tcp_c_connection_free,40\n"
     "tcp_c_connection_free:\n"
     ".inst 0xd28e8d8a,0xf9400009,0xf2ac2e8a,0xa9007c1f,0xf2ca0a4a,0xf2eec86a,0xeb0a013f,0x528003e9,0x1a8903e0,0xd65f03c0\n"
-    ".section .text.tcp.55,\"ax\",%progbits\n"
+    ".section .text.tcp.56,\"ax\",%progbits\n"
     ".balign 4\n"
-    ".Ltcp55:\n"
+    ".Ltcp56:\n"
     ".globl tcp_c_connection_listen\n"
     ".hidden tcp_c_connection_listen\n"
     ".type tcp_c_connection_listen,%function\n"
     ".size tcp_c_connection_listen,40\n"
     "tcp_c_connection_listen:\n"
     ".inst 0xd10083ff,0xaa0503e6,0x910023e5,0xa9017bfd,0x910043fd,0xf90007ff,0x94000000,0xa9417bfd,0x910083ff,0xd65f03c0\n"
-    ".reloc .Ltcp55+24,R_AARCH64_CALL26,.Ltcp24+0\n"
-    ".section .text.tcp.56,\"ax\",%progbits\n"
-    ".balign 4\n"
-    ".Ltcp56:\n"
-    ".globl tcp_c_connection_receive\n"
-    ".hidden tcp_c_connection_receive\n"
-    ".type tcp_c_connection_receive,%function\n"
-    ".size tcp_c_connection_receive,492\n"
-    "tcp_c_connection_receive:\n"
-    ".inst 0xd10203ff,0xa9055ff8,0xd28e8d97,0xf900009f,0xf2ac2e97,0xa90657f6,0xa9405408,0xf2ca0a57,0xa9027bfd,0x910083fd\n"
-    ".inst 0xf2eec877,0xa9036ffc,0xeb17011f,0xa90467fa,0xa9074ff4,0xa9007c1f,0x54000581,0xf100005f,0x52820008,0xaa0103f6\n"
-    ".inst 0x9a9f0108,0xaa0003f4,0xf94162b9,0x910023e0,0x8b080042,0xaa1503e1,0xaa0403f3,0xa900ffff,0xf9000fff,0x94000000\n"
-    ".inst 0x3940c2a8,0x394043f8,0x121f1909,0x7100093f,0x54000140,0x5280002a,0x5280760b,0x2a1f03e9,0x1ac8214a,0x6a0b015f\n"
-    ".inst 0x540000a0,0xa9442eaa,0xeb0b015f,0x540007c2,0x52800029,0x5280002b,0x394023fc,0x394027fa,0x1ac8216b,0xf9400ffb\n"
-    ".inst 0x528089ec,0x2a1f03ea,0x6a0c017f,0x54000120,0x7100191f,0x54000181,0xf940a2ab,0xf100017f,0x1a9f17eb,0x14000009\n"
-    ".inst 0x528003e0,0x14000024,0xf94052aa,0xf100015f,0x1a9f07ea,0x7100191f,0x54fffec0,0x2a1f03eb,0xd2e8000c,0xf94022a2\n"
-    ".inst 0x910682a0,0xeb0c02df,0x910023e1,0x390023e9,0x9a8c32cc,0x390027ea,0xeb19019f,0x39002feb,0x9a998183,0x7100291f\n"
-    ".inst 0x1a9f17e8,0x39002be8,0x94000000,0xa9005697,0x340000bc,0x11002f48,0xf900027f,0x12001d00,0x14000009,0x340000d8\n"
-    ".inst 0x71000b1f,0x52800668,0xf900027f,0x1a881500,0x14000003,0x2a1f03e0,0xf900027b,0xa9474ff4,0xa94657f6,0xa9455ff8\n"
-    ".inst 0xa94467fa,0xa9436ffc,0xa9427bfd,0x910203ff,0xd65f03c0,0x7100191f,0x2a1f03e9,0x54fff840,0xeb0b015f,0x54fff801\n"
-    ".inst 0xf9402aa9,0xf94036ab,0x91000529,0xeb090149,0x9a8933e9,0xeb09017f,0x540000a9,0xb940e2a9,0x7100013f,0x1a9f17e9\n"
-    ".inst 0x17ffffb5,0x2a1f03e9,0x17ffffb3\n"
-    ".reloc .Ltcp56+116,R_AARCH64_CALL26,.Ltcp33+0\n"
-    ".reloc .Ltcp56+328,R_AARCH64_CALL26,.Ltcp23+0\n"
+    ".reloc .Ltcp56+24,R_AARCH64_CALL26,.Ltcp24+0\n"
     ".section .text.tcp.57,\"ax\",%progbits\n"
     ".balign 4\n"
     ".Ltcp57:\n"
+    ".globl tcp_c_connection_peer\n"
+    ".hidden tcp_c_connection_peer\n"
+    ".type tcp_c_connection_peer,%function\n"
+    ".size tcp_c_connection_peer,104\n"
+    "tcp_c_connection_peer:\n"
+    ".inst 0xd28e8d89,0xa940200a,0xf2ac2e89,0xa9007c1f,0xf2ca0a49,0xf2eec869,0xeb09015f,0x54000141,0xf940250a,0xb400018a\n"
+    ".inst 0xb940350b,0x7940710c,0xa9002009,0x2a1f03e0,0xb900002b,0x7900004c,0xd65f03c0,0x528003e0,0xb900003f,0x7900005f\n"
+    ".inst 0xd65f03c0,0xa9002009,0x52800200,0xb900003f,0x7900005f,0xd65f03c0\n"
+    ".section .text.tcp.58,\"ax\",%progbits\n"
+    ".balign 4\n"
+    ".Ltcp58:\n"
+    ".globl tcp_c_connection_receive\n"
+    ".hidden tcp_c_connection_receive\n"
+    ".type tcp_c_connection_receive,%function\n"
+    ".size tcp_c_connection_receive,676\n"
+    "tcp_c_connection_receive:\n"
+    ".inst 0xd10203ff,0xa9055ff8,0xd28e8d97,0xf900009f,0xf2ac2e97,0xa90657f6,0xa9405408,0xf2ca0a57,0xa9027bfd,0x910083fd\n"
+    ".inst 0xf2eec877,0xf9001bfb,0xeb17011f,0xa90467fa,0xa9074ff4,0xa9007c1f,0x54000621,0xf100005f,0x52820008,0xd2e80009\n"
+    ".inst 0x9a9f0108,0xf94162aa,0xeb09003f,0x9a893029,0xaa0003f4,0x910023e0,0xeb0a013f,0x8b080042,0xaa1503e1,0xaa0403f3\n"
+    ".inst 0xa900ffff,0x9a8a8136,0xf9000fff,0x94000000,0x3940c2a8,0x394043f8,0x121f1909,0x7100093f,0x54000140,0x5280002a\n"
+    ".inst 0x5280760b,0x2a1f03e9,0x1ac8214a,0x6a0b015f,0x540000a0,0xa9442eaa,0xeb0b015f,0x54000682,0x52800029,0x5280002b\n"
+    ".inst 0x394023fb,0x394027f9,0x1ac8216b,0xf9400ffa,0x528089ec,0x2a1f03ea,0x6a0c017f,0x54000140,0x7100191f,0x540001c1\n"
+    ".inst 0xf940a2ab,0xf100017f,0x52a0200b,0x1a9f016b,0x1400000a,0x528003e0,0x1400005d,0xf94052aa,0xf100015f,0x5280200a\n"
+    ".inst 0x1a8a03ea,0x7100191f,0x54fffe80,0x2a1f03eb,0xf94022a2,0x7100291f,0x52a0002c,0x2a0a012d,0xf9413eae,0x1a9f018c\n"
+    ".inst 0x2a0b01ad,0x2a0c01ac,0xeb0e005f,0xb9000bec,0x54000721,0x394922ac,0x7100059f,0x1a9f07ec,0x6b09019f,0x54000680\n"
+    ".inst 0x394a02ac,0x7100059f,0x540002e0,0x370002c9,0xb94292a9,0x350005c9,0x394a52a9,0x360002a9,0x1400002b,0x7100191f\n"
+    ".inst 0x2a1f03e9,0x54fff980,0xeb0b015f,0x54fff941,0xf9402aa9,0xf94036ab,0x91000529,0xeb090149,0x9a8933e9,0xeb09017f\n"
+    ".inst 0x54000729,0xb940e2a9,0x7100013f,0x1a9f17e9,0x17ffffbf,0x7100059f,0x54000321,0x34000309,0x394962a9,0x7100015f\n"
+    ".inst 0x1a9f07ea,0x7100053f,0x1a9f07e9,0x6b09015f,0x54000220,0x3949a2a9,0x7100291f,0x1a9f17e8,0x7100053f,0x1a9f07e9\n"
+    ".inst 0x6b09011f,0x54000140,0x394aa2a8,0x7100017f,0x1a9f07e9,0x7100051f,0x1a9f07e8,0x6b08013f,0x54000060,0xf90162b6\n"
+    ".inst 0x14000005,0x910682a0,0x910023e1,0xaa1603e3,0x94000000,0xa9005697,0x340000bb,0x11002f28,0xf900027f,0x12001d00\n"
+    ".inst 0x14000009,0x340000d8,0x71000b1f,0x52800668,0xf900027f,0x1a881500,0x14000003,0x2a1f03e0,0xf900027a,0xa9474ff4\n"
+    ".inst 0xf9401bfb,0xa94657f6,0xa9455ff8,0xa94467fa,0xa9427bfd,0x910203ff,0xd65f03c0,0x2a1f03e9,0x17ffff89\n"
+    ".reloc .Ltcp58+132,R_AARCH64_CALL26,.Ltcp33+0\n"
+    ".reloc .Ltcp58+576,R_AARCH64_CALL26,.Ltcp23+0\n"
+    ".section .text.tcp.59,\"ax\",%progbits\n"
+    ".balign 4\n"
+    ".Ltcp59:\n"
+    ".globl tcp_c_connection_resend_first\n"
+    ".hidden tcp_c_connection_resend_first\n"
+    ".type tcp_c_connection_resend_first,%function\n"
+    ".size tcp_c_connection_resend_first,696\n"
+    "tcp_c_connection_resend_first:\n"
+    ".inst 0xd10103ff,0xa90257f6,0xd28e8d95,0xf2ac2e95,0xa9405808,0xf2ca0a55,0xa9017bfd,0x910043fd,0xf2eec875,0xa9034ff4\n"
+    ".inst 0xeb15011f,0xa9007c1f,0x540003e1,0xd2e80008,0xf94162c9,0x528006d4,0xeb08003f,0xaa0003f3,0x9a88302a,0x3940c2c8\n"
+    ".inst 0xeb09015f,0x9a898143,0x52800029,0x528089ea,0x1ac82129,0x6a0a013f,0x54000481,0xa9442ac9,0xeb0a013f,0x54000422\n"
+    ".inst 0x3940facd,0x79401acb,0x794076cc,0x710005bf,0x54000201,0xf940aecd,0x5280008e,0xf10011bf,0x9a8e31af,0xf10001bf\n"
+    ".inst 0x2a0f0dce,0x1a8e03ed,0x14000009,0x528003f4,0x2a1403e0,0xa9434ff4,0xa94257f6,0xa9417bfd,0x910103ff,0xd65f03c0\n"
+    ".inst 0x2a1f03ed,0x6b0b019f,0x2a1f03f4,0x1a8b318b,0x5280002c,0x6b2d216b,0xa90ca6cc,0x1a8b33eb,0x8b0b012b,0xeb0a017f\n"
+    ".inst 0x9a8a316a,0xf9006eca,0x121f1909,0x7100093f,0x54000140,0x5280002a,0x5280760b,0x2a1f03e9,0x1ac8214a,0x6a0b015f\n"
+    ".inst 0x540000a0,0xa9442eca,0xeb0b015f,0x540005e2,0x52800029,0x5280002b,0x528089ec,0x2a1f03ea,0x1ac8216b,0x6a0c017f\n"
+    ".inst 0x54000100,0x7100191f,0x54000181,0xf940a2cb,0xf100017f,0x52a0200b,0x1a9f016b,0x14000008,0xf94052ca,0xf100015f\n"
+    ".inst 0x5280200a,0x1a8a03ea,0x7100191f,0x54fffec0,0x2a1f03eb,0xf94022c2,0x7100291f,0x52a0002c,0x2a0a012d,0xf9413ece\n"
+    ".inst 0x1a9f018c,0x2a0b01ad,0x2a0c01ac,0xeb0e005f,0xb81fc3ac,0x54000721,0x394922cc,0x7100059f,0x1a9f07ec,0x6b09019f\n"
+    ".inst 0x54000680,0x394a02cc,0x7100059f,0x540002e0,0x370002c9,0xb94292c9,0x350005c9,0x394a52c9,0x360002a9,0x1400002b\n"
+    ".inst 0x7100191f,0x2a1f03e9,0x54fffa20,0xeb0b015f,0x54fff9e1,0xf9402ac9,0xf94036cb,0x91000529,0xeb090149,0x9a8933e9\n"
+    ".inst 0xeb09017f,0x54000529,0xb940e2c9,0x7100013f,0x1a9f17e9,0x17ffffc4,0x7100059f,0x54000321,0x34000309,0x394962c9\n"
+    ".inst 0x7100015f,0x1a9f07ea,0x7100053f,0x1a9f07e9,0x6b09015f,0x54000220,0x3949a2c9,0x7100291f,0x1a9f17e8,0x7100053f\n"
+    ".inst 0x1a9f07e9,0x6b09011f,0x54000140,0x394aa2c8,0x7100017f,0x1a9f07e9,0x7100051f,0x1a9f07e8,0x6b08013f,0x54000060\n"
+    ".inst 0xf90162c3,0x14000004,0x910682c0,0xd10013a1,0x94000000,0xa9005a75,0x2a1403e0,0xa9434ff4,0xa94257f6,0xa9417bfd\n"
+    ".inst 0x910103ff,0xd65f03c0,0x2a1f03e9,0x17ffff9e\n"
+    ".reloc .Ltcp59+656,R_AARCH64_CALL26,.Ltcp23+0\n"
+    ".section .text.tcp.60,\"ax\",%progbits\n"
+    ".balign 4\n"
+    ".Ltcp60:\n"
     ".globl tcp_c_connection_room\n"
     ".hidden tcp_c_connection_room\n"
     ".type tcp_c_connection_room,%function\n"
@@ -9156,46 +9491,61 @@ __asm__(
     ".inst 0xa9412408,0xd100050a,0xd100052b,0xaa0a016a,0xd354fd4a,0xb500008a,0x7940580a,0x7140055f,0x54000069,0xaa1f03e0\n"
     ".inst 0xd65f03c0,0x531d714b,0x7100015f,0x5280800a,0x91003d08,0x91003d29,0x1a8b014a,0x927ced08,0x927ced29,0x531f794a\n"
     ".inst 0x8b090108,0x1100794a,0x927b314a,0x8b0a0108,0x910b4100,0xd65f03c0\n"
-    ".section .text.tcp.58,\"ax\",%progbits\n"
+    ".section .text.tcp.61,\"ax\",%progbits\n"
     ".balign 4\n"
-    ".Ltcp58:\n"
+    ".Ltcp61:\n"
     ".globl tcp_c_connection_send\n"
     ".hidden tcp_c_connection_send\n"
     ".type tcp_c_connection_send,%function\n"
-    ".size tcp_c_connection_send,1104\n"
+    ".size tcp_c_connection_send,1292\n"
     "tcp_c_connection_send:\n"
-    ".inst 0xa9bb7bfd,0xa90357f6,0xd28e8d95,0xf100005f,0xf900009f,0xf2ac2e95,0x52820008,0xa940580a,0xf2ca0a55,0xf2eec875\n"
-    ".inst 0x9a9f0109,0xf9000bf9,0xa9025ff8,0x910003fd,0xeb15015f,0xa9044ff4,0xa9007c1f,0x54000461,0x3940c6ca,0xf94162c8\n"
-    ".inst 0xaa0403f3,0xaa0003f4,0x340008aa,0x2a1f03f8,0xaa1f03f7,0x528001d9,0x3940c2c9,0x121f192a,0x7100095f,0x54000140\n"
-    ".inst 0x5280002b,0x5280760c,0x2a1f03ea,0x1ac9216b,0x6a0c017f,0x540000a0,0xa94432cb,0xeb0c017f,0x540007a2,0x5280002a\n"
-    ".inst 0x5280002c,0x528089ed,0x2a1f03eb,0x1ac9218c,0x6a0d019f,0x540001c0,0x7100193f,0x54000221,0xf940a2cc,0xf100019f\n"
-    ".inst 0x1a9f17ec,0x1400000e,0x528003e0,0xa9444ff4,0xf9400bf9,0xa94357f6,0xa9425ff8,0xa8c57bfd,0xd65f03c0,0xf94052cb\n"
-    ".inst 0xf100017f,0x1a9f07eb,0x7100193f,0x54fffe20,0x2a1f03ec,0xd2e8000d,0xf94022c2,0x910682c0,0xeb0d003f,0x390073aa\n"
-    ".inst 0x9a8d302d,0x910073a1,0x390077ab,0xeb0801bf,0x39007fac,0x9a8881a3,0x7100293f,0x1a9f17e8,0x39007ba8,0x94000000\n"
-    ".inst 0x7100031f,0xa9005a95,0x9a9f12e8,0x1a9913e0,0xf9000268,0xa9444ff4,0xf9400bf9,0xa94357f6,0xa9425ff8,0xa8c57bfd\n"
-    ".inst 0xd65f03c0,0x3940c2d7,0x340002f7,0x710006ff,0x54000301,0x2a1f03f8,0xaa1f03f7,0x52800219,0x17ffffb8,0x7100193f\n"
-    ".inst 0x2a1f03ea,0x54fff860,0xeb0c017f,0x54fff821,0xf9402aca,0xf94036cc,0x9100054a,0xeb0a016a,0x9a8a33ea,0xeb0a019f\n"
-    ".inst 0x54000329,0xb940e2ca,0x7100015f,0x1a9f17ea,0x17ffffb6,0x2a1f03f8,0x52800179,0x17ffffa5,0x3940caca,0x360000aa\n"
-    ".inst 0x2a1f03f8,0xaa1f03f7,0x528001b9,0x17ffff9f,0xf9402aca,0xf94036cd,0xf94016cb,0x8b0a01ac,0xb4000123,0xeb0c017f\n"
-    ".inst 0x540000e8,0x2a1f03f8,0xaa1f03f7,0x528001f9,0x17ffff94,0x2a1f03ea,0x17ffffa0,0xf94032ca,0xeb0c016b,0x9a8b33eb\n"
-    ".inst 0xcb0d014c,0xeb0c017f,0x9a8c316b,0xeb0b007f,0x9a8b3077,0xb4000717,0xf9403ace,0x8b0d01cb,0xeb0a017f,0x9a8a33ef\n"
-    ".inst 0xcb0f016c,0xeb0c014b,0xeb17017f,0x9a97316b,0xeb0c014c,0xf9402eca,0x540002c0,0xf100217f,0x54000103,0x8b0d01d0\n"
-    ".inst 0x8b020131,0x8b0a0210,0xcb110210,0xcb0f0210,0xf100821f,0x540004e2,0xaa1f03f0,0x8b0d020d,0x8b0e01ad,0xcb0f01ae\n"
-    ".inst 0x8b10012f,0xcb0b020d,0x8b0e014e,0x8b0f004f,0x384015f0,0xb10005ad,0x380015d0,0x54ffffa3,0xeb0c02ff,0x54000269\n"
-    ".inst 0xcb0b02ec,0xf100219f,0x540000c3,0x8b02012d,0x8b0b01ad,0xcb0d014d,0xf10081bf,0x540002a2,0xaa1f03ed,0x8b0b01ab\n"
-    ".inst 0x8b0d014a,0x8b09016c,0xcb170169,0x8b0c004b,0x3840156c,0xb1000529,0x3800154c,0x54ffffa3,0xf94036c9,0x8b170129\n"
-    ".inst 0xf90036c9,0x52800179,0x52800038,0x17ffff4f,0xf100817f,0x540000e2,0xaa1f03f0,0x14000017,0xf100819f,0x540004a2\n"
-    ".inst 0xaa1f03ed,0x14000033,0x8b0e01b0,0x8b020120,0x927d0571,0xcb0f0212,0x927be970,0x8b0a0243,0x91004012,0x91004060\n"
-    ".inst 0x927be963,0xad7f8640,0xf1008063,0x91008252,0xad3f8400,0x91008000,0x54ffff61,0xeb10017f,0x54fff9c0,0xb4fff851\n"
-    ".inst 0xaa1003f1,0x927df170,0x8b0d0232,0x8b110120,0xcb100231,0x8b0e0252,0x8b000040,0xcb0f0252,0x8b120152,0xfc408400\n"
-    ".inst 0xb1002231,0xfc008640,0x54ffffa1,0xeb10017f,0x54fff7c0,0x17ffffb2,0x8b0b012f,0x927d058e,0x927be98d,0x8b0201f0\n"
-    ".inst 0x9100414f,0x927be991,0x91004210,0xad7f8600,0xf1008231,0x91008210,0xad3f85e0,0x910081ef,0x54ffff61,0xeb0d019f\n"
-    ".inst 0x54fff840,0xb4fff70e,0xaa0d03ef,0x927df18d,0x8b0f012e,0x8b0b01d0,0xcb0d01ee,0x8b0f014f,0x8b100050,0xfc408600\n"
-    ".inst 0xb10021ce,0xfc0085e0,0x54ffffa1,0xeb0d019f,0x54fff680,0x17ffffaa\n"
-    ".reloc .Ltcp58+316,R_AARCH64_CALL26,.Ltcp23+0\n"
-    ".section .text.tcp.59,\"ax\",%progbits\n"
+    ".inst 0xa9bb7bfd,0xa90357f6,0xd28e8d95,0xf100005f,0xf900009f,0xf2ac2e95,0x52820008,0xa9405809,0xf2ca0a55,0xf2eec875\n"
+    ".inst 0x9a9f0108,0xf9000bf9,0xa9025ff8,0x910003fd,0xeb15013f,0xa9044ff4,0xa9007c1f,0x54000541,0xd2e8000a,0xf94162cb\n"
+    ".inst 0x3940c6cc,0xeb0a003f,0xaa0403f3,0xaa0003f4,0x9a8a302a,0xaa0303e9,0xeb0b015f,0x9a8b8143,0x340008cc,0x2a1f03f8\n"
+    ".inst 0xaa1f03f7,0x528001d9,0x3940c2c8,0x121f1909,0x7100093f,0x54000140,0x5280002a,0x5280760b,0x2a1f03e9,0x1ac8214a\n"
+    ".inst 0x6a0b015f,0x540000a0,0xa9442eca,0xeb0b015f,0x540007c2,0x52800029,0x5280002b,0x528089ec,0x2a1f03ea,0x1ac8216b\n"
+    ".inst 0x6a0c017f,0x540001e0,0x7100191f,0x54000261,0xf940a2cb,0xf100017f,0x52a0200b,0x1a9f016b,0x1400000f,0x528003e0\n"
+    ".inst 0xa9444ff4,0xf9400bf9,0xa94357f6,0xa9425ff8,0xa8c57bfd,0xd65f03c0,0xf94052ca,0xf100015f,0x5280200a,0x1a8a03ea\n"
+    ".inst 0x7100191f,0x54fffde0,0x2a1f03eb,0xf94022c2,0x7100291f,0x52a0002c,0x2a0a012d,0xf9413ece,0x1a9f018c,0x2a0b01ad\n"
+    ".inst 0x2a0c01ac,0xeb0e005f,0xb9001fac,0x54000881,0x394922cc,0x7100059f,0x1a9f07ec,0x6b09019f,0x540007e0,0x394a02cc\n"
+    ".inst 0x7100059f,0x54000440,0x37000429,0xb94292c9,0x35000729,0x394a52c9,0x36000409,0x14000036,0x3940c2d7,0x340002f7\n"
+    ".inst 0x710006ff,0x54000801,0x2a1f03f8,0xaa1f03f7,0x52800219,0x17ffffb7,0x7100191f,0x2a1f03e9,0x54fff840,0xeb0b015f\n"
+    ".inst 0x54fff801,0xf9402ac9,0xf94036cb,0x91000529,0xeb090149,0x9a8933e9,0xeb09017f,0x54000829,0xb940e2c9,0x7100013f\n"
+    ".inst 0x1a9f17e9,0x17ffffb5,0x2a1f03f8,0x52800179,0x17ffffa4,0x7100059f,0x54000321,0x34000309,0x394962c9,0x7100015f\n"
+    ".inst 0x1a9f07ea,0x7100053f,0x1a9f07e9,0x6b09015f,0x54000220,0x3949a2c9,0x7100291f,0x1a9f17e8,0x7100053f,0x1a9f07e9\n"
+    ".inst 0x6b09011f,0x54000140,0x394aa2c8,0x7100017f,0x1a9f07e9,0x7100051f,0x1a9f07e8,0x6b08013f,0x54000060,0xf90162c3\n"
+    ".inst 0x14000004,0x910682c0,0x910073a1,0x94000000,0x7100031f,0xa9005a95,0x9a9f12e8,0x1a9913e0,0xf9000268,0xa9444ff4\n"
+    ".inst 0xf9400bf9,0xa94357f6,0xa9425ff8,0xa8c57bfd,0xd65f03c0,0x3940caca,0x360000aa,0x2a1f03f8,0xaa1f03f7,0x528001b9\n"
+    ".inst 0x17ffff76,0xf9402acb,0xf94036cc,0xf94016ca,0x8b0b018d,0xb4000129,0xeb0d015f,0x540000e8,0x2a1f03f8,0xaa1f03f7\n"
+    ".inst 0x528001f9,0x17ffff6b,0x2a1f03e9,0x17ffff77,0xf94032cb,0xeb0d014a,0x9a8a33ea,0xcb0c016d,0xeb0d015f,0x9a8d314a\n"
+    ".inst 0xeb0a013f,0x9a8a3137,0xb4000717,0xf9403acd,0x8b0c01a9,0xeb0b013f,0x9a8b33ee,0xcb0e0129,0xeb09016a,0xeb17015f\n"
+    ".inst 0x9a97314a,0xeb09016b,0xf9402ec9,0x540002c0,0xf100215f,0x54000103,0x8b0c01af,0x8b020110,0x8b0901ef,0xcb1001ef\n"
+    ".inst 0xcb0e01ef,0xf10081ff,0x540004e2,0xaa1f03ef,0x8b0c01ec,0x8b0d018c,0xcb0e018d,0x8b0f010e,0xcb0a01ec,0x8b0d012d\n"
+    ".inst 0x8b0e004e,0x384015cf,0xb100058c,0x380015af,0x54ffffa3,0xeb0b02ff,0x54000269,0xcb0a02eb,0xf100217f,0x540000c3\n"
+    ".inst 0x8b02010c,0x8b0a018c,0xcb0c012c,0xf100819f,0x540002a2,0xaa1f03ec,0x8b0a018a,0x8b0c0129,0x8b08014b,0xcb170148\n"
+    ".inst 0x8b0b004a,0x3840154b,0xb1000508,0x3800152b,0x54ffffa3,0xf94036c8,0x8b170108,0xf90036c8,0x52800179,0x52800038\n"
+    ".inst 0x17ffff26,0xf100815f,0x540000e2,0xaa1f03ef,0x14000017,0xf100817f,0x540004a2,0xaa1f03ec,0x14000033,0x8b0d018f\n"
+    ".inst 0x8b020112,0x927d0550,0xcb0e01f1,0x927be94f,0x8b090220,0x91004251,0x91004012,0x927be940,0xad7f8620,0xf1008000\n"
+    ".inst 0x91008231,0xad3f8640,0x91008252,0x54ffff61,0xeb0f015f,0x54fff9c0,0xb4fff850,0xaa0f03f0,0x927df14f,0x8b0c0211\n"
+    ".inst 0x8b100112,0xcb0f0210,0x8b0d0231,0x8b120052,0xcb0e0231,0x8b110131,0xfc408640,0xb1002210,0xfc008620,0x54ffffa1\n"
+    ".inst 0xeb0f015f,0x54fff7c0,0x17ffffb2,0x8b0a010e,0x927d056d,0x927be96c,0x8b0201cf,0x9100412e,0x927be970,0x910041ef\n"
+    ".inst 0xad7f85e0,0xf1008210,0x910081ef,0xad3f85c0,0x910081ce,0x54ffff61,0xeb0c017f,0x54fff840,0xb4fff70d,0xaa0c03ee\n"
+    ".inst 0x927df16c,0x8b0e010d,0x8b0a01af,0xcb0c01cd,0x8b0e012e,0x8b0f004f,0xfc4085e0,0xb10021ad,0xfc0085c0,0x54ffffa1\n"
+    ".inst 0xeb0c017f,0x54fff680,0x17ffffaa\n"
+    ".reloc .Ltcp61+612,R_AARCH64_CALL26,.Ltcp23+0\n"
+    ".section .text.tcp.62,\"ax\",%progbits\n"
     ".balign 4\n"
-    ".Ltcp59:\n"
+    ".Ltcp62:\n"
+    ".globl tcp_c_connection_set_user_timeout\n"
+    ".hidden tcp_c_connection_set_user_timeout\n"
+    ".type tcp_c_connection_set_user_timeout,%function\n"
+    ".size tcp_c_connection_set_user_timeout,68\n"
+    "tcp_c_connection_set_user_timeout:\n"
+    ".inst 0xd28e8d89,0xa9402808,0xf2ac2e89,0xa9007c1f,0xf2ca0a49,0xf2eec869,0xeb09011f,0x54000101,0xb100043f,0x1a9f07eb\n"
+    ".inst 0x9a9f102c,0xa91c314b,0xa9002809,0x2a1f03e0,0xd65f03c0,0x528003e0,0xd65f03c0\n"
+    ".section .text.tcp.63,\"ax\",%progbits\n"
+    ".balign 4\n"
+    ".Ltcp63:\n"
     ".globl tcp_c_connection_status\n"
     ".hidden tcp_c_connection_status\n"
     ".type tcp_c_connection_status,%function\n"
@@ -9210,9 +9560,9 @@ __asm__(
     ".inst 0x8b0400e3,0xda9f3252,0xcb070265,0xeb0300c3,0x91000484,0x3901382b,0x9a8333e3,0x4b1102cb,0xf9002c35,0xeb05007f\n"
     ".inst 0xa9424ff4,0x9a853062,0xeb0402a3,0xb900482c,0x9a8333e3,0xa94157f6,0xeb0300ff,0xa9028832,0x120001cc,0x9a8330f2\n"
     ".inst 0x3901302d,0xa903c827,0x3901342f,0x39013c2c,0x290a2c37,0x290c4038,0xa9002809,0xa8c35ff8,0x2a1f03e0,0xd65f03c0\n"
-    ".section .text.tcp.60,\"ax\",%progbits\n"
+    ".section .text.tcp.64,\"ax\",%progbits\n"
     ".balign 4\n"
-    ".Ltcp60:\n"
+    ".Ltcp64:\n"
     ".globl tcp_c_consume\n"
     ".hidden tcp_c_consume\n"
     ".type tcp_c_consume,%function\n"
@@ -9227,9 +9577,9 @@ __asm__(
     ".inst 0x3500016e,0x340000c8,0x39408128,0x3940852e,0x7100051f,0x1a9f01c8,0x12001d08,0x4b0d018c,0x1ac82588,0x7100011f\n"
     ".inst 0x1a9f07ef,0x3946052c,0x2a0f018c,0x1200018c,0x3906052c,0xa900240a,0x2a1f03e0,0xf900004b,0xd65f03c0,0xb9013d3f\n"
     ".inst 0x510011ef,0x710009ff,0x2a1f03ef,0x54fffce9,0x17fffff3\n"
-    ".section .text.tcp.61,\"ax\",%progbits\n"
+    ".section .text.tcp.65,\"ax\",%progbits\n"
     ".balign 4\n"
-    ".Ltcp61:\n"
+    ".Ltcp65:\n"
     ".globl tcp_c_emit\n"
     ".hidden tcp_c_emit\n"
     ".type tcp_c_emit,%function\n"
@@ -9296,16 +9646,16 @@ __asm__(
     ".inst 0xaa0a03e3,0xaa0403fa,0xaa0903e4,0xaa1103fb,0xaa1403fc,0x2a1203f4,0xb9000ff8,0x2a0603f8,0x2a1703f5,0x2a0703f7\n"
     ".inst 0x94000000,0x2a1803e6,0xaa1903e3,0xaa1b03f1,0x294163f9,0xb94007fb,0x2a1703e7,0x2a1503f7,0x2a1403f2,0xaa1c03f4\n"
     ".inst 0xaa1a03e4,0x17ffff19\n"
-    ".reloc .Ltcp61+208,R_AARCH64_CALL26,.Ltcp28+0\n"
-    ".reloc .Ltcp61+308,R_AARCH64_CALL26,.Ltcp30+0\n"
-    ".reloc .Ltcp61+520,R_AARCH64_CALL26,.Ltcp27+0\n"
-    ".reloc .Ltcp61+628,R_AARCH64_CALL26,.Ltcp32+0\n"
-    ".reloc .Ltcp61+732,R_AARCH64_CALL26,.Ltcp32+0\n"
-    ".reloc .Ltcp61+1648,R_AARCH64_CALL26,.Ltcp1+0\n"
-    ".reloc .Ltcp61+2304,R_AARCH64_CALL26,.Ltcp31+0\n"
-    ".section .text.tcp.62,\"ax\",%progbits\n"
+    ".reloc .Ltcp65+208,R_AARCH64_CALL26,.Ltcp28+0\n"
+    ".reloc .Ltcp65+308,R_AARCH64_CALL26,.Ltcp30+0\n"
+    ".reloc .Ltcp65+520,R_AARCH64_CALL26,.Ltcp27+0\n"
+    ".reloc .Ltcp65+628,R_AARCH64_CALL26,.Ltcp32+0\n"
+    ".reloc .Ltcp65+732,R_AARCH64_CALL26,.Ltcp32+0\n"
+    ".reloc .Ltcp65+1648,R_AARCH64_CALL26,.Ltcp1+0\n"
+    ".reloc .Ltcp65+2304,R_AARCH64_CALL26,.Ltcp31+0\n"
+    ".section .text.tcp.66,\"ax\",%progbits\n"
     ".balign 4\n"
-    ".Ltcp62:\n"
+    ".Ltcp66:\n"
     ".globl tcp_c_emit_acknowledgement\n"
     ".hidden tcp_c_emit_acknowledgement\n"
     ".type tcp_c_emit_acknowledgement,%function\n"
@@ -9325,10 +9675,10 @@ __asm__(
     ".inst 0xb506129,0x4e201800,0xb4a4129,0x12181d6a,0xb0a0129,0x6e703800,0xb4c4129,0x1e26000b,0x1140416a,0x1100654a\n"
     ".inst 0xb0a0129,0x5290002a,0x72b0000a,0x9baa7d2a,0xd36ffd4a,0x4b0a414a,0x2b0a0129,0x2a2903e9,0x5ac00929,0x53107d29\n"
     ".inst 0x1a8903e9,0x79002109,0x52800289,0xb940366a,0x2a1f03e8,0x3906067f,0xa9004c14,0xb900006a,0xf9000089,0x17ffffaf\n"
-    ".reloc .Ltcp62+200,R_AARCH64_CALL26,.Ltcp32+0\n"
-    ".section .text.tcp.63,\"ax\",%progbits\n"
+    ".reloc .Ltcp66+200,R_AARCH64_CALL26,.Ltcp32+0\n"
+    ".section .text.tcp.67,\"ax\",%progbits\n"
     ".balign 4\n"
-    ".Ltcp63:\n"
+    ".Ltcp67:\n"
     ".globl tcp_c_emit_partial\n"
     ".hidden tcp_c_emit_partial\n"
     ".type tcp_c_emit_partial,%function\n"
@@ -9384,15 +9734,15 @@ __asm__(
     ".inst 0x54ffffa1,0xeb0900bf,0xaa1803eb,0x54fff220,0x17ffff68,0xa90183e3,0xaa0803e0,0xaa0b03e1,0xaa0a03e3,0xf9000be4\n"
     ".inst 0xaa0903e4,0x2a1103fc,0x29009bf2,0x2a0703f9,0xb90003fe,0x94000000,0x29404bfe,0xa9410fe4,0x2a1903e7,0xb9400be6\n"
     ".inst 0x2a1c03f1,0x17ffff7d\n"
-    ".reloc .Ltcp63+208,R_AARCH64_CALL26,.Ltcp28+0\n"
-    ".reloc .Ltcp63+308,R_AARCH64_CALL26,.Ltcp30+0\n"
-    ".reloc .Ltcp63+520,R_AARCH64_CALL26,.Ltcp27+0\n"
-    ".reloc .Ltcp63+612,R_AARCH64_CALL26,.Ltcp32+0\n"
-    ".reloc .Ltcp63+704,R_AARCH64_CALL26,.Ltcp32+0\n"
-    ".reloc .Ltcp63+1868,R_AARCH64_CALL26,.Ltcp31+0\n"
-    ".section .text.tcp.64,\"ax\",%progbits\n"
+    ".reloc .Ltcp67+208,R_AARCH64_CALL26,.Ltcp28+0\n"
+    ".reloc .Ltcp67+308,R_AARCH64_CALL26,.Ltcp30+0\n"
+    ".reloc .Ltcp67+520,R_AARCH64_CALL26,.Ltcp27+0\n"
+    ".reloc .Ltcp67+612,R_AARCH64_CALL26,.Ltcp32+0\n"
+    ".reloc .Ltcp67+704,R_AARCH64_CALL26,.Ltcp32+0\n"
+    ".reloc .Ltcp67+1868,R_AARCH64_CALL26,.Ltcp31+0\n"
+    ".section .text.tcp.68,\"ax\",%progbits\n"
     ".balign 4\n"
-    ".Ltcp64:\n"
+    ".Ltcp68:\n"
     ".globl tcp_c_emit_train\n"
     ".hidden tcp_c_emit_train\n"
     ".type tcp_c_emit_train,%function\n"
@@ -9461,26 +9811,26 @@ __asm__(
     ".inst 0xfc0085c0,0x54ffffa1,0xeb0900bf,0xaa1b03ed,0x54fff0c0,0x17ffff5d,0xf9001be0,0xaa0803e0,0xaa0a03e1,0xf90013e4\n"
     ".inst 0xaa0903e4,0x2a1103fa,0x2902c3f2,0x29051bfe,0xf90007e7,0x94000000,0x29451bfe,0x2942c3f2,0xf94007e7,0xf9401be0\n"
     ".inst 0x2a1a03f1,0xf94013e4,0x17ffff72,0xd4200020\n"
-    ".reloc .Ltcp64+216,R_AARCH64_CALL26,.Ltcp28+0\n"
-    ".reloc .Ltcp64+328,R_AARCH64_CALL26,.Ltcp30+0\n"
-    ".reloc .Ltcp64+624,R_AARCH64_CALL26,.Ltcp27+0\n"
-    ".reloc .Ltcp64+792,R_AARCH64_CALL26,.Ltcp32+0\n"
-    ".reloc .Ltcp64+1224,R_AARCH64_ADR_PREL_PG_HI21,.Ltcp9+192\n"
-    ".reloc .Ltcp64+1236,R_AARCH64_LDST128_ABS_LO12_NC,.Ltcp9+192\n"
-    ".reloc .Ltcp64+1280,R_AARCH64_CALL26,.Ltcp32+0\n"
-    ".reloc .Ltcp64+2396,R_AARCH64_CALL26,.Ltcp31+0\n"
-    ".section .text.tcp.65,\"ax\",%progbits\n"
+    ".reloc .Ltcp68+216,R_AARCH64_CALL26,.Ltcp28+0\n"
+    ".reloc .Ltcp68+328,R_AARCH64_CALL26,.Ltcp30+0\n"
+    ".reloc .Ltcp68+624,R_AARCH64_CALL26,.Ltcp27+0\n"
+    ".reloc .Ltcp68+792,R_AARCH64_CALL26,.Ltcp32+0\n"
+    ".reloc .Ltcp68+1224,R_AARCH64_ADR_PREL_PG_HI21,.Ltcp9+192\n"
+    ".reloc .Ltcp68+1236,R_AARCH64_LDST128_ABS_LO12_NC,.Ltcp9+192\n"
+    ".reloc .Ltcp68+1280,R_AARCH64_CALL26,.Ltcp32+0\n"
+    ".reloc .Ltcp68+2396,R_AARCH64_CALL26,.Ltcp31+0\n"
+    ".section .text.tcp.69,\"ax\",%progbits\n"
     ".balign 4\n"
-    ".Ltcp65:\n"
+    ".Ltcp69:\n"
     ".globl tcp_c_free\n"
     ".hidden tcp_c_free\n"
     ".type tcp_c_free,%function\n"
     ".size tcp_c_free,40\n"
     "tcp_c_free:\n"
     ".inst 0xd28e8d8a,0xf9400009,0xf2ac2e8a,0xa9007c1f,0xf2ca0a4a,0xf2ee886a,0xeb0a013f,0x528003e9,0x1a8903e0,0xd65f03c0\n"
-    ".section .text.tcp.66,\"ax\",%progbits\n"
+    ".section .text.tcp.70,\"ax\",%progbits\n"
     ".balign 4\n"
-    ".Ltcp66:\n"
+    ".Ltcp70:\n"
     ".globl tcp_c_listen\n"
     ".hidden tcp_c_listen\n"
     ".type tcp_c_listen,%function\n"
@@ -9489,9 +9839,9 @@ __asm__(
     ".inst 0xd28e8d89,0xa9402808,0xf2ac2e89,0xa9007c1f,0xf2ca0a49,0xf2ee8869,0xeb09011f,0x540000e1,0x3940c548,0x340000e8\n"
     ".inst 0x528001c8,0xa9002809,0x2a0803e0,0xd65f03c0,0x528003e0,0xd65f03c0,0x3940c148,0x340000a8,0x52800188,0xa9002809\n"
     ".inst 0x2a0803e0,0xd65f03c0,0x5280002b,0x3900c14b,0xa9002809,0x2a0803e0,0xd65f03c0\n"
-    ".section .text.tcp.67,\"ax\",%progbits\n"
+    ".section .text.tcp.71,\"ax\",%progbits\n"
     ".balign 4\n"
-    ".Ltcp67:\n"
+    ".Ltcp71:\n"
     ".globl tcp_c_new\n"
     ".hidden tcp_c_new\n"
     ".type tcp_c_new,%function\n"
@@ -9510,12 +9860,12 @@ __asm__(
     ".inst 0xa8c47bfd,0xd65f03c0,0xf940d7f6,0x3cc083e0,0x910003e8,0x3cc183e1,0x9100a101,0x52803002,0x910082c0,0xad0006c0\n"
     "bl memcpy\n"
     ".inst 0x7140069f,0x54fffd48,0x2a1f03e8,0xa9005ab3,0x17ffffec\n"
-    ".reloc .Ltcp67+300,R_AARCH64_CALL26,.Ltcp25+0\n"
-    ".reloc .Ltcp67+368,R_AARCH64_ADR_PREL_PG_HI21,.Ltcp95+0\n"
-    ".reloc .Ltcp67+372,R_AARCH64_ADD_ABS_LO12_NC,.Ltcp95+0\n"
-    ".section .text.tcp.68,\"ax\",%progbits\n"
+    ".reloc .Ltcp71+300,R_AARCH64_CALL26,.Ltcp25+0\n"
+    ".reloc .Ltcp71+368,R_AARCH64_ADR_PREL_PG_HI21,.Ltcp99+0\n"
+    ".reloc .Ltcp71+372,R_AARCH64_ADD_ABS_LO12_NC,.Ltcp99+0\n"
+    ".section .text.tcp.72,\"ax\",%progbits\n"
     ".balign 4\n"
-    ".Ltcp68:\n"
+    ".Ltcp72:\n"
     ".globl tcp_c_next\n"
     ".hidden tcp_c_next\n"
     ".type tcp_c_next,%function\n"
@@ -9538,23 +9888,23 @@ __asm__(
     ".inst 0x91005188,0x5280028b,0xb940368a,0x1a9f27ee,0x9a8b310b,0x9000000f,0x910001ef,0x710001df,0xb86d59ed,0x2a1f03e8\n"
     ".inst 0x9a9f118c,0xa9005013,0x2900342a,0xa900a42b,0xf9000c2c,0xa9454ff4,0x2a0803e0,0xa94457f6,0xf9401bf7,0xa9427bfd\n"
     ".inst 0x910183ff,0xd65f03c0\n"
-    ".reloc .Ltcp68+348,R_AARCH64_CALL26,.Ltcp27+0\n"
-    ".reloc .Ltcp68+580,R_AARCH64_ADR_PREL_PG_HI21,.Ltcp9+208\n"
-    ".reloc .Ltcp68+584,R_AARCH64_ADD_ABS_LO12_NC,.Ltcp9+208\n"
-    ".section .text.tcp.69,\"ax\",%progbits\n"
+    ".reloc .Ltcp72+348,R_AARCH64_CALL26,.Ltcp27+0\n"
+    ".reloc .Ltcp72+580,R_AARCH64_ADR_PREL_PG_HI21,.Ltcp9+208\n"
+    ".reloc .Ltcp72+584,R_AARCH64_ADD_ABS_LO12_NC,.Ltcp9+208\n"
+    ".section .text.tcp.73,\"ax\",%progbits\n"
     ".balign 4\n"
-    ".Ltcp69:\n"
+    ".Ltcp73:\n"
     ".globl tcp_c_peer\n"
     ".hidden tcp_c_peer\n"
     ".type tcp_c_peer,%function\n"
-    ".size tcp_c_peer,100\n"
+    ".size tcp_c_peer,104\n"
     "tcp_c_peer:\n"
-    ".inst 0xb900003f,0xd28e8d8a,0x7900005f,0xf2ac2e8a,0xa9402408,0xf2ca0a4a,0xf2ee886a,0xa9007c1f,0xeb0a011f,0x54000141\n"
-    ".inst 0xf9402528,0xb4000148,0xb940352b,0x7940712c,0xa900240a,0x2a1f03e0,0xb900002b,0x7900004c,0xd65f03c0,0x528003e0\n"
-    ".inst 0xd65f03c0,0x52800208,0xa900240a,0x2a0803e0,0xd65f03c0\n"
-    ".section .text.tcp.70,\"ax\",%progbits\n"
+    ".inst 0xd28e8d89,0xa940200a,0xf2ac2e89,0xa9007c1f,0xf2ca0a49,0xf2ee8869,0xeb09015f,0x54000141,0xf940250a,0xb400018a\n"
+    ".inst 0xb940350b,0x7940710c,0xa9002009,0x2a1f03e0,0xb900002b,0x7900004c,0xd65f03c0,0x528003e0,0xb900003f,0x7900005f\n"
+    ".inst 0xd65f03c0,0xa9002009,0x52800200,0xb900003f,0x7900005f,0xd65f03c0\n"
+    ".section .text.tcp.74,\"ax\",%progbits\n"
     ".balign 4\n"
-    ".Ltcp70:\n"
+    ".Ltcp74:\n"
     ".globl tcp_c_pending\n"
     ".hidden tcp_c_pending\n"
     ".type tcp_c_pending,%function\n"
@@ -9572,10 +9922,10 @@ __asm__(
     ".inst 0x39460688,0x34000328,0x3940fa88,0x7100051f,0xaa1f03e8,0x54ffff21,0xf940ae89,0x5280008a,0xf100113f,0x9a8a312a\n"
     ".inst 0xf100013f,0x52800289,0xd37df14a,0x9100614a,0x9a8a0129,0x8b080129,0x2a1f03e8,0xa9005013,0xb9000029,0xa9454ff4\n"
     ".inst 0x2a0803e0,0xa94457f6,0xf9401bf7,0xa9427bfd,0x910183ff,0xd65f03c0,0xa9005013,0x17fffff8\n"
-    ".reloc .Ltcp70+308,R_AARCH64_CALL26,.Ltcp27+0\n"
-    ".section .text.tcp.71,\"ax\",%progbits\n"
+    ".reloc .Ltcp74+308,R_AARCH64_CALL26,.Ltcp27+0\n"
+    ".section .text.tcp.75,\"ax\",%progbits\n"
     ".balign 4\n"
-    ".Ltcp71:\n"
+    ".Ltcp75:\n"
     ".globl tcp_c_receive\n"
     ".hidden tcp_c_receive\n"
     ".type tcp_c_receive,%function\n"
@@ -9587,12 +9937,12 @@ __asm__(
     ".inst 0xa9005696,0x340001eb,0x11002d28,0xf900027f,0x12001d00,0xa9444ff4,0xa94357f6,0xa9427bfd,0x910143ff,0xd65f03c0\n"
     ".inst 0x528003e0,0xa9444ff4,0xa94357f6,0xa9427bfd,0x910143ff,0xd65f03c0,0x7100011f,0x9a9f0149,0xf9000269,0x90000009\n"
     ".inst 0x91000129,0xb8687920,0xa9444ff4,0xa94357f6,0xa9427bfd,0x910143ff,0xd65f03c0\n"
-    ".reloc .Ltcp71+100,R_AARCH64_CALL26,.Ltcp33+0\n"
-    ".reloc .Ltcp71+196,R_AARCH64_ADR_PREL_PG_HI21,.Ltcp96+0\n"
-    ".reloc .Ltcp71+200,R_AARCH64_ADD_ABS_LO12_NC,.Ltcp96+0\n"
-    ".section .text.tcp.72,\"ax\",%progbits\n"
+    ".reloc .Ltcp75+100,R_AARCH64_CALL26,.Ltcp33+0\n"
+    ".reloc .Ltcp75+196,R_AARCH64_ADR_PREL_PG_HI21,.Ltcp100+0\n"
+    ".reloc .Ltcp75+200,R_AARCH64_ADD_ABS_LO12_NC,.Ltcp100+0\n"
+    ".section .text.tcp.76,\"ax\",%progbits\n"
     ".balign 4\n"
-    ".Ltcp72:\n"
+    ".Ltcp76:\n"
     ".globl tcp_c_resend_first\n"
     ".hidden tcp_c_resend_first\n"
     ".type tcp_c_resend_first,%function\n"
@@ -9603,9 +9953,9 @@ __asm__(
     ".inst 0x7100051f,0x540001e1,0xf940ad28,0x5280008f,0xf100111f,0x9a8f3110,0xf100011f,0x2a100def,0x1a8f03ef,0x14000008\n"
     ".inst 0x528003e0,0xd65f03c0,0x528006c8,0xa900240a,0x2a0803e0,0xd65f03c0,0x2a1f03ef,0x6b0d01df,0x1a8d31cd,0x5280002e\n"
     ".inst 0x6b2f21ad,0xa90cad2e,0x1a8d33ed,0x8b0d016d,0xeb0c01bf,0x9a8c31ab,0xf9006d2b,0xa900240a,0x2a1f03e0,0xd65f03c0\n"
-    ".section .text.tcp.73,\"ax\",%progbits\n"
+    ".section .text.tcp.77,\"ax\",%progbits\n"
     ".balign 4\n"
-    ".Ltcp73:\n"
+    ".Ltcp77:\n"
     ".globl tcp_c_room\n"
     ".hidden tcp_c_room\n"
     ".type tcp_c_room,%function\n"
@@ -9614,9 +9964,9 @@ __asm__(
     ".inst 0xa9412408,0xd100050a,0xd100052b,0xaa0a016a,0xd354fd4a,0xb500008a,0x7940580a,0x7140055f,0x54000069,0xaa1f03e0\n"
     ".inst 0xd65f03c0,0x531d714b,0x7100015f,0x5280800a,0x91003d08,0x91003d29,0x1a8b014a,0x927ced08,0x927ced29,0x531f794a\n"
     ".inst 0x8b090108,0x1100794a,0x927b314a,0x8b0a0108,0x91068100,0xd65f03c0\n"
-    ".section .text.tcp.74,\"ax\",%progbits\n"
+    ".section .text.tcp.78,\"ax\",%progbits\n"
     ".balign 4\n"
-    ".Ltcp74:\n"
+    ".Ltcp78:\n"
     ".globl tcp_c_send\n"
     ".hidden tcp_c_send\n"
     ".type tcp_c_send,%function\n"
@@ -9642,9 +9992,9 @@ __asm__(
     ".inst 0x91004252,0xad7f8640,0xf1008042,0x91008252,0xad3f8620,0x91008231,0x54ffff61,0xeb0f01df,0x54fff820,0xb4fff6f0\n"
     ".inst 0xaa0f03f1,0x927df1cf,0x8b110110,0x8b0d0212,0xcb0f0230,0x8b110191,0x8b120032,0xfc408640,0xb1002210,0xfc008620\n"
     ".inst 0x54ffffa1,0xeb0f01df,0x54fff660,0x17ffffa9\n"
-    ".section .text.tcp.75,\"ax\",%progbits\n"
+    ".section .text.tcp.79,\"ax\",%progbits\n"
     ".balign 4\n"
-    ".Ltcp75:\n"
+    ".Ltcp79:\n"
     ".globl tcp_c_sent\n"
     ".hidden tcp_c_sent\n"
     ".type tcp_c_sent,%function\n"
@@ -9662,10 +10012,10 @@ __asm__(
     ".inst 0x3100095f,0xf900268b,0x54000222,0x39432288,0x7100051f,0x540000a1,0xf9006a89,0x14000003,0x39460688,0x34000048\n"
     ".inst 0x3906069f,0x2a1f03e8,0xa9005013,0xa9444ff4,0x2a0803e0,0xa9427bfd,0xf9401bf5,0x910143ff,0xd65f03c0,0x7100051f\n"
     ".inst 0x3906069f,0x54fffec1,0x39060a9f,0x17fffff4\n"
-    ".reloc .Ltcp75+304,R_AARCH64_CALL26,.Ltcp27+0\n"
-    ".section .text.tcp.76,\"ax\",%progbits\n"
+    ".reloc .Ltcp79+304,R_AARCH64_CALL26,.Ltcp27+0\n"
+    ".section .text.tcp.80,\"ax\",%progbits\n"
     ".balign 4\n"
-    ".Ltcp76:\n"
+    ".Ltcp80:\n"
     ".globl tcp_c_status\n"
     ".hidden tcp_c_status\n"
     ".type tcp_c_status,%function\n"
@@ -9680,9 +10030,9 @@ __asm__(
     ".inst 0x8b0400e3,0xda9f3252,0xcb070265,0xeb0300c3,0x91000484,0x3901382b,0x9a8333e3,0x4b1102cb,0xf9002c35,0xeb05007f\n"
     ".inst 0xa9424ff4,0x9a853062,0xeb0402a3,0xb900482c,0x9a8333e3,0xa94157f6,0xeb0300ff,0xa9028832,0x120001cc,0x9a8330f2\n"
     ".inst 0x3901302d,0xa903c827,0x3901342f,0x39013c2c,0x290a2c37,0x290c4038,0xa9002809,0xa8c35ff8,0x2a1f03e0,0xd65f03c0\n"
-    ".section .text.tcp.77,\"ax\",%progbits\n"
+    ".section .text.tcp.81,\"ax\",%progbits\n"
     ".balign 4\n"
-    ".Ltcp77:\n"
+    ".Ltcp81:\n"
     ".globl tcp_c_stray_reset\n"
     ".hidden tcp_c_stray_reset\n"
     ".type tcp_c_stray_reset,%function\n"
@@ -9713,10 +10063,10 @@ __asm__(
     ".inst 0x1e260009,0xb090108,0x52900029,0x11404108,0x72b00009,0x11006508,0x9ba97d09,0xd36ffd29,0x4b094129,0x2b090108\n"
     ".inst 0x2a2803e8,0x5ac00908,0x53107d08,0x1a8803e8,0x79002208,0xf90001d2,0xa9444ff4,0xf9400bf9,0xa94357f6,0xa9425ff8\n"
     ".inst 0xa8c57bfd,0xd65f03c0\n"
-    ".reloc .Ltcp77+320,R_AARCH64_CALL26,.Ltcp1+0\n"
-    ".section .text.tcp.78,\"ax\",%progbits\n"
+    ".reloc .Ltcp81+320,R_AARCH64_CALL26,.Ltcp1+0\n"
+    ".section .text.tcp.82,\"ax\",%progbits\n"
     ".balign 4\n"
-    ".Ltcp78:\n"
+    ".Ltcp82:\n"
     ".globl tcp_c_timers\n"
     ".hidden tcp_c_timers\n"
     ".type tcp_c_timers,%function\n"
@@ -9729,9 +10079,9 @@ __asm__(
     ".inst 0xb9000029,0xd65f03c0,0x528003e0,0xd65f03c0,0x7100197f,0x2a1f03ec,0x54fffd20,0xeb0d011f,0x54fffce1,0xf940294c\n"
     ".inst 0xf940354d,0x9100058c,0xeb0c0108,0x9a8833e8,0xeb0801bf,0x540000a9,0xb940e148,0x7100011f,0x1a9f17ec,0x17ffffdc\n"
     ".inst 0x2a1f03ec,0x17ffffda\n"
-    ".section .text.tcp.79,\"ax\",%progbits\n"
+    ".section .text.tcp.83,\"ax\",%progbits\n"
     ".balign 4\n"
-    ".Ltcp79:\n"
+    ".Ltcp83:\n"
     ".globl tcp_c_transmit\n"
     ".hidden tcp_c_transmit\n"
     ".type tcp_c_transmit,%function\n"
@@ -9794,34 +10144,29 @@ __asm__(
     ".inst 0x8b0b036e,0xcb09014a,0x8b0d010d,0x8b0e01ee,0xfc4085a0,0xb100214a,0xfc0085c0,0x54ffffa1,0xeb09023f,0x54ffe700\n"
     ".inst 0x17ffff13,0xa90083e3,0xaa0803e0,0xaa0a03e1,0xaa0903e3,0x290043e5,0xaa1103e5,0xaa1103fb,0x2a1203f9,0x94000000\n"
     ".inst 0x294043e5,0xa94083e3,0x2a1903f2,0xaa1b03f1,0x17ffff29\n"
-    ".reloc .Ltcp79+204,R_AARCH64_CALL26,.Ltcp28+0\n"
-    ".reloc .Ltcp79+308,R_AARCH64_CALL26,.Ltcp30+0\n"
-    ".reloc .Ltcp79+520,R_AARCH64_CALL26,.Ltcp27+0\n"
-    ".reloc .Ltcp79+608,R_AARCH64_CALL26,.Ltcp32+0\n"
-    ".reloc .Ltcp79+692,R_AARCH64_CALL26,.Ltcp32+0\n"
-    ".reloc .Ltcp79+1540,R_AARCH64_CALL26,.Ltcp1+0\n"
-    ".reloc .Ltcp79+2180,R_AARCH64_CALL26,.Ltcp31+0\n"
-    ".section .text.tcp.80,\"ax\",%progbits\n"
+    ".reloc .Ltcp83+204,R_AARCH64_CALL26,.Ltcp28+0\n"
+    ".reloc .Ltcp83+308,R_AARCH64_CALL26,.Ltcp30+0\n"
+    ".reloc .Ltcp83+520,R_AARCH64_CALL26,.Ltcp27+0\n"
+    ".reloc .Ltcp83+608,R_AARCH64_CALL26,.Ltcp32+0\n"
+    ".reloc .Ltcp83+692,R_AARCH64_CALL26,.Ltcp32+0\n"
+    ".reloc .Ltcp83+1540,R_AARCH64_CALL26,.Ltcp1+0\n"
+    ".reloc .Ltcp83+2180,R_AARCH64_CALL26,.Ltcp31+0\n"
+    ".section .text.tcp.84,\"ax\",%progbits\n"
     ".balign 4\n"
-    ".Ltcp80:\n"
+    ".Ltcp84:\n"
     ".globl tcp_c_connection_poll_at\n"
     ".hidden tcp_c_connection_poll_at\n"
     ".type tcp_c_connection_poll_at,%function\n"
-    ".size tcp_c_connection_poll_at,372\n"
+    ".size tcp_c_connection_poll_at,132\n"
     "tcp_c_connection_poll_at:\n"
-    ".inst 0xd28e8d89,0xf900003f,0xf2ac2e89,0xa9402808,0xf2ca0a49,0xa9007c1f,0xf2eec869,0xeb09011f,0x54000101,0xb941a948\n"
-    ".inst 0xb942914b,0x6b0b011f,0x540000c9,0xaa1f03ec,0x5280002b,0x14000019,0x528003e0,0xd65f03c0,0xf9413d48,0x5280020d\n"
-    ".inst 0x9106814b,0x394a014c,0x5280030e,0xf100011f,0x52800408,0x9a8801a8,0x5280050d,0x9a8d01cd,0x38686968,0x7100059f\n"
-    ".inst 0xf86d696d,0xf941454c,0x7a410900,0xd2e80008,0x1a9f07eb,0xeb0801bf,0x9a8831a8,0x7200017f,0x8b0c0108,0x9a8813ec\n"
-    ".inst 0xf941314d,0xf941394e,0x3949614f,0x3949a150,0x394aa151,0xeb0d01df,0x12001def,0x9a8d31d2,0x7100061f,0x9a8d024d\n"
-    ".inst 0x710005ff,0x39474152,0x1a9f17ef,0x9a8e01ad,0x7100061f,0xf940ed4e,0x1a9f15ef,0x7100063f,0xd2e80010,0x7a410a40\n"
-    ".inst 0xf9415951,0x1a9f07f2,0xeb1001df,0x9a9031ce,0x7200025f,0xf9412950,0x8b1101ce,0x9a8e13ee,0xeb0c01df,0x9a8c31d1\n"
-    ".inst 0x7200025f,0x9a91118c,0x7200016b,0x39492151,0x9a8c11cc,0xeb1001bf,0xa9002809,0x9a9031ae,0x720001ff,0x2a1f03e0\n"
-    ".inst 0x9a9011ce,0x7100063f,0x9a8d01cd,0x1a9f15ee,0xeb0c01bf,0x9a8c31af,0x720001df,0x9a8c11ec,0xda9f11ad,0x6a12017f\n"
-    ".inst 0x9a8c11a9,0xf9000029,0xd65f03c0\n"
-    ".section .text.tcp.81,\"ax\",%progbits\n"
+    ".inst 0xa9bd7bfd,0xa90157f6,0xd28e8d95,0x910003fd,0xf900003f,0xf2ac2e95,0xa9405808,0xf2ca0a55,0xf2eec875,0xa9024ff4\n"
+    ".inst 0xa9007c1f,0xeb15011f,0x54000201,0xaa0003f4,0x910682c0,0xaa0103f3,0x94000000,0x2a0003e8,0x2a1f03e0,0xa9005a95\n"
+    ".inst 0x12001d08,0x7100051f,0xda9f0028,0xf9000268,0xa9424ff4,0xa94157f6,0xa8c37bfd,0xd65f03c0,0x528003e0,0xa9424ff4\n"
+    ".inst 0xa94157f6,0xa8c37bfd,0xd65f03c0\n"
+    ".reloc .Ltcp84+64,R_AARCH64_CALL26,.Ltcp35+0\n"
+    ".section .text.tcp.85,\"ax\",%progbits\n"
     ".balign 4\n"
-    ".Ltcp81:\n"
+    ".Ltcp85:\n"
     ".globl tcp_c_time_wait_pending\n"
     ".hidden tcp_c_time_wait_pending\n"
     ".type tcp_c_time_wait_pending,%function\n"
@@ -9830,9 +10175,9 @@ __asm__(
     ".inst 0xb900003f,0x528e6e89,0xb9400008,0x72aa4ca9,0x6b09011f,0x54000221,0x79405c08,0x71000d1f,0x540001c8,0xb9401808\n"
     ".inst 0x7144011f,0x528004e8,0x54000108,0x3940a809,0x7100393f,0x540000a8,0x79405808,0x350000e8,0x3940ac08,0x350000a8\n"
     ".inst 0x2a0803e0,0xd65f03c0,0x528004e0,0xd65f03c0,0x2a1f03e8,0x52800289,0xb9000029,0x2a0803e0,0xd65f03c0\n"
-    ".section .text.tcp.82,\"ax\",%progbits\n"
+    ".section .text.tcp.86,\"ax\",%progbits\n"
     ".balign 4\n"
-    ".Ltcp82:\n"
+    ".Ltcp86:\n"
     ".globl tcp_c_time_wait_status\n"
     ".hidden tcp_c_time_wait_status\n"
     ".type tcp_c_time_wait_status,%function\n"
@@ -9841,56 +10186,61 @@ __asm__(
     ".inst 0xb900003f,0x528e6e89,0xb900005f,0x72aa4ca9,0xb9400008,0x6b09011f,0x54000261,0x79405c08,0x71000d1f,0x54000208\n"
     ".inst 0xb940180a,0xaa0003e9,0x528004e0,0x7144015f,0x54000148,0x3940a929,0x7100393f,0x540000e8,0x7100011f,0x52800149\n"
     ".inst 0x2a1f03e0,0x1a9f0129,0xb9000029,0xb9000048,0xd65f03c0,0x528004e0,0xd65f03c0\n"
-    ".section .text.tcp.83,\"ax\",%progbits\n"
+    ".section .text.tcp.87,\"ax\",%progbits\n"
     ".balign 4\n"
-    ".Ltcp83:\n"
+    ".Ltcp87:\n"
     ".globl tcp_c_connection_timeout\n"
     ".hidden tcp_c_connection_timeout\n"
     ".type tcp_c_connection_timeout,%function\n"
-    ".size tcp_c_connection_timeout,1472\n"
+    ".size tcp_c_connection_timeout,1608\n"
     "tcp_c_connection_timeout:\n"
-    ".inst 0xd10143ff,0xa9044ff4,0xd28e8d94,0xb900005f,0xf2ac2e94,0xa9404c08,0xf2ca0a54,0xf2eec874,0xa9017bfd,0x910043fd\n"
-    ".inst 0xa9025ff8,0xeb14011f,0xa90357f6,0xa9007c1f,0x54000321,0xd2e80008,0xf9416269,0x394ae26a,0xeb08003f,0x2a1f03f5\n"
-    ".inst 0xb81fc3bf,0x9a883028,0xeb09011f,0x9a898103,0x360002ca,0x2a1f03f6,0xf9016263,0x12001ea8,0xa9004c14,0x7100051f\n"
-    ".inst 0x54002721,0x2a1f03e0,0xb9000056,0xa9444ff4,0xa94357f6,0xa9425ff8,0xa9417bfd,0x910143ff,0xd65f03c0,0x528003e0\n"
-    ".inst 0xa9444ff4,0xa94357f6,0xa9425ff8,0xa9417bfd,0x910143ff,0xd65f03c0,0xb941aa68,0xb942926a,0x6b0a011f,0x91068268\n"
-    ".inst 0x54000089,0xaa1f03e9,0x52800028,0x14000016,0xf9413e69,0x5280020c,0x394a026b,0x5280030d,0xf100013f,0x52800409\n"
-    ".inst 0x9a890189,0x5280050c,0x9a8c01ac,0x38696909,0x7100057f,0xf86c690c,0xf941466b,0x7a410920,0xd2e80009,0x1a9f07e8\n"
-    ".inst 0xeb09019f,0x9a893189,0x7200011f,0x8b0b0129,0x9a8913e9,0x394aa26b,0x3947426c,0xf940ee6d,0x7100057f,0xd2e8000b\n"
-    ".inst 0x7a410980,0xf9415a6c,0x1a9f17ee,0xeb0b01bf,0x9a8b31ab,0x720001df,0x8b0c016b,0x9a9f116b,0xeb09017f,0x9a89316c\n"
-    ".inst 0x720001df,0x9a891189,0x7200011f,0x2a2801cc,0x9a891168,0x360005cc,0xeb03011f,0x54000588,0x3940c668,0x910aa277\n"
-    ".inst 0x35000368,0x3940c268,0x34000328,0x51000d08,0xaa0303f5,0xaa0003f6,0xaa0203f8,0x7100111f,0x540001a8,0xb9403668\n"
-    ".inst 0x79407269,0x5280002a,0xb9404a6b,0xb9400a6c,0xb901866a,0x79031a69,0xb0b0189,0xb9018a68,0x91065268,0xb9019269\n"
-    ".inst 0xf900011f,0xaa1303e0,0x52800061,0x94000000,0xaa1803e2,0xaa1603e0,0xaa1503e3,0x6f00e400,0xf941266b,0xf9412a69\n"
-    ".inst 0xf9412e6c,0xf941326a,0x52800076,0xf941366d,0xf9413a6e,0x52800035,0x3940c268,0xb902927f,0xa9007eff,0x3d80a260\n"
-    ".inst 0x14000091,0x39492268,0xf9412a69,0x7100051f,0x54000241,0xeb03013f,0x54000208,0x3940c268,0x5280002b,0x528089ec\n"
-    ".inst 0x2a1f03e9,0x1ac8216b,0x6a0c017f,0x54000920,0x5280002b,0x528089ed,0x2a1f03ec,0x1ac8216b,0x6a0d017f,0x54000980\n"
-    ".inst 0x34000c69,0x1400005b,0x39496268,0xf941326a,0x7100051f,0x540004a1,0xeb03015f,0x54000468,0x3940c268,0x5280002a\n"
-    ".inst 0x528089eb,0x1ac8214a,0x6a0b015f,0x540001a1,0xf940526a,0xb400016a,0xf9404e6b,0xf940226c,0x5280002d,0x8b0a0d6a\n"
-    ".inst 0xf9402a6b,0xb85fc14a,0xa90cb26d,0x8b0b014a,0x9100054a,0xf9006e6a,0xf941126b,0xf9414e6d,0xaa1f03ec,0xf9413a6e\n"
-    ".inst 0xaa1f03ea,0x52800036,0xeb0b01bf,0x52800035,0x9a8b31ad,0xd37ff9ad,0xeb0b01bf,0x9a8b31af,0xf941266b,0xf941366d\n"
-    ".inst 0xf9014e6f,0x14000054,0x3949a268,0xf9413a6b,0x7100051f,0x1a9f17e8,0xeb03017f,0x1a9f87eb,0x6a0b0115,0x3607e915\n"
-    ".inst 0x3940c268,0x7100291f,0x54000101,0x2a1f03e8,0x5280200b,0x7903027f,0x7900626b,0x39060a7f,0xa90d7e7f,0xf900667f\n"
-    ".inst 0xf941266b,0xf9412e6c,0xaa1f03ed,0xaa1f03ee,0x52800056,0x1400003c,0xa9442e69,0xeb0b013f,0x1a9f27e9,0x5280002b\n"
-    ".inst 0x528089ed,0x2a1f03ec,0x1ac8216b,0x6a0d017f,0x54fff6c1,0xa944326b,0xeb0c017f,0x540001a1,0xf9402a6c,0xf940366d\n"
-    ".inst 0x9100058c,0xeb0c016b,0x9a8b33eb,0xeb0b01bf,0x540000c9,0xb940e26b,0x7100017f,0x1a9f17ec,0x35000089,0x1400000a\n"
-    ".inst 0x2a1f03ec,0x34000109,0xf9405269,0xb4000049,0xf900527f,0x3dc01260,0x52800029,0xf9006669,0x3d803660,0xf941126d\n"
-    ".inst 0x121f190e,0x39460a70,0x710009df,0xf940fa6e,0x3946026f,0xd37ff9ad,0x2a10018c,0x1a9f17f0,0x2a0f020f,0x39060a6c\n"
-    ".inst 0xf9412e6c,0xeb0e01bf,0x3906026f,0x2a1f03f6,0x9a8e31ad,0x3100054a,0xf9413a6e,0xf901126d,0x5a9f314f,0xf941326a\n"
-    ".inst 0xf941366d,0xaa1f03eb,0xaa1f03e9,0xb902926f,0x52800035,0xf901326a,0x121f190a,0xf9012a69,0x52800029,0x7100095f\n"
-    ".inst 0xf901266b,0xf9012e6c,0xf901366d,0xf9013a6e,0x390ae269,0x54000160,0x5280002a,0x5280760b,0x2a1f03e9,0x1ac8214a\n"
-    ".inst 0x6a0b015f,0x540000a0,0xa9442e6a,0xeb0b015f,0x540005c2,0x52800029,0x5280002b,0x528089ec,0x2a1f03ea,0x1ac8216b\n"
-    ".inst 0x6a0c017f,0x54000120,0xaa0003f7,0xaa0203f8,0x7100191f,0x54000181,0xf940a26b,0xf100017f,0x1a9f17eb,0x14000009\n"
-    ".inst 0xf940526a,0xf100015f,0x1a9f07ea,0xaa0003f7,0xaa0203f8,0x7100191f,0x54fffec0,0x2a1f03eb,0x7100291f,0xf9402262\n"
-    ".inst 0x91068260,0x1a9f17e8,0xd10013a1,0x381fc3a9,0x381fd3aa,0x381fe3a8,0x381ff3ab,0x94000000,0xaa1803e2,0x12001ea8\n"
-    ".inst 0xa9004ef4,0x7100051f,0x54ffd920,0x528006a0,0xa9444ff4,0xa94357f6,0xa9425ff8,0xa9417bfd,0x910143ff,0xd65f03c0\n"
-    ".inst 0x7100191f,0x2a1f03e9,0x54fffa40,0xeb0b015f,0x54fffa01,0xf9402a69,0xf940366b,0x91000529,0xeb090149,0x9a8933e9\n"
-    ".inst 0xeb09017f,0x540000a9,0xb940e269,0x7100013f,0x1a9f17e9,0x17ffffc5,0x2a1f03e9,0x17ffffc3\n"
-    ".reloc .Ltcp83+492,R_AARCH64_CALL26,.Ltcp0+0\n"
-    ".reloc .Ltcp83+1348,R_AARCH64_CALL26,.Ltcp23+0\n"
-    ".section .text.tcp.84,\"ax\",%progbits\n"
+    ".inst 0xd10183ff,0xa9035ff8,0xd28e8d98,0xb900005f,0xf2ac2e98,0xa90457f6,0xa9405408,0xf2ca0a58,0xa9017bfd,0x910043fd\n"
+    ".inst 0xf2eec878,0xa90267fa,0xeb18011f,0xa9054ff4,0xa9007c1f,0x540002a1,0xd2e80008,0xf94162a9,0x394ae2aa,0xeb08003f\n"
+    ".inst 0xaa0203f3,0xaa0003f4,0x9a883028,0xeb09011f,0x9a898116,0x360001aa,0x2a1f03fa,0x2a1f03f9,0xf90162b6,0x12001f48\n"
+    ".inst 0xa9005698,0x7100051f,0x54002d01,0x2a1f03e0,0xb9000279,0x14000166,0x528003e0,0x14000164,0x910682a0,0x910682b7\n"
+    ".inst 0x94000000,0x12001c08,0x2a1f03fa,0x7100051f,0x54fffde1,0xeb16003f,0x54fffda8,0xb941aaa8,0xb94292a9,0x6b09011f\n"
+    ".inst 0x54000089,0xaa1f03eb,0x5280002a,0x14000016,0xf9413ea8,0x5280020b,0x394a02aa,0x5280030c,0xf100011f,0x52800408\n"
+    ".inst 0x9a880168,0x5280050b,0x9a8b018b,0x38686ae8,0x7100055f,0xf86b6aeb,0xf94146ac,0x7a410900,0xd2e80008,0x1a9f07ea\n"
+    ".inst 0xeb08017f,0x9a883168,0x7200015f,0x8b0c0108,0x9a8813eb,0x394aa2a8,0x394742ac,0xf940eead,0xf9415aae,0x7100051f\n"
+    ".inst 0x7a410980,0xd2e8000c,0x1a9f17ef,0xeb0c01bf,0x9a8c31ac,0x720001ff,0x8b0e018c,0x9a9f118c,0xeb0b019f,0x9a8b318d\n"
+    ".inst 0x720001ff,0x9a8b11ab,0x7200015f,0x2a2a01ed,0x9a8b118a,0x3600054d,0xeb16015f,0x54000508,0x3940c6a8,0x910aa2b9\n"
+    ".inst 0x350002a8,0x3940c2a8,0x34000268,0x51000d08,0x7100111f,0x540001a8,0xb94036a8,0x794072a9,0x5280002a,0xb9404aab\n"
+    ".inst 0xb9400aac,0xb90186aa,0x79031aa9,0xb0b0189,0xb9018aa8,0x910652a8,0xb90192a9,0xf900011f,0xaa1503e0,0x52800061\n"
+    ".inst 0x94000000,0x6f00e400,0xf94126ac,0xf9412aae,0xf9412eab,0xf94132af,0x2a1f03e8,0xf94136ad,0xf9413ab0,0x2a1f03e9\n"
+    ".inst 0x3940c2aa,0xa9007f3f,0x52800079,0x5280003a,0xb90292bf,0x3d80a2a0,0x14000092,0x394922aa,0xf9412aae,0x7100055f\n"
+    ".inst 0x54000241,0xeb1601df,0x54000208,0x3940c2aa,0x5280002c,0x528089ed,0x2a1f03eb,0x1aca218c,0x6a0d019f,0x54000920\n"
+    ".inst 0x5280002c,0x528089ee,0x2a1f03ed,0x1aca218c,0x6a0e019f,0x54000980,0x34000c6b,0x1400005b,0x394962aa,0xf94132af\n"
+    ".inst 0x7100055f,0x540004a1,0xeb1601ff,0x54000468,0x3940c2aa,0x5280002b,0x528089ec,0x1aca216b,0x6a0c017f,0x540001a1\n"
+    ".inst 0xf94052ab,0xb400016b,0xf9404eac,0xf94022ad,0x5280002f,0x8b0b0d8b,0xf9402aac,0xb85fc16b,0xa90cb6af,0x8b0c016b\n"
+    ".inst 0x9100056b,0xf9006eab,0xf94112ac,0xf9414ead,0xaa1f03eb,0xf9413ab0,0xaa1f03ef,0x52800039,0xeb0c01bf,0x5280003a\n"
+    ".inst 0x9a8c31ad,0xd37ff9ad,0xeb0c01bf,0x9a8c31b1,0xf94126ac,0xf94136ad,0xf9014eb1,0x14000055,0x3949a2aa,0xf9413aab\n"
+    ".inst 0x7100055f,0x1a9f17ea,0xeb16017f,0x1a9f87eb,0x6a0b015a,0x3607e9da,0x3940c2aa,0x7100295f,0x54000101,0x2a1f03ea\n"
+    ".inst 0x5280200b,0x790302bf,0x790062ab,0x39060abf,0xa90d7ebf,0xf90066bf,0xf94126ac,0xf9412eab,0xaa1f03ed,0xaa1f03f0\n"
+    ".inst 0x52800059,0x1400003d,0xa94432ab,0xeb0c017f,0x1a9f27eb,0x5280002c,0x528089ee,0x2a1f03ed,0x1aca218c,0x6a0e019f\n"
+    ".inst 0x54fff6c1,0xa94436ac,0xeb0d019f,0x540001a1,0xf9402aad,0xf94036ae,0x910005ad,0xeb0d018c,0x9a8c33ec,0xeb0c01df\n"
+    ".inst 0x540000c9,0xb940e2ac,0x7100019f,0x1a9f17ed,0x3500008b,0x1400000a,0x2a1f03ed,0x3400010b,0xf94052ab,0xb400004b\n"
+    ".inst 0xf90052bf,0x3dc012a0,0x5280002b,0xf90066ab,0x3d8036a0,0xf94112ab,0x121f194f,0x39460ab1,0x710009ff,0xf940faaf\n"
+    ".inst 0x394602b0,0xd37ff96b,0x2a1101ad,0x1a9f17f1,0x2a100230,0x39060aad,0x2a1f03f9,0xeb0f017f,0x390602b0,0xf9413ab0\n"
+    ".inst 0x9a8f316d,0x31000529,0xf9412eab,0xf90112ad,0x5a9f3129,0xf94132af,0xf94136ad,0xaa1f03ec,0xaa1f03ee,0xb90292a9\n"
+    ".inst 0x5280003a,0x52800029,0xf90132af,0x121f194f,0xf9012aae,0x5280002e,0x710009ff,0xf90126ac,0xf9012eab,0xf90136ad\n"
+    ".inst 0xf9013ab0,0x390ae2ae,0x54000160,0x5280002f,0x52807610,0x2a1f03ee,0x1aca21ef,0x6a1001ff,0x540000a0,0xa94442af\n"
+    ".inst 0xeb1001ff,0x54000582,0x5280002e,0x52800030,0x528089f1,0x2a1f03ef,0x1aca2210,0x6a11021f,0x540000a1,0xf94052af\n"
+    ".inst 0xf10001ff,0x5280200f,0x1a8f03ef,0x7100195f,0x540000c1,0xf940a2b0,0xf100021f,0x52a02010,0x1a9f0210,0x14000002\n"
+    ".inst 0x2a1f03f0,0xf94022a2,0x7100295f,0x52a00031,0x2a0f01d2,0xf9413ea0,0x1a9f0231,0x2a100252,0x2a110251,0xeb00005f\n"
+    ".inst 0xb81fc3b1,0x540006a1,0x92401d8c,0xf100059f,0x1a9f07ec,0x6b0e019f,0x54000600,0x394a02ac,0x7100059f,0x540002c0\n"
+    ".inst 0x370002ae,0x35000569,0x394a52a9,0x360002a9,0x14000028,0x7100195f,0x2a1f03ee,0x54fffa80,0xeb1001ff,0x54fffa41\n"
+    ".inst 0xf9402aae,0xf94036b0,0x910005ce,0xeb0e01ee,0x9a8e33ee,0xeb0e021f,0x54000589,0xb940e2ae,0x710001df,0x1a9f17ee\n"
+    ".inst 0x17ffffc7,0x7100059f,0x540002c1,0x340002ae,0x710001ff,0x92401d69,0x1a9f07eb,0xf100053f,0x1a9f07e9,0x6b0b013f\n"
+    ".inst 0x540001c0,0x7100295f,0x92401da9,0x1a9f17ea,0xf100053f,0x1a9f07e9,0x6b09015f,0x540000e0,0x7100021f,0x1a9f07e9\n"
+    ".inst 0x7100051f,0x1a9f07e8,0x6b09011f,0x54ffd3a1,0xd10013a1,0xaa1703e0,0xaa1603e3,0x94000000,0x12001f48,0xa9005698\n"
+    ".inst 0x7100051f,0x54ffd340,0x528006a0,0xa9454ff4,0xa94457f6,0xa9435ff8,0xa94267fa,0xa9417bfd,0x910183ff,0xd65f03c0\n"
+    ".inst 0x2a1f03ee,0x17ffff9e\n"
+    ".reloc .Ltcp87+160,R_AARCH64_CALL26,.Ltcp35+0\n"
+    ".reloc .Ltcp87+480,R_AARCH64_CALL26,.Ltcp0+0\n"
+    ".reloc .Ltcp87+1548,R_AARCH64_CALL26,.Ltcp23+0\n"
+    ".section .text.tcp.88,\"ax\",%progbits\n"
     ".balign 4\n"
-    ".Ltcp84:\n"
+    ".Ltcp88:\n"
     ".globl tcp_c_timer\n"
     ".hidden tcp_c_timer\n"
     ".type tcp_c_timer,%function\n"
@@ -9909,9 +10259,9 @@ __asm__(
     ".inst 0xf900654d,0x3d803540,0x121f196b,0x3946094e,0x7100097f,0x3946014b,0x1a9f17ed,0x1a9f1508,0x2a0b01ab,0x2a0c0108\n"
     ".inst 0x3906014b,0x2a0e018b,0x7100051f,0x3906094b,0x540000a1,0x2a1f03e8,0xa9002809,0x2a0803e0,0xd65f03c0,0x528006c8\n"
     ".inst 0xa9002809,0x2a0803e0,0xd65f03c0\n"
-    ".section .text.tcp.85,\"ax\",%progbits\n"
+    ".section .text.tcp.89,\"ax\",%progbits\n"
     ".balign 4\n"
-    ".Ltcp85:\n"
+    ".Ltcp89:\n"
     ".globl tcp_c_connection_peek\n"
     ".hidden tcp_c_connection_peek\n"
     ".type tcp_c_connection_peek,%function\n"
@@ -9925,9 +10275,9 @@ __asm__(
     ".inst 0x1a880508,0xa9002809,0x2a0803e0,0xa9002c3f,0xa9017c3f,0x29047c3f,0xd65f03c0,0xf940854c,0xaa1f03ed,0xaa1f03ee\n"
     ".inst 0x8b08018c,0x14000008,0xf940894b,0x8b08018e,0xeb08016b,0x9a8e03e8,0xf10001bf,0x9a8c03ee,0xaa0803ec,0x3944014f\n"
     ".inst 0x2a1f03e8,0xa9002809,0x2a0803e0,0xa9002c2c,0xa901342e,0x29047c2f,0xd65f03c0\n"
-    ".section .text.tcp.86,\"ax\",%progbits\n"
+    ".section .text.tcp.90,\"ax\",%progbits\n"
     ".balign 4\n"
-    ".Ltcp86:\n"
+    ".Ltcp90:\n"
     ".globl tcp_c_peek\n"
     ".hidden tcp_c_peek\n"
     ".type tcp_c_peek,%function\n"
@@ -9941,9 +10291,9 @@ __asm__(
     ".inst 0x1a880508,0xa9002809,0x2a0803e0,0xa9002c3f,0xa9017c3f,0x29047c3f,0xd65f03c0,0xf940854c,0xaa1f03ed,0xaa1f03ee\n"
     ".inst 0x8b08018c,0x14000008,0xf940894b,0x8b08018e,0xeb08016b,0x9a8e03e8,0xf10001bf,0x9a8c03ee,0xaa0803ec,0x3944014f\n"
     ".inst 0x2a1f03e8,0xa9002809,0x2a0803e0,0xa9002c2c,0xa901342e,0x29047c2f,0xd65f03c0\n"
-    ".section .text.tcp.87,\"ax\",%progbits\n"
+    ".section .text.tcp.91,\"ax\",%progbits\n"
     ".balign 4\n"
-    ".Ltcp87:\n"
+    ".Ltcp91:\n"
     ".globl tcp_c_parts\n"
     ".hidden tcp_c_parts\n"
     ".type tcp_c_parts,%function\n"
@@ -10002,28 +10352,28 @@ __asm__(
     ".inst 0xaa1f03f5,0xb9400278,0xb9403679,0xd10083a0,0x910043e1,0x52800062,0xaa1f03e3,0xaa0403fa,0x94000000,0xaa0003fb\n"
     ".inst 0x2a1803e0,0x2a1903e1,0xaa1a03e2,0xaa1b03e3,0xaa1703e4,0xaa1403e5,0xaa1603e6,0xaa1503e7,0x94000000,0x5ac00808\n"
     ".inst 0x53107d08,0x79002348,0xb9403669,0xf100029f,0xa94003e3,0x9a9703eb,0xf10002bf,0x2a1f03ea,0x9a9603ec,0x17fffe3f\n"
-    ".reloc .Ltcp87+204,R_AARCH64_CALL26,.Ltcp28+0\n"
-    ".reloc .Ltcp87+268,R_AARCH64_CALL26,.Ltcp30+0\n"
-    ".reloc .Ltcp87+504,R_AARCH64_CALL26,.Ltcp27+0\n"
-    ".reloc .Ltcp87+708,R_AARCH64_CALL26,.Ltcp32+0\n"
-    ".reloc .Ltcp87+1188,R_AARCH64_ADR_PREL_PG_HI21,.Ltcp93+0\n"
-    ".reloc .Ltcp87+1192,R_AARCH64_ADD_ABS_LO12_NC,.Ltcp93+0\n"
-    ".reloc .Ltcp87+1352,R_AARCH64_ADR_PREL_PG_HI21,.Ltcp93+0\n"
-    ".reloc .Ltcp87+1356,R_AARCH64_ADD_ABS_LO12_NC,.Ltcp93+0\n"
-    ".reloc .Ltcp87+1372,R_AARCH64_ADR_PREL_PG_HI21,.Ltcp93+0\n"
-    ".reloc .Ltcp87+1376,R_AARCH64_ADD_ABS_LO12_NC,.Ltcp93+0\n"
-    ".reloc .Ltcp87+1480,R_AARCH64_CALL26,.Ltcp35+0\n"
-    ".reloc .Ltcp87+1804,R_AARCH64_ADR_PREL_PG_HI21,.Ltcp93+0\n"
-    ".reloc .Ltcp87+1808,R_AARCH64_ADD_ABS_LO12_NC,.Ltcp93+0\n"
-    ".reloc .Ltcp87+1964,R_AARCH64_ADR_PREL_PG_HI21,.Ltcp93+0\n"
-    ".reloc .Ltcp87+1968,R_AARCH64_ADD_ABS_LO12_NC,.Ltcp93+0\n"
-    ".reloc .Ltcp87+1992,R_AARCH64_ADR_PREL_PG_HI21,.Ltcp93+0\n"
-    ".reloc .Ltcp87+1996,R_AARCH64_ADD_ABS_LO12_NC,.Ltcp93+0\n"
-    ".reloc .Ltcp87+2032,R_AARCH64_CALL26,.Ltcp29+0\n"
-    ".reloc .Ltcp87+2072,R_AARCH64_CALL26,.Ltcp35+0\n"
-    ".section .text.tcp.88,\"ax\",%progbits\n"
+    ".reloc .Ltcp91+204,R_AARCH64_CALL26,.Ltcp28+0\n"
+    ".reloc .Ltcp91+268,R_AARCH64_CALL26,.Ltcp30+0\n"
+    ".reloc .Ltcp91+504,R_AARCH64_CALL26,.Ltcp27+0\n"
+    ".reloc .Ltcp91+708,R_AARCH64_CALL26,.Ltcp32+0\n"
+    ".reloc .Ltcp91+1188,R_AARCH64_ADR_PREL_PG_HI21,.Ltcp97+0\n"
+    ".reloc .Ltcp91+1192,R_AARCH64_ADD_ABS_LO12_NC,.Ltcp97+0\n"
+    ".reloc .Ltcp91+1352,R_AARCH64_ADR_PREL_PG_HI21,.Ltcp97+0\n"
+    ".reloc .Ltcp91+1356,R_AARCH64_ADD_ABS_LO12_NC,.Ltcp97+0\n"
+    ".reloc .Ltcp91+1372,R_AARCH64_ADR_PREL_PG_HI21,.Ltcp97+0\n"
+    ".reloc .Ltcp91+1376,R_AARCH64_ADD_ABS_LO12_NC,.Ltcp97+0\n"
+    ".reloc .Ltcp91+1480,R_AARCH64_CALL26,.Ltcp36+0\n"
+    ".reloc .Ltcp91+1804,R_AARCH64_ADR_PREL_PG_HI21,.Ltcp97+0\n"
+    ".reloc .Ltcp91+1808,R_AARCH64_ADD_ABS_LO12_NC,.Ltcp97+0\n"
+    ".reloc .Ltcp91+1964,R_AARCH64_ADR_PREL_PG_HI21,.Ltcp97+0\n"
+    ".reloc .Ltcp91+1968,R_AARCH64_ADD_ABS_LO12_NC,.Ltcp97+0\n"
+    ".reloc .Ltcp91+1992,R_AARCH64_ADR_PREL_PG_HI21,.Ltcp97+0\n"
+    ".reloc .Ltcp91+1996,R_AARCH64_ADD_ABS_LO12_NC,.Ltcp97+0\n"
+    ".reloc .Ltcp91+2032,R_AARCH64_CALL26,.Ltcp29+0\n"
+    ".reloc .Ltcp91+2072,R_AARCH64_CALL26,.Ltcp36+0\n"
+    ".section .text.tcp.92,\"ax\",%progbits\n"
     ".balign 4\n"
-    ".Ltcp88:\n"
+    ".Ltcp92:\n"
     ".globl tcp_c_time_wait\n"
     ".hidden tcp_c_time_wait\n"
     ".type tcp_c_time_wait,%function\n"
@@ -10040,9 +10390,9 @@ __asm__(
     ".inst 0x2a1f03f2,0x2a1f03e0,0x2a1f03e5,0x2a1f03e9,0x528e6e86,0xb9000822,0x72aa4ca6,0x79001830,0x29004426,0x79001c23\n"
     ".inst 0x29023c2e,0x2903102a,0x29040032,0x79005025,0x3900a82b,0x3900ac2c,0x79005829,0x79005c2d,0xa8c14ff4,0x2a1f03e0\n"
     ".inst 0xd65f03c0\n"
-    ".section .text.tcp.89,\"ax\",%progbits\n"
+    ".section .text.tcp.93,\"ax\",%progbits\n"
     ".balign 4\n"
-    ".Ltcp89:\n"
+    ".Ltcp93:\n"
     ".globl tcp_c_time_wait_abort\n"
     ".hidden tcp_c_time_wait_abort\n"
     ".type tcp_c_time_wait_abort,%function\n"
@@ -10055,9 +10405,9 @@ __asm__(
     ".inst 0x7100013f,0x7a401904,0x1a9f07e8,0x3400010c,0x710001bf,0x5280002c,0x1a8c058c,0x1a9f11cd,0x14000006,0x2a0803e0\n"
     ".inst 0xd65f03c0,0x2a1f03ed,0x2a1f03eb,0x6f00e400,0xb900000a,0x7100013f,0x5280006a,0x3900ac08,0x528001c8,0x1a8a1129\n"
     ".inst 0x1a9f1108,0xfc01c000,0xb900240d,0x7900500b,0x7900580c,0x79005c09,0x2a0803e0,0xd65f03c0\n"
-    ".section .text.tcp.90,\"ax\",%progbits\n"
+    ".section .text.tcp.94,\"ax\",%progbits\n"
     ".balign 4\n"
-    ".Ltcp90:\n"
+    ".Ltcp94:\n"
     ".globl tcp_c_time_wait_arrive\n"
     ".hidden tcp_c_time_wait_arrive\n"
     ".type tcp_c_time_wait_arrive,%function\n"
@@ -10105,10 +10455,10 @@ __asm__(
     ".inst 0x371002cb,0x3400006d,0x1400000e,0x3710026b,0x3620018b,0x3708016b,0xb85e43a9,0x4b090108,0x7100051f,0x540000ea\n"
     ".inst 0x2a1f03f6,0x2a1f03e9,0x52800033,0x5280006a,0x52800028,0x17ffff8a,0x2a1f03f6,0x2a1f03e9,0x52800033,0x5280004a\n"
     ".inst 0x52800028,0x17ffff84,0x2a1f03f6,0x2a1f03e9,0x52800028,0x5280004a,0x17ffff7f\n"
-    ".reloc .Ltcp90+472,R_AARCH64_CALL26,.Ltcp1+0\n"
-    ".section .text.tcp.91,\"ax\",%progbits\n"
+    ".reloc .Ltcp94+472,R_AARCH64_CALL26,.Ltcp1+0\n"
+    ".section .text.tcp.95,\"ax\",%progbits\n"
     ".balign 4\n"
-    ".Ltcp91:\n"
+    ".Ltcp95:\n"
     ".globl tcp_c_time_wait_emit\n"
     ".hidden tcp_c_time_wait_emit\n"
     ".type tcp_c_time_wait_emit,%function\n"
@@ -10134,9 +10484,9 @@ __asm__(
     ".inst 0xb9000812,0x7900180d,0x79001c0e,0x2902400f,0xb900180b,0xf801c01f,0xf802201f,0x3900a80c,0x3900ac08,0x7900581f\n"
     ".inst 0x79005c09,0x34000121,0x2a1f03e8,0xb9000065,0xf9000082,0xa9424ff4,0x2a0803e0,0xa94157f6,0xf84307f7,0xd65f03c0\n"
     ".inst 0x528006a8,0xa9424ff4,0x2a0803e0,0xa94157f6,0xf84307f7,0xd65f03c0\n"
-    ".section .text.tcp.92,\"ax\",%progbits\n"
+    ".section .text.tcp.96,\"ax\",%progbits\n"
     ".balign 4\n"
-    ".Ltcp92:\n"
+    ".Ltcp96:\n"
     ".globl tcp_c_time_wait_timer\n"
     ".hidden tcp_c_time_wait_timer\n"
     ".type tcp_c_time_wait_timer,%function\n"
@@ -10150,22 +10500,22 @@ __asm__(
     ".inst 0x52800030,0x350000cb,0x1400000c,0x2a0803e0,0xd65f03c0,0x52800448,0x3400010b,0x7100019f,0x5280002b,0x1a8b056c\n"
     ".inst 0x1a9f11ab,0x14000006,0x528006c8,0x35ffff4b,0x2a1f03ea,0x6f00e400,0x2a1f03ec,0xb9000009,0xfc01c000,0xb900240b\n"
     ".inst 0x7900500a,0x3900ac0f,0x7900580c,0x79005c10,0x2a0803e0,0xd65f03c0\n"
-    ".section .rodata.tcp.93,\"a\",%progbits\n"
+    ".section .rodata.tcp.97,\"a\",%progbits\n"
     ".balign 1\n"
-    ".Ltcp93:\n"
-    ".section .rodata.tcp.94,\"a\",%progbits\n"
+    ".Ltcp97:\n"
+    ".section .rodata.tcp.98,\"a\",%progbits\n"
     ".balign 4\n"
-    ".Ltcp94:\n"
+    ".Ltcp98:\n"
     ".octa 0x10000000100000000,0x1000000000000000100000001,0x1000000010000000000000001\n"
     ".octa 0x1000000010000000100000000\n"
-    ".section .rodata.tcp.95,\"a\",%progbits\n"
+    ".section .rodata.tcp.99,\"a\",%progbits\n"
     ".balign 4\n"
-    ".Ltcp95:\n"
+    ".Ltcp99:\n"
     ".octa 0x19000000180000001700000015\n"
     ".long 0x16\n"
-    ".section .rodata.tcp.96,\"a\",%progbits\n"
+    ".section .rodata.tcp.100,\"a\",%progbits\n"
     ".balign 4\n"
-    ".Ltcp96:\n"
+    ".Ltcp100:\n"
     ".quad 0x3300000000\n"
     ".long 0x34\n"
     ".popsection\n"
@@ -10466,7 +10816,7 @@ static inline u64 quotient_of(u64 value, u64 by)
 #define I32_ROTR(x, y) ((x) >> ((y) & 31) | (x) << ((32 - (y)) & 31))
 
 /* The module's own stack: what its deepest chain of calls takes. */
-enum { MODULE_STACK = 2832 };
+enum { MODULE_STACK = 3056 };
 
 /* THE MODULE: crates/tcp_c and those below it, function by function, as wasm2c has written them. */
 static u32 w2c___rattle_enter(Machine *);
@@ -10496,7 +10846,7 @@ static u32 w2c_tcp_conn__endpoint__Endpoint__take_fin(Machine *, u64, u64);
 static void w2c_tcp_conn__endpoint__Endpoint__follow_other(Machine *, u64, u32, u32, u64);
 static void w2c_tcp_conn__endpoint__Endpoint__peer_opens(Machine *, u64, u32, u64);
 static void w2c_tcp_conn__endpoint__Endpoint__peer_accepts(Machine *, u64, u64);
-static void w2c_tcp_driver__timers__Timers__follow(Machine *, u64, u64, u64, u64);
+static void w2c_tcp_driver__timers__Timers__start(Machine *, u64, u64, u64, u64);
 static u32 w2c_tcp_c__connection__making__make(Machine *, u64, u64, u64, u64, u64, u64, u64);
 static void w2c_tcp_c__making__end_in(Machine *, u64, u64, u64, u64, u64);
 static void w2c_tcp_driver__driver__Driver__new(Machine *, u64, u64, u64, u64, u64);
@@ -10509,6 +10859,7 @@ static u64 w2c_tcp_conn__endpoint__Endpoint__write_blocks(Machine *, u64, u64, u
 static void w2c_tcp_conn__endpoint__Endpoint__receive(Machine *, u64, u64, u64, u64);
 static void w2c_tcp_reasm__ring__copy_behind(Machine *, u64, u64, u64, u64, u64);
 static void w2c_tcp_conn__endpoint__Endpoint__send(Machine *, u64, u64, u64, u64);
+static void w2c_tcp_driver__timers__Timers__next_expiry(Machine *, u64, u64);
 static u32 w2c_tcp_numbers__parts__checksum_in_parts(Machine *, u32, u32, u64, u64, u64, u64, u64, u64);
 static u32 w2c_tcp_c_abort(Machine *, u64);
 static u32 w2c_rattle__export_tcp_c_abort(Machine *, u64);
@@ -10546,12 +10897,18 @@ static u32 w2c_tcp_c_connection_free(Machine *, u64);
 static u32 w2c_rattle__export_tcp_c_connection_free(Machine *, u64);
 static u32 w2c_tcp_c_connection_listen(Machine *, u64, u64, u64, u64, u64);
 static u32 w2c_rattle__export_tcp_c_connection_listen(Machine *, u64, u64, u64, u64, u64, u64);
+static u32 w2c_tcp_c_connection_peer(Machine *, u64, u64, u64);
+static u32 w2c_rattle__export_tcp_c_connection_peer(Machine *, u64, u64, u64);
 static u32 w2c_tcp_c_connection_receive(Machine *, u64, u64, u64, u64, u64);
 static u32 w2c_rattle__export_tcp_c_connection_receive(Machine *, u64, u64, u64, u64, u64);
+static u32 w2c_tcp_c_connection_resend_first(Machine *, u64, u64);
+static u32 w2c_rattle__export_tcp_c_connection_resend_first(Machine *, u64, u64);
 static u64 w2c_tcp_c_connection_room(Machine *, u64);
 static u64 w2c_rattle__export_tcp_c_connection_room(Machine *, u64);
 static u32 w2c_tcp_c_connection_send(Machine *, u64, u64, u64, u64, u64);
 static u32 w2c_rattle__export_tcp_c_connection_send(Machine *, u64, u64, u64, u64, u64);
+static u32 w2c_tcp_c_connection_set_user_timeout(Machine *, u64, u64);
+static u32 w2c_rattle__export_tcp_c_connection_set_user_timeout(Machine *, u64, u64);
 static u32 w2c_tcp_c_connection_status(Machine *, u64, u64);
 static u32 w2c_rattle__export_tcp_c_connection_status(Machine *, u64, u64);
 static u32 w2c_tcp_c_consume(Machine *, u64, u64, u64);
@@ -19606,7 +19963,7 @@ static void w2c_tcp_conn__endpoint__Endpoint__peer_accepts(Machine * instance, u
   w2c_Bfunc:;
 }
 
-static void w2c_tcp_driver__timers__Timers__follow(Machine * instance, u64 w2c_p0, u64 w2c_p1, u64 w2c_p2, u64 w2c_p3) {
+static void w2c_tcp_driver__timers__Timers__start(Machine * instance, u64 w2c_p0, u64 w2c_p1, u64 w2c_p2, u64 w2c_p3) {
   u32 w2c_l4 = 0, w2c_l5 = 0, w2c_l6 = 0, w2c_l7 = 0, w2c_l8 = 0, w2c_l9 = 0, w2c_l10 = 0, w2c_l11 = 0, 
       w2c_l12 = 0;
   u64 w2c_l13 = 0, w2c_l14 = 0, w2c_l15 = 0, w2c_l16 = 0;
@@ -21945,13 +22302,15 @@ static void w2c_tcp_c__making__end_in(Machine * instance, u64 w2c_p0, u64 w2c_p1
 static void w2c_tcp_driver__driver__Driver__new(Machine * instance, u64 w2c_p0, u64 w2c_p1, u64 w2c_p2, u64 w2c_p3, u64 w2c_p4) {
   const u8 *near0;
   const u8 *near1;
-  u32 w2c_l19 = 0, w2c_l20 = 0, w2c_l21 = 0, w2c_l22 = 0;
+  const u8 *near2;
+  u32 w2c_l26 = 0, w2c_l27 = 0, w2c_l28 = 0, w2c_l29 = 0, w2c_l30 = 0, w2c_l31 = 0;
   u64 w2c_l5 = 0, w2c_l6 = 0, w2c_l7 = 0, w2c_l8 = 0, w2c_l9 = 0, w2c_l10 = 0, w2c_l11 = 0, w2c_l12 = 0, 
-      w2c_l13 = 0, w2c_l14 = 0, w2c_l15 = 0, w2c_l16 = 0, w2c_l17 = 0, w2c_l18 = 0;
-  u32 w2c_i0, w2c_i1, w2c_i2, w2c_i3, w2c_i4;
+      w2c_l13 = 0, w2c_l14 = 0, w2c_l15 = 0, w2c_l16 = 0, w2c_l17 = 0, w2c_l18 = 0, w2c_l19 = 0, w2c_l20 = 0, 
+      w2c_l21 = 0, w2c_l22 = 0, w2c_l23 = 0, w2c_l24 = 0, w2c_l25 = 0;
+  u32 w2c_i0, w2c_i1, w2c_i2, w2c_i3, w2c_i4, w2c_i5;
   u64 w2c_j0, w2c_j1, w2c_j2, w2c_j3, w2c_j4;
   w2c_j0 = instance->w2c___stack_pointer;
-  w2c_j1 = 400ull;
+  w2c_j1 = 624ull;
   w2c_j0 -= w2c_j1;
   w2c_l5 = w2c_j0;
   instance->w2c___stack_pointer = w2c_j0;
@@ -21959,32 +22318,32 @@ static void w2c_tcp_driver__driver__Driver__new(Machine * instance, u64 w2c_p0, 
   w2c_l5 = w2c_j0;
   w2c_j1 = 16ull;
   w2c_i0 = (u64)((s64)w2c_j0 < (s64)w2c_j1);
-  if (w2c_i0) {goto w2c_B0;}
-  w2c_j0 = w2c_p3;
-  w2c_i0 = (u32)(w2c_j0);
-  w2c_j0 = i64_load(&instance->w2c_memory, (u64)(w2c_i0));
-  w2c_l6 = w2c_j0;
+  if (w2c_i0) {goto w2c_B2;}
   w2c_j0 = w2c_p2;
   w2c_i0 = (u32)(w2c_j0);
   w2c_j0 = i64_load(&instance->w2c_memory, (u64)(w2c_i0) + 16u);
-  w2c_l7 = w2c_j0;
+  w2c_l6 = w2c_j0;
   w2c_j0 = w2c_p2;
   w2c_i0 = (u32)(w2c_j0);
   w2c_j0 = i64_load(&instance->w2c_memory, (u64)(w2c_i0) + 8u);
-  w2c_l8 = w2c_j0;
+  w2c_l7 = w2c_j0;
   w2c_j0 = w2c_p2;
   w2c_i0 = (u32)(w2c_j0);
   w2c_j0 = i64_load(&instance->w2c_memory, (u64)(w2c_i0));
-  w2c_l9 = w2c_j0;
+  w2c_l8 = w2c_j0;
   w2c_j0 = w2c_p1;
   w2c_i0 = (u32)(w2c_j0);
   near0 = read_place(&instance->w2c_memory, (u32)w2c_p1 + 48u, 280);
   w2c_j0 = get64(near0 + 272);
-  w2c_l10 = w2c_j0;
+  w2c_l9 = w2c_j0;
   w2c_j0 = w2c_p1;
   w2c_i0 = (u32)(w2c_j0);
   w2c_i0 = get32(near0 + 176);
-  w2c_l19 = w2c_i0;
+  w2c_l26 = w2c_i0;
+  w2c_j0 = w2c_p1;
+  w2c_i0 = (u32)(w2c_j0);
+  w2c_j0 = get64(near0 + 112);
+  w2c_l10 = w2c_j0;
   w2c_j0 = w2c_p1;
   w2c_i0 = (u32)(w2c_j0);
   w2c_j0 = get64(near0 + 56);
@@ -22004,83 +22363,79 @@ static void w2c_tcp_driver__driver__Driver__new(Machine * instance, u64 w2c_p0, 
   w2c_j0 = w2c_p1;
   w2c_i0 = (u32)(w2c_j0);
   w2c_i0 = get8(near0 + 0);
-  w2c_l20 = w2c_i0;
-  w2c_j0 = w2c_p1;
-  w2c_i0 = (u32)(w2c_j0);
-  w2c_j0 = get64(near0 + 112);
-  w2c_l15 = w2c_j0;
+  w2c_l27 = w2c_i0;
   w2c_j0 = w2c_l5;
   w2c_i0 = (u32)(w2c_j0);
   w2c_j1 = 0ull;
-  i64_store(&instance->w2c_memory, (u64)(w2c_i0) + 391, w2c_j1);
+  i64_store(&instance->w2c_memory, (u64)(w2c_i0) + 607, w2c_j1);
   w2c_j0 = w2c_l5;
   w2c_i0 = (u32)(w2c_j0);
   w2c_j1 = 0ull;
-  i64_store(&instance->w2c_memory, (u64)(w2c_i0) + 384, w2c_j1);
+  i64_store(&instance->w2c_memory, (u64)(w2c_i0) + 600, w2c_j1);
   w2c_j0 = w2c_l5;
   w2c_i0 = (u32)(w2c_j0);
   w2c_j1 = 0ull;
-  i64_store(&instance->w2c_memory, (u64)(w2c_i0) + 368, w2c_j1);
+  i64_store(&instance->w2c_memory, (u64)(w2c_i0) + 584, w2c_j1);
   w2c_j0 = w2c_l5;
   w2c_i0 = (u32)(w2c_j0);
   w2c_j1 = 0ull;
-  i64_store(&instance->w2c_memory, (u64)(w2c_i0) + 376, w2c_j1);
+  i64_store(&instance->w2c_memory, (u64)(w2c_i0) + 592, w2c_j1);
   w2c_j0 = w2c_l5;
   w2c_i0 = (u32)(w2c_j0);
   w2c_j1 = 0ull;
-  i64_store(&instance->w2c_memory, (u64)(w2c_i0) + 320, w2c_j1);
+  i64_store(&instance->w2c_memory, (u64)(w2c_i0) + 536, w2c_j1);
   w2c_j0 = w2c_l5;
   w2c_i0 = (u32)(w2c_j0);
   w2c_j1 = 0ull;
-  i64_store(&instance->w2c_memory, (u64)(w2c_i0) + 328, w2c_j1);
+  i64_store(&instance->w2c_memory, (u64)(w2c_i0) + 544, w2c_j1);
   w2c_j0 = w2c_l5;
   w2c_i0 = (u32)(w2c_j0);
   w2c_j1 = 0ull;
-  i64_store(&instance->w2c_memory, (u64)(w2c_i0) + 336, w2c_j1);
+  i64_store(&instance->w2c_memory, (u64)(w2c_i0) + 552, w2c_j1);
   w2c_j0 = w2c_l5;
   w2c_i0 = (u32)(w2c_j0);
   w2c_j1 = 0ull;
-  i64_store(&instance->w2c_memory, (u64)(w2c_i0) + 344, w2c_j1);
+  i64_store(&instance->w2c_memory, (u64)(w2c_i0) + 560, w2c_j1);
   w2c_j0 = w2c_l5;
   w2c_i0 = (u32)(w2c_j0);
   w2c_j1 = 0ull;
-  i64_store(&instance->w2c_memory, (u64)(w2c_i0) + 352, w2c_j1);
+  i64_store(&instance->w2c_memory, (u64)(w2c_i0) + 568, w2c_j1);
   w2c_j0 = w2c_l5;
   w2c_i0 = (u32)(w2c_j0);
   w2c_j1 = 0ull;
-  i64_store(&instance->w2c_memory, (u64)(w2c_i0) + 360, w2c_j1);
+  i64_store(&instance->w2c_memory, (u64)(w2c_i0) + 576, w2c_j1);
   w2c_j0 = w2c_l5;
   w2c_i0 = (u32)(w2c_j0);
   w2c_j1 = 0ull;
-  i64_store(&instance->w2c_memory, (u64)(w2c_i0) + 264, w2c_j1);
+  i64_store(&instance->w2c_memory, (u64)(w2c_i0) + 480, w2c_j1);
   w2c_j0 = w2c_l5;
   w2c_i0 = (u32)(w2c_j0);
   w2c_j1 = 0ull;
-  i64_store(&instance->w2c_memory, (u64)(w2c_i0) + 272, w2c_j1);
+  i64_store(&instance->w2c_memory, (u64)(w2c_i0) + 488, w2c_j1);
   w2c_j0 = w2c_l5;
   w2c_i0 = (u32)(w2c_j0);
   w2c_j1 = 0ull;
-  i64_store(&instance->w2c_memory, (u64)(w2c_i0) + 280, w2c_j1);
+  i64_store(&instance->w2c_memory, (u64)(w2c_i0) + 496, w2c_j1);
   w2c_j0 = w2c_l5;
   w2c_i0 = (u32)(w2c_j0);
   w2c_j1 = 0ull;
-  i64_store(&instance->w2c_memory, (u64)(w2c_i0) + 288, w2c_j1);
+  i64_store(&instance->w2c_memory, (u64)(w2c_i0) + 504, w2c_j1);
   w2c_j0 = w2c_l5;
   w2c_i0 = (u32)(w2c_j0);
   w2c_j1 = 0ull;
-  i64_store(&instance->w2c_memory, (u64)(w2c_i0) + 296, w2c_j1);
+  i64_store(&instance->w2c_memory, (u64)(w2c_i0) + 512, w2c_j1);
   w2c_j0 = w2c_l5;
   w2c_i0 = (u32)(w2c_j0);
   w2c_j1 = 0ull;
-  i64_store(&instance->w2c_memory, (u64)(w2c_i0) + 304, w2c_j1);
+  i64_store(&instance->w2c_memory, (u64)(w2c_i0) + 520, w2c_j1);
   w2c_j0 = w2c_l5;
   w2c_i0 = (u32)(w2c_j0);
   w2c_j1 = 0ull;
-  i64_store(&instance->w2c_memory, (u64)(w2c_i0) + 312, w2c_j1);
+  i64_store(&instance->w2c_memory, (u64)(w2c_i0) + 528, w2c_j1);
   w2c_i0 = 0u;
-  w2c_l21 = w2c_i0;
+  w2c_l28 = w2c_i0;
   w2c_j0 = w2c_l5;
-  w2c_j1 = 172ull;
+  w2c_j1 = 388ull;
   w2c_j0 += w2c_j1;
   w2c_i0 = (u32)(w2c_j0);
   w2c_i1 = 0u;
@@ -22088,7 +22443,7 @@ static void w2c_tcp_driver__driver__Driver__new(Machine * instance, u64 w2c_p0, 
   w2c_i2 = (u32)(w2c_j2);
   memory_fill(&instance->w2c_memory, w2c_i0, w2c_i1, w2c_i2);
   w2c_j0 = w2c_l5;
-  w2c_j1 = 80ull;
+  w2c_j1 = 296ull;
   w2c_j0 += w2c_j1;
   w2c_i0 = (u32)(w2c_j0);
   w2c_i1 = 0u;
@@ -22097,75 +22452,194 @@ static void w2c_tcp_driver__driver__Driver__new(Machine * instance, u64 w2c_p0, 
   memory_fill(&instance->w2c_memory, w2c_i0, w2c_i1, w2c_i2);
   w2c_j0 = w2c_l5;
   w2c_i0 = (u32)(w2c_j0);
-  w2c_j1 = 0ull;
+  w2c_j1 = w2c_p3;
+  w2c_i1 = (u32)(w2c_j1);
+  w2c_j1 = i64_load(&instance->w2c_memory, (u64)(w2c_i1) + 56u);
+  i64_store(&instance->w2c_memory, (u64)(w2c_i0) + 56, w2c_j1);
+  w2c_j0 = w2c_l5;
+  w2c_i0 = (u32)(w2c_j0);
+  w2c_j1 = w2c_p3;
+  w2c_i1 = (u32)(w2c_j1);
+  w2c_j1 = i64_load(&instance->w2c_memory, (u64)(w2c_i1) + 48u);
+  i64_store(&instance->w2c_memory, (u64)(w2c_i0) + 48, w2c_j1);
+  w2c_j0 = w2c_l5;
+  w2c_i0 = (u32)(w2c_j0);
+  w2c_j1 = w2c_p3;
+  w2c_i1 = (u32)(w2c_j1);
+  w2c_j1 = i64_load(&instance->w2c_memory, (u64)(w2c_i1) + 40u);
+  i64_store(&instance->w2c_memory, (u64)(w2c_i0) + 40, w2c_j1);
+  w2c_j0 = w2c_l5;
+  w2c_i0 = (u32)(w2c_j0);
+  w2c_j1 = w2c_p3;
+  w2c_i1 = (u32)(w2c_j1);
+  w2c_j1 = i64_load(&instance->w2c_memory, (u64)(w2c_i1) + 32u);
+  i64_store(&instance->w2c_memory, (u64)(w2c_i0) + 32, w2c_j1);
+  w2c_j0 = w2c_l5;
+  w2c_i0 = (u32)(w2c_j0);
+  w2c_j1 = w2c_p3;
+  w2c_i1 = (u32)(w2c_j1);
+  w2c_j1 = i64_load(&instance->w2c_memory, (u64)(w2c_i1) + 24u);
+  i64_store(&instance->w2c_memory, (u64)(w2c_i0) + 24, w2c_j1);
+  w2c_j0 = w2c_l5;
+  w2c_i0 = (u32)(w2c_j0);
+  w2c_j1 = w2c_p3;
+  w2c_i1 = (u32)(w2c_j1);
+  w2c_j1 = i64_load(&instance->w2c_memory, (u64)(w2c_i1) + 16u);
+  i64_store(&instance->w2c_memory, (u64)(w2c_i0) + 16, w2c_j1);
+  w2c_j0 = w2c_l5;
+  w2c_i0 = (u32)(w2c_j0);
+  w2c_j1 = w2c_p3;
+  w2c_i1 = (u32)(w2c_j1);
+  w2c_j1 = i64_load(&instance->w2c_memory, (u64)(w2c_i1) + 8u);
+  i64_store(&instance->w2c_memory, (u64)(w2c_i0) + 8, w2c_j1);
+  w2c_j0 = w2c_l5;
+  w2c_i0 = (u32)(w2c_j0);
+  w2c_j1 = w2c_p3;
+  w2c_i1 = (u32)(w2c_j1);
+  w2c_j1 = i64_load(&instance->w2c_memory, (u64)(w2c_i1));
+  i64_store(&instance->w2c_memory, (u64)(w2c_i0), w2c_j1);
+  w2c_j0 = w2c_l5;
+  w2c_i0 = (u32)(w2c_j0);
+  w2c_j1 = w2c_l6;
+  i64_store(&instance->w2c_memory, (u64)(w2c_i0) + 80, w2c_j1);
+  w2c_j0 = w2c_l5;
+  w2c_i0 = (u32)(w2c_j0);
+  w2c_j1 = w2c_l7;
   i64_store(&instance->w2c_memory, (u64)(w2c_i0) + 72, w2c_j1);
   w2c_j0 = w2c_l5;
   w2c_i0 = (u32)(w2c_j0);
-  w2c_j1 = 0ull;
+  w2c_j1 = w2c_l8;
   i64_store(&instance->w2c_memory, (u64)(w2c_i0) + 64, w2c_j1);
   w2c_j0 = w2c_l5;
   w2c_i0 = (u32)(w2c_j0);
   w2c_j1 = 0ull;
-  i64_store(&instance->w2c_memory, (u64)(w2c_i0) + 56, w2c_j1);
+  i64_store(&instance->w2c_memory, (u64)(w2c_i0) + 104, w2c_j1);
   w2c_j0 = w2c_l5;
   w2c_i0 = (u32)(w2c_j0);
   w2c_j1 = 0ull;
-  i64_store(&instance->w2c_memory, (u64)(w2c_i0) + 48, w2c_j1);
+  i64_store(&instance->w2c_memory, (u64)(w2c_i0) + 112, w2c_j1);
   w2c_j0 = w2c_l5;
   w2c_i0 = (u32)(w2c_j0);
   w2c_j1 = 0ull;
-  i64_store(&instance->w2c_memory, (u64)(w2c_i0) + 40, w2c_j1);
+  i64_store(&instance->w2c_memory, (u64)(w2c_i0) + 120, w2c_j1);
+  w2c_j0 = w2c_l5;
+  w2c_i0 = (u32)(w2c_j0);
+  w2c_j1 = w2c_p2;
+  w2c_i1 = (u32)(w2c_j1);
+  w2c_j1 = i64_load(&instance->w2c_memory, (u64)(w2c_i1) + 32u);
+  i64_store(&instance->w2c_memory, (u64)(w2c_i0) + 96, w2c_j1);
+  w2c_j0 = w2c_l5;
+  w2c_i0 = (u32)(w2c_j0);
+  w2c_j1 = w2c_p2;
+  w2c_i1 = (u32)(w2c_j1);
+  w2c_j1 = i64_load(&instance->w2c_memory, (u64)(w2c_i1) + 24u);
+  i64_store(&instance->w2c_memory, (u64)(w2c_i0) + 88, w2c_j1);
+  w2c_j0 = w2c_l5;
+  w2c_i0 = (u32)(w2c_j0);
+  w2c_j1 = w2c_l8;
+  w2c_j2 = w2c_l7;
+  w2c_j3 = w2c_l8;
+  w2c_j4 = w2c_l7;
+  w2c_i3 = w2c_j3 > w2c_j4;
+  w2c_j1 = w2c_i3 ? w2c_j1 : w2c_j2;
+  w2c_p3 = w2c_j1;
+  w2c_j2 = w2c_l6;
+  w2c_j3 = w2c_p3;
+  w2c_j4 = w2c_l6;
+  w2c_i3 = w2c_j3 < w2c_j4;
+  w2c_j1 = w2c_i3 ? w2c_j1 : w2c_j2;
+  w2c_p2 = w2c_j1;
+  i64_store(&instance->w2c_memory, (u64)(w2c_i0) + 128, w2c_j1);
+  w2c_j0 = w2c_l5;
+  w2c_j1 = 136ull;
+  w2c_j0 += w2c_j1;
+  w2c_l15 = w2c_j0;
+  w2c_i0 = (u32)(w2c_j0);
+  w2c_i1 = 0u;
+  w2c_j2 = 80ull;
+  w2c_i2 = (u32)(w2c_j2);
+  memory_fill(&instance->w2c_memory, w2c_i0, w2c_i1, w2c_i2);
   w2c_j0 = w2c_l5;
   w2c_i0 = (u32)(w2c_j0);
   w2c_j1 = 0ull;
-  i64_store(&instance->w2c_memory, (u64)(w2c_i0) + 32, w2c_j1);
+  i64_store(&instance->w2c_memory, (u64)(w2c_i0) + 224, w2c_j1);
+  w2c_j0 = w2c_l5;
+  w2c_i0 = (u32)(w2c_j0);
+  w2c_j1 = w2c_l14;
+  i64_store(&instance->w2c_memory, (u64)(w2c_i0) + 216, w2c_j1);
   w2c_j0 = w2c_l5;
   w2c_i0 = (u32)(w2c_j0);
   w2c_j1 = 0ull;
-  i64_store(&instance->w2c_memory, (u64)(w2c_i0) + 24, w2c_j1);
+  i64_store(&instance->w2c_memory, (u64)(w2c_i0) + 232, w2c_j1);
   w2c_j0 = w2c_l5;
   w2c_i0 = (u32)(w2c_j0);
   w2c_j1 = 0ull;
-  i64_store(&instance->w2c_memory, (u64)(w2c_i0) + 8, w2c_j1);
+  i64_store(&instance->w2c_memory, (u64)(w2c_i0) + 240, w2c_j1);
   w2c_j0 = w2c_l5;
   w2c_i0 = (u32)(w2c_j0);
   w2c_j1 = 0ull;
-  i64_store(&instance->w2c_memory, (u64)(w2c_i0) + 16, w2c_j1);
+  i64_store(&instance->w2c_memory, (u64)(w2c_i0) + 256, w2c_j1);
+  w2c_j0 = w2c_l5;
+  w2c_i0 = (u32)(w2c_j0);
+  w2c_j1 = w2c_p2;
+  i64_store(&instance->w2c_memory, (u64)(w2c_i0) + 248, w2c_j1);
+  w2c_j0 = w2c_l5;
+  w2c_i0 = (u32)(w2c_j0);
+  w2c_j1 = 0ull;
+  i64_store(&instance->w2c_memory, (u64)(w2c_i0) + 264, w2c_j1);
+  w2c_j0 = w2c_l5;
+  w2c_i0 = (u32)(w2c_j0);
+  w2c_j1 = 0ull;
+  i64_store(&instance->w2c_memory, (u64)(w2c_i0) + 272, w2c_j1);
+  w2c_j0 = w2c_l5;
+  w2c_i0 = (u32)(w2c_j0);
+  w2c_j1 = 0ull;
+  i64_store(&instance->w2c_memory, (u64)(w2c_i0) + 280, w2c_j1);
+  w2c_j0 = w2c_l5;
+  w2c_i0 = (u32)(w2c_j0);
+  w2c_j1 = w2c_p4;
+  w2c_j2 = 4611686018427387904ull;
+  w2c_j3 = w2c_p4;
+  w2c_j4 = 4611686018427387904ull;
+  w2c_i3 = w2c_j3 < w2c_j4;
+  w2c_j1 = w2c_i3 ? w2c_j1 : w2c_j2;
+  w2c_l16 = w2c_j1;
+  i64_store(&instance->w2c_memory, (u64)(w2c_i0) + 288, w2c_j1);
   w2c_i0 = 1u;
-  w2c_l22 = w2c_i0;
-  w2c_i0 = w2c_l20;
+  w2c_l29 = w2c_i0;
+  w2c_i0 = w2c_l27;
   w2c_i1 = 254u;
   w2c_i0 &= w2c_i1;
   w2c_i1 = 2u;
   w2c_i0 = w2c_i0 == w2c_i1;
-  if (w2c_i0) {goto w2c_B1;}
+  if (w2c_i0) {goto w2c_B3;}
   w2c_i0 = 0u;
-  w2c_l22 = w2c_i0;
+  w2c_l29 = w2c_i0;
   w2c_i0 = 1u;
-  w2c_i1 = w2c_l20;
+  w2c_i1 = w2c_l27;
   w2c_i0 <<= (w2c_i1 & 31);
   w2c_i1 = 944u;
   w2c_i0 &= w2c_i1;
   w2c_i0 = !(w2c_i0);
-  if (w2c_i0) {goto w2c_B1;}
+  if (w2c_i0) {goto w2c_B3;}
   w2c_i0 = 1u;
-  w2c_l22 = w2c_i0;
+  w2c_l29 = w2c_i0;
   w2c_j0 = w2c_l14;
   w2c_j1 = w2c_l13;
   w2c_i0 = w2c_j0 < w2c_j1;
-  if (w2c_i0) {goto w2c_B1;}
+  if (w2c_i0) {goto w2c_B3;}
   w2c_i0 = 0u;
-  w2c_l22 = w2c_i0;
-  w2c_i0 = w2c_l20;
+  w2c_l29 = w2c_i0;
+  w2c_i0 = w2c_l27;
   w2c_i1 = 6u;
   w2c_i0 = w2c_i0 == w2c_i1;
-  if (w2c_i0) {goto w2c_B1;}
+  if (w2c_i0) {goto w2c_B3;}
   w2c_i0 = 0u;
-  w2c_l22 = w2c_i0;
+  w2c_l29 = w2c_i0;
   w2c_j0 = w2c_l14;
   w2c_j1 = w2c_l13;
   w2c_i0 = w2c_j0 != w2c_j1;
-  if (w2c_i0) {goto w2c_B1;}
+  if (w2c_i0) {goto w2c_B3;}
   w2c_j0 = w2c_l11;
   w2c_j1 = 0ull;
   w2c_j2 = w2c_l12;
@@ -22173,132 +22647,286 @@ static void w2c_tcp_driver__driver__Driver__new(Machine * instance, u64 w2c_p0, 
   w2c_j2 ^= w2c_j3;
   w2c_j3 = w2c_l14;
   w2c_j2 += w2c_j3;
-  w2c_l16 = w2c_j2;
-  w2c_j3 = w2c_l16;
+  w2c_p3 = w2c_j2;
+  w2c_j3 = w2c_p3;
   w2c_j4 = w2c_l14;
   w2c_i3 = w2c_j3 > w2c_j4;
   w2c_j1 = w2c_i3 ? w2c_j1 : w2c_j2;
   w2c_i0 = w2c_j0 > w2c_j1;
-  w2c_i1 = w2c_l19;
+  w2c_i1 = w2c_l26;
   w2c_i1 = !(w2c_i1);
   w2c_i0 &= w2c_i1;
-  w2c_l22 = w2c_i0;
-  w2c_B1:;
+  w2c_l29 = w2c_i0;
+  w2c_B3:;
+  w2c_j0 = w2c_l5;
+  w2c_j1 = 256ull;
+  w2c_j0 += w2c_j1;
+  w2c_p3 = w2c_j0;
+  w2c_j0 = w2c_l5;
+  w2c_j1 = 224ull;
+  w2c_j0 += w2c_j1;
+  w2c_p4 = w2c_j0;
+  w2c_j0 = w2c_l5;
+  w2c_j1 = 104ull;
+  w2c_j0 += w2c_j1;
+  w2c_l17 = w2c_j0;
+  w2c_j0 = w2c_l5;
+  w2c_j1 = 88ull;
+  w2c_j0 += w2c_j1;
+  w2c_l18 = w2c_j0;
   w2c_i0 = 1u;
-  w2c_i1 = w2c_l20;
+  w2c_i1 = w2c_l27;
   w2c_i0 <<= (w2c_i1 & 31);
   w2c_i1 = 1103u;
   w2c_i0 &= w2c_i1;
-  if (w2c_i0) {goto w2c_B2;}
-  w2c_j0 = w2c_l15;
-  w2c_j1 = 0ull;
-  w2c_i0 = w2c_j0 != w2c_j1;
-  w2c_l21 = w2c_i0;
-  w2c_B2:;
+  if (w2c_i0) {goto w2c_B4;}
+  w2c_i0 = 0u;
+  w2c_i1 = 256u;
+  w2c_j2 = w2c_l10;
+  w2c_i2 = !(w2c_j2);
+  w2c_i0 = w2c_i2 ? w2c_i0 : w2c_i1;
+  w2c_l28 = w2c_i0;
+  w2c_B4:;
   w2c_j0 = w2c_l5;
   w2c_i0 = (u32)(w2c_j0);
-  w2c_j1 = w2c_p1;
+  w2c_i1 = 16777216u;
+  w2c_i2 = 0u;
+  w2c_i3 = w2c_l27;
+  w2c_i4 = 6u;
+  w2c_i3 = w2c_i3 == w2c_i4;
+  w2c_j4 = w2c_l9;
+  w2c_i4 = !(w2c_j4);
+  w2c_i3 &= w2c_i4;
+  w2c_l30 = w2c_i3;
+  w2c_i1 = w2c_i3 ? w2c_i1 : w2c_i2;
+  w2c_i2 = 65536u;
+  w2c_i3 = 0u;
+  w2c_i4 = w2c_l27;
+  w2c_i5 = 10u;
+  w2c_i4 = w2c_i4 == w2c_i5;
+  w2c_i2 = w2c_i4 ? w2c_i2 : w2c_i3;
+  w2c_i1 |= w2c_i2;
+  w2c_i2 = w2c_l29;
+  w2c_i1 |= w2c_i2;
+  w2c_i2 = w2c_l28;
+  w2c_i1 |= w2c_i2;
+  i32_store(&instance->w2c_memory, (u64)(w2c_i0) + 620, w2c_i1);
+  w2c_j0 = w2c_l5;
+  w2c_i0 = (u32)(w2c_j0);
+  w2c_i0 = i32_load8_u(&instance->w2c_memory, (u64)(w2c_i0) + 168u);
+  w2c_i1 = 1u;
+  w2c_i0 = w2c_i0 != w2c_i1;
+  w2c_i1 = w2c_l29;
+  w2c_i0 = w2c_i0 == w2c_i1;
+  if (w2c_i0) {goto w2c_B1;}
+  w2c_j0 = w2c_l5;
+  w2c_i0 = (u32)(w2c_j0);
+  w2c_i0 = i32_load8_u(&instance->w2c_memory, (u64)(w2c_i0) + 224u);
+  w2c_l31 = w2c_i0;
+  w2c_i1 = 1u;
+  w2c_i0 = w2c_i0 == w2c_i1;
+  if (w2c_i0) {goto w2c_B6;}
+  w2c_i0 = w2c_l29;
+  if (w2c_i0) {goto w2c_B6;}
+  w2c_j0 = w2c_l5;
+  w2c_i0 = (u32)(w2c_j0);
+  w2c_i0 = i32_load(&instance->w2c_memory, (u64)(w2c_i0) + 240u);
+  if (w2c_i0) {goto w2c_B1;}
+  w2c_j0 = w2c_l5;
+  w2c_i0 = (u32)(w2c_j0);
+  w2c_i0 = i32_load8_u(&instance->w2c_memory, (u64)(w2c_i0) + 244u);
+  w2c_i1 = 1u;
+  w2c_i0 &= w2c_i1;
+  w2c_i0 = !(w2c_i0);
+  if (w2c_i0) {goto w2c_B5;}
+  goto w2c_B1;
+  w2c_B6:;
+  w2c_i0 = w2c_l31;
+  w2c_i1 = 1u;
+  w2c_i0 = w2c_i0 != w2c_i1;
+  if (w2c_i0) {goto w2c_B1;}
+  w2c_i0 = w2c_l29;
+  w2c_i0 = !(w2c_i0);
+  if (w2c_i0) {goto w2c_B1;}
+  w2c_B5:;
+  w2c_i0 = w2c_l28;
+  w2c_i1 = 0u;
+  w2c_i0 = w2c_i0 != w2c_i1;
+  w2c_j1 = w2c_l5;
   w2c_i1 = (u32)(w2c_j1);
-  w2c_j1 = i64_load(&instance->w2c_memory, (u64)(w2c_i1) + 56u);
-  i64_store(&instance->w2c_memory, (u64)(w2c_i0) + 391, w2c_j1);
+  w2c_i1 = i32_load8_u(&instance->w2c_memory, (u64)(w2c_i1) + 184u);
+  w2c_i2 = 1u;
+  w2c_i1 = w2c_i1 != w2c_i2;
+  w2c_i0 = w2c_i0 == w2c_i1;
+  if (w2c_i0) {goto w2c_B1;}
+  w2c_i0 = w2c_l27;
+  w2c_i1 = 10u;
+  w2c_i0 = w2c_i0 == w2c_i1;
+  w2c_j1 = w2c_l5;
+  w2c_i1 = (u32)(w2c_j1);
+  w2c_i1 = i32_load8_u(&instance->w2c_memory, (u64)(w2c_i1) + 200u);
+  w2c_i2 = 1u;
+  w2c_i1 = w2c_i1 != w2c_i2;
+  w2c_i0 = w2c_i0 == w2c_i1;
+  if (w2c_i0) {goto w2c_B1;}
+  w2c_i0 = w2c_l30;
+  w2c_j1 = w2c_l5;
+  w2c_i1 = (u32)(w2c_j1);
+  w2c_i1 = i32_load8_u(&instance->w2c_memory, (u64)(w2c_i1) + 264u);
+  w2c_i2 = 1u;
+  w2c_i1 = w2c_i1 != w2c_i2;
+  w2c_i0 ^= w2c_i1;
+  w2c_i0 = !(w2c_i0);
+  if (w2c_i0) {goto w2c_B1;}
+  w2c_j0 = w2c_l14;
+  w2c_l19 = w2c_j0;
+  w2c_j0 = w2c_p2;
+  w2c_l20 = w2c_j0;
+  goto w2c_B0;
+  w2c_B2:;
+  UNREACHABLE;
+  w2c_B1:;
+  w2c_j0 = w2c_l5;
+  w2c_j1 = w2c_l5;
+  w2c_j2 = 620ull;
+  w2c_j1 += w2c_j2;
+  w2c_j2 = w2c_l14;
+  w2c_j3 = w2c_l16;
+  w2c_tcp_driver__timers__Timers__start(instance, w2c_j0, w2c_j1, w2c_j2, w2c_j3);
+  w2c_j0 = w2c_l5;
+  w2c_i0 = (u32)(w2c_j0);
+  near1 = read_place(&instance->w2c_memory, (u32)w2c_l5 + 64u, 232);
+  w2c_j0 = get64(near1 + 224);
+  w2c_l16 = w2c_j0;
+  w2c_j0 = w2c_l5;
+  w2c_i0 = (u32)(w2c_j0);
+  w2c_j0 = get64(near1 + 184);
+  w2c_p2 = w2c_j0;
+  w2c_j0 = w2c_l5;
+  w2c_i0 = (u32)(w2c_j0);
+  w2c_j0 = get64(near1 + 152);
+  w2c_l19 = w2c_j0;
+  w2c_j0 = w2c_l5;
+  w2c_i0 = (u32)(w2c_j0);
+  w2c_j0 = get64(near1 + 64);
+  w2c_l20 = w2c_j0;
+  w2c_j0 = w2c_l5;
+  w2c_i0 = (u32)(w2c_j0);
+  w2c_j0 = get64(near1 + 16);
+  w2c_l6 = w2c_j0;
+  w2c_j0 = w2c_l5;
+  w2c_i0 = (u32)(w2c_j0);
+  w2c_j0 = get64(near1 + 8);
+  w2c_l7 = w2c_j0;
+  w2c_j0 = w2c_l5;
+  w2c_i0 = (u32)(w2c_j0);
+  w2c_j0 = get64(near1 + 0);
+  w2c_l8 = w2c_j0;
+  w2c_B0:;
   w2c_j0 = w2c_l5;
   w2c_i0 = (u32)(w2c_j0);
   w2c_j1 = w2c_p1;
   w2c_i1 = (u32)(w2c_j1);
   w2c_j1 = i64_load(&instance->w2c_memory, (u64)(w2c_i1) + 49u);
-  i64_store(&instance->w2c_memory, (u64)(w2c_i0) + 384, w2c_j1);
+  i64_store(&instance->w2c_memory, (u64)(w2c_i0) + 600, w2c_j1);
+  w2c_j0 = w2c_l5;
+  w2c_i0 = (u32)(w2c_j0);
+  w2c_j1 = w2c_p1;
+  w2c_i1 = (u32)(w2c_j1);
+  w2c_j1 = i64_load(&instance->w2c_memory, (u64)(w2c_i1) + 56u);
+  i64_store(&instance->w2c_memory, (u64)(w2c_i0) + 607, w2c_j1);
   w2c_j0 = w2c_l5;
   w2c_i0 = (u32)(w2c_j0);
   w2c_j1 = w2c_p1;
   w2c_i1 = (u32)(w2c_j1);
   w2c_j1 = i64_load(&instance->w2c_memory, (u64)(w2c_i1) + 88u);
-  i64_store(&instance->w2c_memory, (u64)(w2c_i0) + 368, w2c_j1);
+  i64_store(&instance->w2c_memory, (u64)(w2c_i0) + 584, w2c_j1);
   w2c_j0 = w2c_l5;
   w2c_i0 = (u32)(w2c_j0);
   w2c_j1 = w2c_p1;
   w2c_i1 = (u32)(w2c_j1);
   w2c_j1 = i64_load(&instance->w2c_memory, (u64)(w2c_i1) + 96u);
-  i64_store(&instance->w2c_memory, (u64)(w2c_i0) + 376, w2c_j1);
+  i64_store(&instance->w2c_memory, (u64)(w2c_i0) + 592, w2c_j1);
   w2c_j0 = w2c_l5;
   w2c_i0 = (u32)(w2c_j0);
   w2c_j1 = w2c_p1;
   w2c_i1 = (u32)(w2c_j1);
   w2c_j1 = i64_load(&instance->w2c_memory, (u64)(w2c_i1) + 112u);
-  i64_store(&instance->w2c_memory, (u64)(w2c_i0) + 320, w2c_j1);
+  i64_store(&instance->w2c_memory, (u64)(w2c_i0) + 536, w2c_j1);
   w2c_j0 = w2c_l5;
   w2c_i0 = (u32)(w2c_j0);
   w2c_j1 = w2c_p1;
   w2c_i1 = (u32)(w2c_j1);
   w2c_j1 = i64_load(&instance->w2c_memory, (u64)(w2c_i1) + 120u);
-  i64_store(&instance->w2c_memory, (u64)(w2c_i0) + 328, w2c_j1);
+  i64_store(&instance->w2c_memory, (u64)(w2c_i0) + 544, w2c_j1);
   w2c_j0 = w2c_l5;
   w2c_i0 = (u32)(w2c_j0);
   w2c_j1 = w2c_p1;
   w2c_i1 = (u32)(w2c_j1);
   w2c_j1 = i64_load(&instance->w2c_memory, (u64)(w2c_i1) + 128u);
-  i64_store(&instance->w2c_memory, (u64)(w2c_i0) + 336, w2c_j1);
+  i64_store(&instance->w2c_memory, (u64)(w2c_i0) + 552, w2c_j1);
   w2c_j0 = w2c_l5;
   w2c_i0 = (u32)(w2c_j0);
   w2c_j1 = w2c_p1;
   w2c_i1 = (u32)(w2c_j1);
   w2c_j1 = i64_load(&instance->w2c_memory, (u64)(w2c_i1) + 136u);
-  i64_store(&instance->w2c_memory, (u64)(w2c_i0) + 344, w2c_j1);
+  i64_store(&instance->w2c_memory, (u64)(w2c_i0) + 560, w2c_j1);
   w2c_j0 = w2c_l5;
   w2c_i0 = (u32)(w2c_j0);
   w2c_j1 = w2c_p1;
   w2c_i1 = (u32)(w2c_j1);
   w2c_j1 = i64_load(&instance->w2c_memory, (u64)(w2c_i1) + 144u);
-  i64_store(&instance->w2c_memory, (u64)(w2c_i0) + 352, w2c_j1);
+  i64_store(&instance->w2c_memory, (u64)(w2c_i0) + 568, w2c_j1);
   w2c_j0 = w2c_l5;
   w2c_i0 = (u32)(w2c_j0);
   w2c_j1 = w2c_p1;
   w2c_i1 = (u32)(w2c_j1);
   w2c_j1 = i64_load(&instance->w2c_memory, (u64)(w2c_i1) + 152u);
-  i64_store(&instance->w2c_memory, (u64)(w2c_i0) + 360, w2c_j1);
+  i64_store(&instance->w2c_memory, (u64)(w2c_i0) + 576, w2c_j1);
   w2c_j0 = w2c_l5;
   w2c_i0 = (u32)(w2c_j0);
   w2c_j1 = w2c_p1;
   w2c_i1 = (u32)(w2c_j1);
   w2c_j1 = i64_load(&instance->w2c_memory, (u64)(w2c_i1) + 216u);
-  i64_store(&instance->w2c_memory, (u64)(w2c_i0) + 312, w2c_j1);
+  i64_store(&instance->w2c_memory, (u64)(w2c_i0) + 528, w2c_j1);
   w2c_j0 = w2c_l5;
   w2c_i0 = (u32)(w2c_j0);
   w2c_j1 = w2c_p1;
   w2c_i1 = (u32)(w2c_j1);
   w2c_j1 = i64_load(&instance->w2c_memory, (u64)(w2c_i1) + 208u);
-  i64_store(&instance->w2c_memory, (u64)(w2c_i0) + 304, w2c_j1);
+  i64_store(&instance->w2c_memory, (u64)(w2c_i0) + 520, w2c_j1);
   w2c_j0 = w2c_l5;
   w2c_i0 = (u32)(w2c_j0);
   w2c_j1 = w2c_p1;
   w2c_i1 = (u32)(w2c_j1);
   w2c_j1 = i64_load(&instance->w2c_memory, (u64)(w2c_i1) + 200u);
-  i64_store(&instance->w2c_memory, (u64)(w2c_i0) + 296, w2c_j1);
+  i64_store(&instance->w2c_memory, (u64)(w2c_i0) + 512, w2c_j1);
   w2c_j0 = w2c_l5;
   w2c_i0 = (u32)(w2c_j0);
   w2c_j1 = w2c_p1;
   w2c_i1 = (u32)(w2c_j1);
   w2c_j1 = i64_load(&instance->w2c_memory, (u64)(w2c_i1) + 192u);
-  i64_store(&instance->w2c_memory, (u64)(w2c_i0) + 288, w2c_j1);
+  i64_store(&instance->w2c_memory, (u64)(w2c_i0) + 504, w2c_j1);
   w2c_j0 = w2c_l5;
   w2c_i0 = (u32)(w2c_j0);
   w2c_j1 = w2c_p1;
   w2c_i1 = (u32)(w2c_j1);
   w2c_j1 = i64_load(&instance->w2c_memory, (u64)(w2c_i1) + 184u);
-  i64_store(&instance->w2c_memory, (u64)(w2c_i0) + 280, w2c_j1);
+  i64_store(&instance->w2c_memory, (u64)(w2c_i0) + 496, w2c_j1);
   w2c_j0 = w2c_l5;
   w2c_i0 = (u32)(w2c_j0);
   w2c_j1 = w2c_p1;
   w2c_i1 = (u32)(w2c_j1);
   w2c_j1 = i64_load(&instance->w2c_memory, (u64)(w2c_i1) + 176u);
-  i64_store(&instance->w2c_memory, (u64)(w2c_i0) + 272, w2c_j1);
+  i64_store(&instance->w2c_memory, (u64)(w2c_i0) + 488, w2c_j1);
   w2c_j0 = w2c_l5;
   w2c_i0 = (u32)(w2c_j0);
   w2c_j1 = w2c_p1;
   w2c_i1 = (u32)(w2c_j1);
   w2c_j1 = i64_load(&instance->w2c_memory, (u64)(w2c_i1) + 168u);
-  i64_store(&instance->w2c_memory, (u64)(w2c_i0) + 264, w2c_j1);
+  i64_store(&instance->w2c_memory, (u64)(w2c_i0) + 480, w2c_j1);
   w2c_j0 = w2c_l5;
-  w2c_j1 = 172ull;
+  w2c_j1 = 388ull;
   w2c_j0 += w2c_j1;
   w2c_i0 = (u32)(w2c_j0);
   w2c_j1 = w2c_p1;
@@ -22309,7 +22937,7 @@ static void w2c_tcp_driver__driver__Driver__new(Machine * instance, u64 w2c_p0, 
   w2c_i2 = (u32)(w2c_j2);
   memory_copy(&instance->w2c_memory, &instance->w2c_memory, w2c_i0, w2c_i1, w2c_i2);
   w2c_j0 = w2c_l5;
-  w2c_j1 = 80ull;
+  w2c_j1 = 296ull;
   w2c_j0 += w2c_j1;
   w2c_i0 = (u32)(w2c_j0);
   w2c_j1 = w2c_p1;
@@ -22319,122 +22947,68 @@ static void w2c_tcp_driver__driver__Driver__new(Machine * instance, u64 w2c_p0, 
   w2c_j2 = 88ull;
   w2c_i2 = (u32)(w2c_j2);
   memory_copy(&instance->w2c_memory, &instance->w2c_memory, w2c_i0, w2c_i1, w2c_i2);
-  w2c_j0 = w2c_l5;
-  w2c_i0 = (u32)(w2c_j0);
-  w2c_j1 = w2c_p3;
-  w2c_i1 = (u32)(w2c_j1);
-  w2c_j1 = i64_load(&instance->w2c_memory, (u64)(w2c_i1) + 56u);
-  i64_store(&instance->w2c_memory, (u64)(w2c_i0) + 72, w2c_j1);
-  w2c_j0 = w2c_l5;
-  w2c_i0 = (u32)(w2c_j0);
-  w2c_j1 = w2c_p3;
-  w2c_i1 = (u32)(w2c_j1);
-  w2c_j1 = i64_load(&instance->w2c_memory, (u64)(w2c_i1) + 48u);
-  i64_store(&instance->w2c_memory, (u64)(w2c_i0) + 64, w2c_j1);
-  w2c_j0 = w2c_l5;
-  w2c_i0 = (u32)(w2c_j0);
-  w2c_j1 = w2c_p3;
-  w2c_i1 = (u32)(w2c_j1);
-  w2c_j1 = i64_load(&instance->w2c_memory, (u64)(w2c_i1) + 40u);
-  i64_store(&instance->w2c_memory, (u64)(w2c_i0) + 56, w2c_j1);
-  w2c_j0 = w2c_l5;
-  w2c_i0 = (u32)(w2c_j0);
-  w2c_j1 = w2c_p3;
-  w2c_i1 = (u32)(w2c_j1);
-  w2c_j1 = i64_load(&instance->w2c_memory, (u64)(w2c_i1) + 32u);
-  i64_store(&instance->w2c_memory, (u64)(w2c_i0) + 48, w2c_j1);
-  w2c_j0 = w2c_l5;
-  w2c_i0 = (u32)(w2c_j0);
-  w2c_j1 = w2c_p3;
-  w2c_i1 = (u32)(w2c_j1);
-  w2c_j1 = i64_load(&instance->w2c_memory, (u64)(w2c_i1) + 24u);
-  i64_store(&instance->w2c_memory, (u64)(w2c_i0) + 40, w2c_j1);
-  w2c_j0 = w2c_l5;
-  w2c_i0 = (u32)(w2c_j0);
-  w2c_j1 = w2c_p3;
-  w2c_i1 = (u32)(w2c_j1);
-  w2c_j1 = i64_load(&instance->w2c_memory, (u64)(w2c_i1) + 16u);
-  i64_store(&instance->w2c_memory, (u64)(w2c_i0) + 32, w2c_j1);
-  w2c_j0 = w2c_l5;
-  w2c_i0 = (u32)(w2c_j0);
-  w2c_j1 = w2c_p3;
-  w2c_i1 = (u32)(w2c_j1);
-  w2c_j1 = i64_load(&instance->w2c_memory, (u64)(w2c_i1) + 8u);
-  i64_store(&instance->w2c_memory, (u64)(w2c_i0) + 24, w2c_j1);
-  w2c_j0 = w2c_l5;
-  w2c_i0 = (u32)(w2c_j0);
-  w2c_j1 = w2c_p2;
-  w2c_i1 = (u32)(w2c_j1);
-  w2c_j1 = i64_load(&instance->w2c_memory, (u64)(w2c_i1) + 24u);
-  i64_store(&instance->w2c_memory, (u64)(w2c_i0) + 8, w2c_j1);
-  w2c_j0 = w2c_l5;
-  w2c_i0 = (u32)(w2c_j0);
-  w2c_j1 = w2c_p2;
-  w2c_i1 = (u32)(w2c_j1);
-  w2c_j1 = i64_load(&instance->w2c_memory, (u64)(w2c_i1) + 32u);
-  i64_store(&instance->w2c_memory, (u64)(w2c_i0) + 16, w2c_j1);
   w2c_j0 = w2c_p1;
   w2c_i0 = (u32)(w2c_j0);
-  near1 = read_place(&instance->w2c_memory, (u32)w2c_p1 + 0u, 48);
-  w2c_j0 = get64(near1 + 0);
-  w2c_p3 = w2c_j0;
+  near2 = read_place(&instance->w2c_memory, (u32)w2c_p1 + 0u, 48);
+  w2c_j0 = get64(near2 + 0);
+  w2c_l21 = w2c_j0;
   w2c_j0 = w2c_p1;
   w2c_i0 = (u32)(w2c_j0);
-  w2c_j0 = get64(near1 + 8);
-  w2c_p2 = w2c_j0;
+  w2c_j0 = get64(near2 + 8);
+  w2c_l22 = w2c_j0;
   w2c_j0 = w2c_p1;
   w2c_i0 = (u32)(w2c_j0);
-  w2c_j0 = get64(near1 + 16);
-  w2c_l16 = w2c_j0;
+  w2c_j0 = get64(near2 + 16);
+  w2c_l23 = w2c_j0;
   w2c_j0 = w2c_p1;
   w2c_i0 = (u32)(w2c_j0);
-  w2c_j0 = get64(near1 + 24);
-  w2c_l17 = w2c_j0;
+  w2c_j0 = get64(near2 + 24);
+  w2c_l24 = w2c_j0;
   w2c_j0 = w2c_p1;
   w2c_i0 = (u32)(w2c_j0);
-  w2c_j0 = get64(near1 + 32);
-  w2c_l18 = w2c_j0;
+  w2c_j0 = get64(near2 + 32);
+  w2c_l25 = w2c_j0;
   w2c_j0 = w2c_p0;
   w2c_i0 = (u32)(w2c_j0);
   w2c_j1 = w2c_p1;
   w2c_i1 = (u32)(w2c_j1);
-  w2c_j1 = get64(near1 + 40);
+  w2c_j1 = get64(near2 + 40);
   i64_store(&instance->w2c_memory, (u64)(w2c_i0) + 40, w2c_j1);
   w2c_j0 = w2c_p0;
   w2c_i0 = (u32)(w2c_j0);
-  w2c_j1 = w2c_l18;
+  w2c_j1 = w2c_l25;
   i64_store(&instance->w2c_memory, (u64)(w2c_i0) + 32, w2c_j1);
   w2c_j0 = w2c_p0;
   w2c_i0 = (u32)(w2c_j0);
-  w2c_j1 = w2c_l17;
+  w2c_j1 = w2c_l24;
   i64_store(&instance->w2c_memory, (u64)(w2c_i0) + 24, w2c_j1);
   w2c_j0 = w2c_p0;
   w2c_i0 = (u32)(w2c_j0);
-  w2c_j1 = w2c_l16;
+  w2c_j1 = w2c_l23;
   i64_store(&instance->w2c_memory, (u64)(w2c_i0) + 16, w2c_j1);
   w2c_j0 = w2c_p0;
   w2c_i0 = (u32)(w2c_j0);
-  w2c_j1 = w2c_p2;
+  w2c_j1 = w2c_l22;
   i64_store(&instance->w2c_memory, (u64)(w2c_i0) + 8, w2c_j1);
   w2c_j0 = w2c_p0;
   w2c_i0 = (u32)(w2c_j0);
-  w2c_j1 = w2c_p3;
+  w2c_j1 = w2c_l21;
   i64_store(&instance->w2c_memory, (u64)(w2c_i0), w2c_j1);
   w2c_j0 = w2c_p0;
   w2c_i0 = (u32)(w2c_j0);
-  w2c_i1 = w2c_l20;
+  w2c_i1 = w2c_l27;
   i32_store8(&instance->w2c_memory, (u64)(w2c_i0) + 48, w2c_i1);
   w2c_j0 = w2c_p0;
   w2c_i0 = (u32)(w2c_j0);
   w2c_j1 = w2c_l5;
   w2c_i1 = (u32)(w2c_j1);
-  w2c_j1 = i64_load(&instance->w2c_memory, (u64)(w2c_i1) + 384u);
+  w2c_j1 = i64_load(&instance->w2c_memory, (u64)(w2c_i1) + 600u);
   i64_store(&instance->w2c_memory, (u64)(w2c_i0) + 49, w2c_j1);
   w2c_j0 = w2c_p0;
   w2c_i0 = (u32)(w2c_j0);
   w2c_j1 = w2c_l5;
   w2c_i1 = (u32)(w2c_j1);
-  w2c_j1 = i64_load(&instance->w2c_memory, (u64)(w2c_i1) + 391u);
+  w2c_j1 = i64_load(&instance->w2c_memory, (u64)(w2c_i1) + 607u);
   i64_store(&instance->w2c_memory, (u64)(w2c_i0) + 56, w2c_j1);
   w2c_j0 = w2c_p0;
   w2c_i0 = (u32)(w2c_j0);
@@ -22452,13 +23026,13 @@ static void w2c_tcp_driver__driver__Driver__new(Machine * instance, u64 w2c_p0, 
   w2c_i0 = (u32)(w2c_j0);
   w2c_j1 = w2c_l5;
   w2c_i1 = (u32)(w2c_j1);
-  w2c_j1 = i64_load(&instance->w2c_memory, (u64)(w2c_i1) + 368u);
+  w2c_j1 = i64_load(&instance->w2c_memory, (u64)(w2c_i1) + 584u);
   i64_store(&instance->w2c_memory, (u64)(w2c_i0) + 88, w2c_j1);
   w2c_j0 = w2c_p0;
   w2c_i0 = (u32)(w2c_j0);
   w2c_j1 = w2c_l5;
   w2c_i1 = (u32)(w2c_j1);
-  w2c_j1 = i64_load(&instance->w2c_memory, (u64)(w2c_i1) + 376u);
+  w2c_j1 = i64_load(&instance->w2c_memory, (u64)(w2c_i1) + 592u);
   i64_store(&instance->w2c_memory, (u64)(w2c_i0) + 96, w2c_j1);
   w2c_j0 = w2c_p0;
   w2c_i0 = (u32)(w2c_j0);
@@ -22468,94 +23042,94 @@ static void w2c_tcp_driver__driver__Driver__new(Machine * instance, u64 w2c_p0, 
   w2c_i0 = (u32)(w2c_j0);
   w2c_j1 = w2c_l5;
   w2c_i1 = (u32)(w2c_j1);
-  w2c_j1 = i64_load(&instance->w2c_memory, (u64)(w2c_i1) + 360u);
+  w2c_j1 = i64_load(&instance->w2c_memory, (u64)(w2c_i1) + 576u);
   i64_store(&instance->w2c_memory, (u64)(w2c_i0) + 152, w2c_j1);
   w2c_j0 = w2c_p0;
   w2c_i0 = (u32)(w2c_j0);
   w2c_j1 = w2c_l5;
   w2c_i1 = (u32)(w2c_j1);
-  w2c_j1 = i64_load(&instance->w2c_memory, (u64)(w2c_i1) + 352u);
+  w2c_j1 = i64_load(&instance->w2c_memory, (u64)(w2c_i1) + 568u);
   i64_store(&instance->w2c_memory, (u64)(w2c_i0) + 144, w2c_j1);
   w2c_j0 = w2c_p0;
   w2c_i0 = (u32)(w2c_j0);
   w2c_j1 = w2c_l5;
   w2c_i1 = (u32)(w2c_j1);
-  w2c_j1 = i64_load(&instance->w2c_memory, (u64)(w2c_i1) + 344u);
+  w2c_j1 = i64_load(&instance->w2c_memory, (u64)(w2c_i1) + 560u);
   i64_store(&instance->w2c_memory, (u64)(w2c_i0) + 136, w2c_j1);
   w2c_j0 = w2c_p0;
   w2c_i0 = (u32)(w2c_j0);
   w2c_j1 = w2c_l5;
   w2c_i1 = (u32)(w2c_j1);
-  w2c_j1 = i64_load(&instance->w2c_memory, (u64)(w2c_i1) + 336u);
+  w2c_j1 = i64_load(&instance->w2c_memory, (u64)(w2c_i1) + 552u);
   i64_store(&instance->w2c_memory, (u64)(w2c_i0) + 128, w2c_j1);
   w2c_j0 = w2c_p0;
   w2c_i0 = (u32)(w2c_j0);
   w2c_j1 = w2c_l5;
   w2c_i1 = (u32)(w2c_j1);
-  w2c_j1 = i64_load(&instance->w2c_memory, (u64)(w2c_i1) + 328u);
+  w2c_j1 = i64_load(&instance->w2c_memory, (u64)(w2c_i1) + 544u);
   i64_store(&instance->w2c_memory, (u64)(w2c_i0) + 120, w2c_j1);
   w2c_j0 = w2c_p0;
   w2c_i0 = (u32)(w2c_j0);
   w2c_j1 = w2c_l5;
   w2c_i1 = (u32)(w2c_j1);
-  w2c_j1 = i64_load(&instance->w2c_memory, (u64)(w2c_i1) + 320u);
+  w2c_j1 = i64_load(&instance->w2c_memory, (u64)(w2c_i1) + 536u);
   i64_store(&instance->w2c_memory, (u64)(w2c_i0) + 112, w2c_j1);
   w2c_j0 = w2c_p0;
   w2c_i0 = (u32)(w2c_j0);
-  w2c_j1 = w2c_l15;
+  w2c_j1 = w2c_l10;
   i64_store(&instance->w2c_memory, (u64)(w2c_i0) + 160, w2c_j1);
   w2c_j0 = w2c_p0;
   w2c_i0 = (u32)(w2c_j0);
   w2c_j1 = w2c_l5;
   w2c_i1 = (u32)(w2c_j1);
-  w2c_j1 = i64_load(&instance->w2c_memory, (u64)(w2c_i1) + 312u);
+  w2c_j1 = i64_load(&instance->w2c_memory, (u64)(w2c_i1) + 528u);
   i64_store(&instance->w2c_memory, (u64)(w2c_i0) + 216, w2c_j1);
   w2c_j0 = w2c_p0;
   w2c_i0 = (u32)(w2c_j0);
   w2c_j1 = w2c_l5;
   w2c_i1 = (u32)(w2c_j1);
-  w2c_j1 = i64_load(&instance->w2c_memory, (u64)(w2c_i1) + 304u);
+  w2c_j1 = i64_load(&instance->w2c_memory, (u64)(w2c_i1) + 520u);
   i64_store(&instance->w2c_memory, (u64)(w2c_i0) + 208, w2c_j1);
   w2c_j0 = w2c_p0;
   w2c_i0 = (u32)(w2c_j0);
   w2c_j1 = w2c_l5;
   w2c_i1 = (u32)(w2c_j1);
-  w2c_j1 = i64_load(&instance->w2c_memory, (u64)(w2c_i1) + 296u);
+  w2c_j1 = i64_load(&instance->w2c_memory, (u64)(w2c_i1) + 512u);
   i64_store(&instance->w2c_memory, (u64)(w2c_i0) + 200, w2c_j1);
   w2c_j0 = w2c_p0;
   w2c_i0 = (u32)(w2c_j0);
   w2c_j1 = w2c_l5;
   w2c_i1 = (u32)(w2c_j1);
-  w2c_j1 = i64_load(&instance->w2c_memory, (u64)(w2c_i1) + 288u);
+  w2c_j1 = i64_load(&instance->w2c_memory, (u64)(w2c_i1) + 504u);
   i64_store(&instance->w2c_memory, (u64)(w2c_i0) + 192, w2c_j1);
   w2c_j0 = w2c_p0;
   w2c_i0 = (u32)(w2c_j0);
   w2c_j1 = w2c_l5;
   w2c_i1 = (u32)(w2c_j1);
-  w2c_j1 = i64_load(&instance->w2c_memory, (u64)(w2c_i1) + 280u);
+  w2c_j1 = i64_load(&instance->w2c_memory, (u64)(w2c_i1) + 496u);
   i64_store(&instance->w2c_memory, (u64)(w2c_i0) + 184, w2c_j1);
   w2c_j0 = w2c_p0;
   w2c_i0 = (u32)(w2c_j0);
   w2c_j1 = w2c_l5;
   w2c_i1 = (u32)(w2c_j1);
-  w2c_j1 = i64_load(&instance->w2c_memory, (u64)(w2c_i1) + 272u);
+  w2c_j1 = i64_load(&instance->w2c_memory, (u64)(w2c_i1) + 488u);
   i64_store(&instance->w2c_memory, (u64)(w2c_i0) + 176, w2c_j1);
   w2c_j0 = w2c_p0;
   w2c_i0 = (u32)(w2c_j0);
   w2c_j1 = w2c_l5;
   w2c_i1 = (u32)(w2c_j1);
-  w2c_j1 = i64_load(&instance->w2c_memory, (u64)(w2c_i1) + 264u);
+  w2c_j1 = i64_load(&instance->w2c_memory, (u64)(w2c_i1) + 480u);
   i64_store(&instance->w2c_memory, (u64)(w2c_i0) + 168, w2c_j1);
   w2c_j0 = w2c_p0;
   w2c_i0 = (u32)(w2c_j0);
-  w2c_i1 = w2c_l19;
+  w2c_i1 = w2c_l26;
   i32_store(&instance->w2c_memory, (u64)(w2c_i0) + 224, w2c_i1);
   w2c_j0 = w2c_p0;
   w2c_j1 = 228ull;
   w2c_j0 += w2c_j1;
   w2c_i0 = (u32)(w2c_j0);
   w2c_j1 = w2c_l5;
-  w2c_j2 = 172ull;
+  w2c_j2 = 388ull;
   w2c_j1 += w2c_j2;
   w2c_i1 = (u32)(w2c_j1);
   w2c_j2 = 92ull;
@@ -22563,14 +23137,14 @@ static void w2c_tcp_driver__driver__Driver__new(Machine * instance, u64 w2c_p0, 
   memory_copy(&instance->w2c_memory, &instance->w2c_memory, w2c_i0, w2c_i1, w2c_i2);
   w2c_j0 = w2c_p0;
   w2c_i0 = (u32)(w2c_j0);
-  w2c_j1 = w2c_l10;
+  w2c_j1 = w2c_l9;
   i64_store(&instance->w2c_memory, (u64)(w2c_i0) + 320, w2c_j1);
   w2c_j0 = w2c_p0;
   w2c_j1 = 328ull;
   w2c_j0 += w2c_j1;
   w2c_i0 = (u32)(w2c_j0);
   w2c_j1 = w2c_l5;
-  w2c_j2 = 80ull;
+  w2c_j2 = 296ull;
   w2c_j1 += w2c_j2;
   w2c_i1 = (u32)(w2c_j1);
   w2c_j2 = 88ull;
@@ -22579,234 +23153,164 @@ static void w2c_tcp_driver__driver__Driver__new(Machine * instance, u64 w2c_p0, 
   w2c_j0 = w2c_p0;
   w2c_i0 = (u32)(w2c_j0);
   w2c_j1 = w2c_l6;
-  i64_store(&instance->w2c_memory, (u64)(w2c_i0) + 416, w2c_j1);
-  w2c_j0 = w2c_p0;
-  w2c_i0 = (u32)(w2c_j0);
-  w2c_j1 = w2c_l7;
   i64_store(&instance->w2c_memory, (u64)(w2c_i0) + 496, w2c_j1);
   w2c_j0 = w2c_p0;
   w2c_i0 = (u32)(w2c_j0);
-  w2c_j1 = w2c_l8;
+  w2c_j1 = w2c_l7;
   i64_store(&instance->w2c_memory, (u64)(w2c_i0) + 488, w2c_j1);
   w2c_j0 = w2c_p0;
   w2c_i0 = (u32)(w2c_j0);
-  w2c_j1 = w2c_l9;
+  w2c_j1 = w2c_l8;
   i64_store(&instance->w2c_memory, (u64)(w2c_i0) + 480, w2c_j1);
   w2c_j0 = w2c_p0;
   w2c_i0 = (u32)(w2c_j0);
   w2c_j1 = w2c_l5;
   w2c_i1 = (u32)(w2c_j1);
-  w2c_j1 = i64_load(&instance->w2c_memory, (u64)(w2c_i1) + 24u);
-  i64_store(&instance->w2c_memory, (u64)(w2c_i0) + 424, w2c_j1);
-  w2c_j0 = w2c_p0;
-  w2c_i0 = (u32)(w2c_j0);
-  w2c_j1 = w2c_l5;
-  w2c_i1 = (u32)(w2c_j1);
-  w2c_j1 = i64_load(&instance->w2c_memory, (u64)(w2c_i1) + 32u);
-  i64_store(&instance->w2c_memory, (u64)(w2c_i0) + 432, w2c_j1);
-  w2c_j0 = w2c_p0;
-  w2c_i0 = (u32)(w2c_j0);
-  w2c_j1 = w2c_l5;
-  w2c_i1 = (u32)(w2c_j1);
-  w2c_j1 = i64_load(&instance->w2c_memory, (u64)(w2c_i1) + 40u);
-  i64_store(&instance->w2c_memory, (u64)(w2c_i0) + 440, w2c_j1);
-  w2c_j0 = w2c_p0;
-  w2c_i0 = (u32)(w2c_j0);
-  w2c_j1 = w2c_l5;
-  w2c_i1 = (u32)(w2c_j1);
-  w2c_j1 = i64_load(&instance->w2c_memory, (u64)(w2c_i1) + 48u);
-  i64_store(&instance->w2c_memory, (u64)(w2c_i0) + 448, w2c_j1);
-  w2c_j0 = w2c_p0;
-  w2c_i0 = (u32)(w2c_j0);
-  w2c_j1 = w2c_l5;
-  w2c_i1 = (u32)(w2c_j1);
   w2c_j1 = i64_load(&instance->w2c_memory, (u64)(w2c_i1) + 56u);
-  i64_store(&instance->w2c_memory, (u64)(w2c_i0) + 456, w2c_j1);
-  w2c_j0 = w2c_p0;
-  w2c_i0 = (u32)(w2c_j0);
-  w2c_j1 = w2c_l5;
-  w2c_i1 = (u32)(w2c_j1);
-  w2c_j1 = i64_load(&instance->w2c_memory, (u64)(w2c_i1) + 64u);
-  i64_store(&instance->w2c_memory, (u64)(w2c_i0) + 464, w2c_j1);
-  w2c_j0 = w2c_p0;
-  w2c_i0 = (u32)(w2c_j0);
-  w2c_j1 = w2c_l5;
-  w2c_i1 = (u32)(w2c_j1);
-  w2c_j1 = i64_load(&instance->w2c_memory, (u64)(w2c_i1) + 72u);
   i64_store(&instance->w2c_memory, (u64)(w2c_i0) + 472, w2c_j1);
   w2c_j0 = w2c_p0;
   w2c_i0 = (u32)(w2c_j0);
   w2c_j1 = w2c_l5;
   w2c_i1 = (u32)(w2c_j1);
-  w2c_j1 = i64_load(&instance->w2c_memory, (u64)(w2c_i1) + 8u);
-  i64_store(&instance->w2c_memory, (u64)(w2c_i0) + 504, w2c_j1);
+  w2c_j1 = i64_load(&instance->w2c_memory, (u64)(w2c_i1) + 48u);
+  i64_store(&instance->w2c_memory, (u64)(w2c_i0) + 464, w2c_j1);
+  w2c_j0 = w2c_p0;
+  w2c_i0 = (u32)(w2c_j0);
+  w2c_j1 = w2c_l5;
+  w2c_i1 = (u32)(w2c_j1);
+  w2c_j1 = i64_load(&instance->w2c_memory, (u64)(w2c_i1) + 40u);
+  i64_store(&instance->w2c_memory, (u64)(w2c_i0) + 456, w2c_j1);
+  w2c_j0 = w2c_p0;
+  w2c_i0 = (u32)(w2c_j0);
+  w2c_j1 = w2c_l5;
+  w2c_i1 = (u32)(w2c_j1);
+  w2c_j1 = i64_load(&instance->w2c_memory, (u64)(w2c_i1) + 32u);
+  i64_store(&instance->w2c_memory, (u64)(w2c_i0) + 448, w2c_j1);
+  w2c_j0 = w2c_p0;
+  w2c_i0 = (u32)(w2c_j0);
+  w2c_j1 = w2c_l5;
+  w2c_i1 = (u32)(w2c_j1);
+  w2c_j1 = i64_load(&instance->w2c_memory, (u64)(w2c_i1) + 24u);
+  i64_store(&instance->w2c_memory, (u64)(w2c_i0) + 440, w2c_j1);
   w2c_j0 = w2c_p0;
   w2c_i0 = (u32)(w2c_j0);
   w2c_j1 = w2c_l5;
   w2c_i1 = (u32)(w2c_j1);
   w2c_j1 = i64_load(&instance->w2c_memory, (u64)(w2c_i1) + 16u);
-  i64_store(&instance->w2c_memory, (u64)(w2c_i0) + 512, w2c_j1);
+  i64_store(&instance->w2c_memory, (u64)(w2c_i0) + 432, w2c_j1);
   w2c_j0 = w2c_p0;
   w2c_i0 = (u32)(w2c_j0);
-  w2c_j1 = 0ull;
-  i64_store(&instance->w2c_memory, (u64)(w2c_i0) + 536, w2c_j1);
+  w2c_j1 = w2c_l5;
+  w2c_i1 = (u32)(w2c_j1);
+  w2c_j1 = i64_load(&instance->w2c_memory, (u64)(w2c_i1) + 8u);
+  i64_store(&instance->w2c_memory, (u64)(w2c_i0) + 424, w2c_j1);
   w2c_j0 = w2c_p0;
   w2c_i0 = (u32)(w2c_j0);
-  w2c_j1 = 0ull;
-  i64_store(&instance->w2c_memory, (u64)(w2c_i0) + 528, w2c_j1);
+  w2c_j1 = w2c_l5;
+  w2c_i1 = (u32)(w2c_j1);
+  w2c_j1 = i64_load(&instance->w2c_memory, (u64)(w2c_i1));
+  i64_store(&instance->w2c_memory, (u64)(w2c_i0) + 416, w2c_j1);
   w2c_j0 = w2c_p0;
   w2c_i0 = (u32)(w2c_j0);
-  w2c_j1 = 0ull;
-  i64_store(&instance->w2c_memory, (u64)(w2c_i0) + 520, w2c_j1);
-  w2c_j0 = w2c_p0;
-  w2c_i0 = (u32)(w2c_j0);
-  w2c_j1 = w2c_l9;
-  w2c_j2 = w2c_l8;
-  w2c_j3 = w2c_l9;
-  w2c_j4 = w2c_l8;
-  w2c_i3 = w2c_j3 > w2c_j4;
-  w2c_j1 = w2c_i3 ? w2c_j1 : w2c_j2;
-  w2c_p1 = w2c_j1;
-  w2c_j2 = w2c_l7;
-  w2c_j3 = w2c_p1;
-  w2c_j4 = w2c_l7;
-  w2c_i3 = w2c_j3 < w2c_j4;
-  w2c_j1 = w2c_i3 ? w2c_j1 : w2c_j2;
-  w2c_p3 = w2c_j1;
+  w2c_j1 = w2c_l20;
   i64_store(&instance->w2c_memory, (u64)(w2c_i0) + 544, w2c_j1);
   w2c_j0 = w2c_p0;
   w2c_i0 = (u32)(w2c_j0);
-  w2c_j1 = 0ull;
-  i64_store(&instance->w2c_memory, (u64)(w2c_i0) + 576, w2c_j1);
+  w2c_j1 = w2c_l18;
+  w2c_i1 = (u32)(w2c_j1);
+  w2c_j1 = i64_load(&instance->w2c_memory, (u64)(w2c_i1) + 8u);
+  i64_store(&instance->w2c_memory, (u64)(w2c_i0) + 512, w2c_j1);
   w2c_j0 = w2c_p0;
   w2c_i0 = (u32)(w2c_j0);
-  w2c_j1 = 0ull;
-  i64_store(&instance->w2c_memory, (u64)(w2c_i0) + 568, w2c_j1);
+  w2c_j1 = w2c_l18;
+  w2c_i1 = (u32)(w2c_j1);
+  w2c_j1 = i64_load(&instance->w2c_memory, (u64)(w2c_i1));
+  i64_store(&instance->w2c_memory, (u64)(w2c_i0) + 504, w2c_j1);
   w2c_j0 = w2c_p0;
   w2c_i0 = (u32)(w2c_j0);
-  w2c_j1 = 0ull;
-  i64_store(&instance->w2c_memory, (u64)(w2c_i0) + 560, w2c_j1);
+  w2c_j1 = w2c_l17;
+  w2c_i1 = (u32)(w2c_j1);
+  w2c_j1 = i64_load(&instance->w2c_memory, (u64)(w2c_i1) + 16u);
+  i64_store(&instance->w2c_memory, (u64)(w2c_i0) + 536, w2c_j1);
   w2c_j0 = w2c_p0;
   w2c_i0 = (u32)(w2c_j0);
-  w2c_j1 = 0ull;
-  i64_store(&instance->w2c_memory, (u64)(w2c_i0) + 552, w2c_j1);
+  w2c_j1 = w2c_l17;
+  w2c_i1 = (u32)(w2c_j1);
+  w2c_j1 = i64_load(&instance->w2c_memory, (u64)(w2c_i1) + 8u);
+  i64_store(&instance->w2c_memory, (u64)(w2c_i0) + 528, w2c_j1);
   w2c_j0 = w2c_p0;
   w2c_i0 = (u32)(w2c_j0);
-  w2c_j1 = w2c_p4;
-  w2c_j2 = 4611686018427387904ull;
-  w2c_j3 = w2c_p4;
-  w2c_j4 = 4611686018427387904ull;
-  w2c_i3 = w2c_j3 < w2c_j4;
-  w2c_j1 = w2c_i3 ? w2c_j1 : w2c_j2;
-  w2c_p1 = w2c_j1;
+  w2c_j1 = w2c_l17;
+  w2c_i1 = (u32)(w2c_j1);
+  w2c_j1 = i64_load(&instance->w2c_memory, (u64)(w2c_i1));
+  i64_store(&instance->w2c_memory, (u64)(w2c_i0) + 520, w2c_j1);
+  w2c_j0 = w2c_p0;
+  w2c_j1 = 552ull;
+  w2c_j0 += w2c_j1;
+  w2c_i0 = (u32)(w2c_j0);
+  w2c_j1 = w2c_l15;
+  w2c_i1 = (u32)(w2c_j1);
+  w2c_j2 = 80ull;
+  w2c_i2 = (u32)(w2c_j2);
+  memory_copy(&instance->w2c_memory, &instance->w2c_memory, w2c_i0, w2c_i1, w2c_i2);
+  w2c_j0 = w2c_p0;
+  w2c_i0 = (u32)(w2c_j0);
+  w2c_j1 = w2c_l19;
+  i64_store(&instance->w2c_memory, (u64)(w2c_i0) + 632, w2c_j1);
+  w2c_j0 = w2c_p0;
+  w2c_i0 = (u32)(w2c_j0);
+  w2c_j1 = w2c_p2;
+  i64_store(&instance->w2c_memory, (u64)(w2c_i0) + 664, w2c_j1);
+  w2c_j0 = w2c_p0;
+  w2c_i0 = (u32)(w2c_j0);
+  w2c_j1 = w2c_l16;
   i64_store(&instance->w2c_memory, (u64)(w2c_i0) + 704, w2c_j1);
   w2c_j0 = w2c_p0;
   w2c_i0 = (u32)(w2c_j0);
-  w2c_j1 = 0ull;
-  i64_store(&instance->w2c_memory, (u64)(w2c_i0) + 696, w2c_j1);
+  w2c_j1 = w2c_p4;
+  w2c_i1 = (u32)(w2c_j1);
+  w2c_j1 = i64_load(&instance->w2c_memory, (u64)(w2c_i1));
+  i64_store(&instance->w2c_memory, (u64)(w2c_i0) + 640, w2c_j1);
   w2c_j0 = w2c_p0;
   w2c_i0 = (u32)(w2c_j0);
-  w2c_j1 = w2c_p1;
-  w2c_j2 = 0ull;
-  w2c_i3 = w2c_l20;
-  w2c_i4 = 6u;
-  w2c_i3 = w2c_i3 == w2c_i4;
-  w2c_j4 = w2c_l10;
-  w2c_i4 = !(w2c_j4);
-  w2c_i3 &= w2c_i4;
-  w2c_l19 = w2c_i3;
-  w2c_j1 = w2c_i3 ? w2c_j1 : w2c_j2;
-  i64_store(&instance->w2c_memory, (u64)(w2c_i0) + 688, w2c_j1);
+  w2c_j1 = w2c_p4;
+  w2c_i1 = (u32)(w2c_j1);
+  w2c_j1 = i64_load(&instance->w2c_memory, (u64)(w2c_i1) + 8u);
+  i64_store(&instance->w2c_memory, (u64)(w2c_i0) + 648, w2c_j1);
   w2c_j0 = w2c_p0;
   w2c_i0 = (u32)(w2c_j0);
-  w2c_i1 = w2c_l19;
-  w2c_j1 = (u64)(w2c_i1);
-  i64_store(&instance->w2c_memory, (u64)(w2c_i0) + 680, w2c_j1);
+  w2c_j1 = w2c_p4;
+  w2c_i1 = (u32)(w2c_j1);
+  w2c_j1 = i64_load(&instance->w2c_memory, (u64)(w2c_i1) + 16u);
+  i64_store(&instance->w2c_memory, (u64)(w2c_i0) + 656, w2c_j1);
   w2c_j0 = w2c_p0;
   w2c_i0 = (u32)(w2c_j0);
-  w2c_j1 = 0ull;
+  w2c_j1 = w2c_p3;
+  w2c_i1 = (u32)(w2c_j1);
+  w2c_j1 = i64_load(&instance->w2c_memory, (u64)(w2c_i1));
   i64_store(&instance->w2c_memory, (u64)(w2c_i0) + 672, w2c_j1);
   w2c_j0 = w2c_p0;
   w2c_i0 = (u32)(w2c_j0);
   w2c_j1 = w2c_p3;
-  i64_store(&instance->w2c_memory, (u64)(w2c_i0) + 664, w2c_j1);
-  w2c_j0 = w2c_p0;
-  w2c_i0 = (u32)(w2c_j0);
-  w2c_j1 = 0ull;
-  i64_store(&instance->w2c_memory, (u64)(w2c_i0) + 656, w2c_j1);
-  w2c_j0 = w2c_p0;
-  w2c_i0 = (u32)(w2c_j0);
-  w2c_j1 = w2c_p1;
-  w2c_j2 = 0ull;
-  w2c_i3 = w2c_l22;
-  w2c_j1 = w2c_i3 ? w2c_j1 : w2c_j2;
-  i64_store(&instance->w2c_memory, (u64)(w2c_i0) + 648, w2c_j1);
-  w2c_j0 = w2c_p0;
-  w2c_i0 = (u32)(w2c_j0);
-  w2c_i1 = w2c_l22;
-  w2c_j1 = (u64)(w2c_i1);
-  w2c_p2 = w2c_j1;
-  i64_store(&instance->w2c_memory, (u64)(w2c_i0) + 640, w2c_j1);
-  w2c_j0 = w2c_p0;
-  w2c_i0 = (u32)(w2c_j0);
-  w2c_j1 = w2c_l14;
-  i64_store(&instance->w2c_memory, (u64)(w2c_i0) + 632, w2c_j1);
-  w2c_j0 = w2c_p0;
-  w2c_i0 = (u32)(w2c_j0);
-  w2c_j1 = w2c_l6;
-  w2c_j2 = 4611686018427387904ull;
-  w2c_j3 = w2c_l6;
-  w2c_j4 = 4611686018427387904ull;
-  w2c_i3 = w2c_j3 < w2c_j4;
-  w2c_j1 = w2c_i3 ? w2c_j1 : w2c_j2;
-  w2c_j2 = w2c_p1;
-  w2c_j1 += w2c_j2;
-  w2c_j2 = 0ull;
-  w2c_i3 = w2c_l20;
-  w2c_i4 = 10u;
-  w2c_i3 = w2c_i3 == w2c_i4;
-  w2c_l20 = w2c_i3;
-  w2c_j1 = w2c_i3 ? w2c_j1 : w2c_j2;
-  i64_store(&instance->w2c_memory, (u64)(w2c_i0) + 624, w2c_j1);
-  w2c_j0 = w2c_p0;
-  w2c_i0 = (u32)(w2c_j0);
-  w2c_i1 = w2c_l20;
-  w2c_j1 = (u64)(w2c_i1);
-  i64_store(&instance->w2c_memory, (u64)(w2c_i0) + 616, w2c_j1);
+  w2c_i1 = (u32)(w2c_j1);
+  w2c_j1 = i64_load(&instance->w2c_memory, (u64)(w2c_i1) + 8u);
+  i64_store(&instance->w2c_memory, (u64)(w2c_i0) + 680, w2c_j1);
   w2c_j0 = w2c_p0;
   w2c_i0 = (u32)(w2c_j0);
   w2c_j1 = w2c_p3;
-  w2c_j2 = w2c_p1;
-  w2c_j1 += w2c_j2;
-  w2c_p1 = w2c_j1;
-  w2c_j2 = 0ull;
-  w2c_i3 = w2c_l21;
-  w2c_j1 = w2c_i3 ? w2c_j1 : w2c_j2;
-  i64_store(&instance->w2c_memory, (u64)(w2c_i0) + 608, w2c_j1);
+  w2c_i1 = (u32)(w2c_j1);
+  w2c_j1 = i64_load(&instance->w2c_memory, (u64)(w2c_i1) + 16u);
+  i64_store(&instance->w2c_memory, (u64)(w2c_i0) + 688, w2c_j1);
   w2c_j0 = w2c_p0;
   w2c_i0 = (u32)(w2c_j0);
-  w2c_j1 = w2c_p1;
-  w2c_j2 = 0ull;
-  w2c_i3 = w2c_l22;
-  w2c_j1 = w2c_i3 ? w2c_j1 : w2c_j2;
-  i64_store(&instance->w2c_memory, (u64)(w2c_i0) + 592, w2c_j1);
-  w2c_j0 = w2c_p0;
-  w2c_i0 = (u32)(w2c_j0);
-  w2c_j1 = w2c_p2;
-  i64_store(&instance->w2c_memory, (u64)(w2c_i0) + 584, w2c_j1);
-  w2c_j0 = w2c_p0;
-  w2c_i0 = (u32)(w2c_j0);
-  w2c_i1 = w2c_l21;
-  w2c_j1 = (u64)(w2c_i1);
-  i64_store(&instance->w2c_memory, (u64)(w2c_i0) + 600, w2c_j1);
+  w2c_j1 = w2c_p3;
+  w2c_i1 = (u32)(w2c_j1);
+  w2c_j1 = i64_load(&instance->w2c_memory, (u64)(w2c_i1) + 24u);
+  i64_store(&instance->w2c_memory, (u64)(w2c_i0) + 696, w2c_j1);
   w2c_j0 = w2c_l5;
-  w2c_j1 = 400ull;
+  w2c_j1 = 624ull;
   w2c_j0 += w2c_j1;
   instance->w2c___stack_pointer = w2c_j0;
-  goto w2c_Bfunc;
-  w2c_B0:;
-  UNREACHABLE;
-  w2c_Bfunc:;
 }
 
 static void w2c_tcp_halves__sender__Sender__due(Machine * instance, u64 w2c_p0, u64 w2c_p1, u32 w2c_p2, u32 w2c_p3, u32 w2c_p4) {
@@ -29226,6 +29730,257 @@ static void w2c_tcp_conn__endpoint__Endpoint__send(Machine * instance, u64 w2c_p
   w2c_j0 += w2c_j1;
   w2c_i0 = (u32)(w2c_j0);
   w2c_i1 = 0u;
+  i32_store8(&instance->w2c_memory, (u64)(w2c_i0), w2c_i1);
+  goto w2c_Bfunc;
+  w2c_B0:;
+  UNREACHABLE;
+  w2c_Bfunc:;
+}
+
+static void w2c_tcp_driver__timers__Timers__next_expiry(Machine * instance, u64 w2c_p0, u64 w2c_p1) {
+  u32 w2c_l2 = 0, w2c_l3 = 0, w2c_l4 = 0, w2c_l5 = 0;
+  u64 w2c_l6 = 0, w2c_l7 = 0, w2c_l8 = 0;
+  u32 w2c_i0, w2c_i1, w2c_i2, w2c_i3, w2c_i4, w2c_i5, w2c_i6;
+  u64 w2c_j0, w2c_j1, w2c_j2, w2c_j3, w2c_j4, w2c_j5, w2c_j6, w2c_j7;
+  w2c_j0 = instance->w2c___stack_pointer;
+  w2c_j1 = 16ull;
+  w2c_i0 = (u64)((s64)w2c_j0 < (s64)w2c_j1);
+  if (w2c_i0) {goto w2c_B0;}
+  w2c_i0 = 1u;
+  w2c_l2 = w2c_i0;
+  w2c_j0 = w2c_p1;
+  w2c_j1 = 208ull;
+  w2c_j0 += w2c_j1;
+  w2c_i0 = (u32)(w2c_j0);
+  w2c_j0 = i64_load(&instance->w2c_memory, (u64)(w2c_i0));
+  w2c_l6 = w2c_j0;
+  w2c_j1 = w2c_p1;
+  w2c_j2 = 192ull;
+  w2c_j1 += w2c_j2;
+  w2c_i1 = (u32)(w2c_j1);
+  w2c_j1 = i64_load(&instance->w2c_memory, (u64)(w2c_i1));
+  w2c_l7 = w2c_j1;
+  w2c_j2 = w2c_l6;
+  w2c_j3 = w2c_l7;
+  w2c_i2 = w2c_j2 < w2c_j3;
+  w2c_j0 = w2c_i2 ? w2c_j0 : w2c_j1;
+  w2c_j1 = w2c_l7;
+  w2c_j2 = w2c_p1;
+  w2c_j3 = 200ull;
+  w2c_j2 += w2c_j3;
+  w2c_i2 = (u32)(w2c_j2);
+  w2c_i2 = i32_load8_u(&instance->w2c_memory, (u64)(w2c_i2));
+  w2c_l3 = w2c_i2;
+  w2c_i3 = 1u;
+  w2c_i2 = w2c_i2 == w2c_i3;
+  w2c_j0 = w2c_i2 ? w2c_j0 : w2c_j1;
+  w2c_j1 = w2c_l6;
+  w2c_j2 = w2c_p1;
+  w2c_j3 = 184ull;
+  w2c_j2 += w2c_j3;
+  w2c_i2 = (u32)(w2c_j2);
+  w2c_i2 = i32_load8_u(&instance->w2c_memory, (u64)(w2c_i2));
+  w2c_i3 = 1u;
+  w2c_i2 = w2c_i2 == w2c_i3;
+  w2c_l4 = w2c_i2;
+  w2c_j0 = w2c_i2 ? w2c_j0 : w2c_j1;
+  w2c_l6 = w2c_j0;
+  w2c_j1 = w2c_p1;
+  w2c_j2 = 176ull;
+  w2c_j1 += w2c_j2;
+  w2c_i1 = (u32)(w2c_j1);
+  w2c_j1 = i64_load(&instance->w2c_memory, (u64)(w2c_i1));
+  w2c_l7 = w2c_j1;
+  w2c_j2 = w2c_l6;
+  w2c_j3 = w2c_l7;
+  w2c_i2 = w2c_j2 < w2c_j3;
+  w2c_j0 = w2c_i2 ? w2c_j0 : w2c_j1;
+  w2c_j1 = w2c_l7;
+  w2c_i2 = 1u;
+  w2c_i3 = w2c_l3;
+  w2c_i4 = w2c_l4;
+  w2c_i2 = w2c_i4 ? w2c_i2 : w2c_i3;
+  w2c_l3 = w2c_i2;
+  w2c_i3 = 1u;
+  w2c_i2 = w2c_i2 == w2c_i3;
+  w2c_j0 = w2c_i2 ? w2c_j0 : w2c_j1;
+  w2c_j1 = w2c_l6;
+  w2c_j2 = w2c_p1;
+  w2c_j3 = 168ull;
+  w2c_j2 += w2c_j3;
+  w2c_i2 = (u32)(w2c_j2);
+  w2c_i2 = i32_load8_u(&instance->w2c_memory, (u64)(w2c_i2));
+  w2c_i3 = 1u;
+  w2c_i2 = w2c_i2 == w2c_i3;
+  w2c_l4 = w2c_i2;
+  w2c_j0 = w2c_i2 ? w2c_j0 : w2c_j1;
+  w2c_l6 = w2c_j0;
+  w2c_i0 = 1u;
+  w2c_i1 = w2c_l3;
+  w2c_i2 = w2c_l4;
+  w2c_i0 = w2c_i2 ? w2c_i0 : w2c_i1;
+  w2c_l3 = w2c_i0;
+  w2c_j0 = w2c_p1;
+  w2c_j1 = 8ull;
+  w2c_j0 += w2c_j1;
+  w2c_i0 = (u32)(w2c_j0);
+  w2c_i0 = i32_load(&instance->w2c_memory, (u64)(w2c_i0));
+  w2c_j1 = w2c_p1;
+  w2c_j2 = 240ull;
+  w2c_j1 += w2c_j2;
+  w2c_i1 = (u32)(w2c_j1);
+  w2c_i1 = i32_load(&instance->w2c_memory, (u64)(w2c_i1));
+  w2c_i0 = w2c_i0 <= w2c_i1;
+  if (w2c_i0) {goto w2c_B3;}
+  w2c_j0 = 0ull;
+  w2c_l7 = w2c_j0;
+  w2c_j0 = w2c_p1;
+  w2c_j1 = 264ull;
+  w2c_j0 += w2c_j1;
+  w2c_i0 = (u32)(w2c_j0);
+  w2c_i0 = i32_load8_u(&instance->w2c_memory, (u64)(w2c_i0));
+  w2c_i1 = 1u;
+  w2c_i0 = w2c_i0 == w2c_i1;
+  if (w2c_i0) {goto w2c_B2;}
+  goto w2c_B1;
+  w2c_B3:;
+  w2c_j0 = 0ull;
+  w2c_j1 = w2c_p1;
+  w2c_j2 = 24ull;
+  w2c_j3 = 40ull;
+  w2c_j4 = w2c_p1;
+  w2c_j5 = 216ull;
+  w2c_j4 += w2c_j5;
+  w2c_i4 = (u32)(w2c_j4);
+  w2c_j4 = i64_load(&instance->w2c_memory, (u64)(w2c_i4));
+  w2c_i4 = !(w2c_j4);
+  w2c_l2 = w2c_i4;
+  w2c_j2 = w2c_i4 ? w2c_j2 : w2c_j3;
+  w2c_j1 += w2c_j2;
+  w2c_i1 = (u32)(w2c_j1);
+  w2c_j1 = i64_load(&instance->w2c_memory, (u64)(w2c_i1));
+  w2c_l7 = w2c_j1;
+  w2c_j2 = 4611686018427387904ull;
+  w2c_j3 = w2c_l7;
+  w2c_j4 = 4611686018427387904ull;
+  w2c_i3 = w2c_j3 < w2c_j4;
+  w2c_j1 = w2c_i3 ? w2c_j1 : w2c_j2;
+  w2c_j2 = w2c_p1;
+  w2c_j3 = 232ull;
+  w2c_j2 += w2c_j3;
+  w2c_i2 = (u32)(w2c_j2);
+  w2c_j2 = i64_load(&instance->w2c_memory, (u64)(w2c_i2));
+  w2c_j1 += w2c_j2;
+  w2c_j2 = w2c_p1;
+  w2c_j3 = 224ull;
+  w2c_j2 += w2c_j3;
+  w2c_i2 = (u32)(w2c_j2);
+  w2c_i2 = i32_load8_u(&instance->w2c_memory, (u64)(w2c_i2));
+  w2c_i3 = 1u;
+  w2c_i2 = w2c_i2 != w2c_i3;
+  w2c_j3 = w2c_p1;
+  w2c_j4 = 16ull;
+  w2c_j5 = 32ull;
+  w2c_i6 = w2c_l2;
+  w2c_j4 = w2c_i6 ? w2c_j4 : w2c_j5;
+  w2c_j3 += w2c_j4;
+  w2c_i3 = (u32)(w2c_j3);
+  w2c_i3 = i32_load8_u(&instance->w2c_memory, (u64)(w2c_i3));
+  w2c_i4 = 1u;
+  w2c_i3 = w2c_i3 != w2c_i4;
+  w2c_i2 |= w2c_i3;
+  w2c_l2 = w2c_i2;
+  w2c_i3 = 1u;
+  w2c_i2 &= w2c_i3;
+  w2c_j0 = w2c_i2 ? w2c_j0 : w2c_j1;
+  w2c_l7 = w2c_j0;
+  w2c_i0 = w2c_l2;
+  w2c_l2 = w2c_i0;
+  w2c_B2:;
+  w2c_j0 = w2c_l6;
+  w2c_j1 = w2c_l6;
+  w2c_j2 = 0ull;
+  w2c_j3 = w2c_p1;
+  w2c_j4 = 56ull;
+  w2c_j3 += w2c_j4;
+  w2c_i3 = (u32)(w2c_j3);
+  w2c_j3 = i64_load(&instance->w2c_memory, (u64)(w2c_i3));
+  w2c_l8 = w2c_j3;
+  w2c_j4 = 4611686018427387904ull;
+  w2c_j5 = w2c_l8;
+  w2c_j6 = 4611686018427387904ull;
+  w2c_i5 = w2c_j5 < w2c_j6;
+  w2c_j3 = w2c_i5 ? w2c_j3 : w2c_j4;
+  w2c_j4 = w2c_p1;
+  w2c_j5 = 272ull;
+  w2c_j4 += w2c_j5;
+  w2c_i4 = (u32)(w2c_j4);
+  w2c_j4 = i64_load(&instance->w2c_memory, (u64)(w2c_i4));
+  w2c_j3 += w2c_j4;
+  w2c_j4 = w2c_p1;
+  w2c_j5 = 264ull;
+  w2c_j4 += w2c_j5;
+  w2c_i4 = (u32)(w2c_j4);
+  w2c_i4 = i32_load8_u(&instance->w2c_memory, (u64)(w2c_i4));
+  w2c_i5 = 1u;
+  w2c_i4 = w2c_i4 != w2c_i5;
+  w2c_j5 = w2c_p1;
+  w2c_j6 = 48ull;
+  w2c_j5 += w2c_j6;
+  w2c_i5 = (u32)(w2c_j5);
+  w2c_i5 = i32_load8_u(&instance->w2c_memory, (u64)(w2c_i5));
+  w2c_i6 = 1u;
+  w2c_i5 = w2c_i5 != w2c_i6;
+  w2c_i4 |= w2c_i5;
+  w2c_l4 = w2c_i4;
+  w2c_i5 = 1u;
+  w2c_i4 &= w2c_i5;
+  w2c_l5 = w2c_i4;
+  w2c_j2 = w2c_i4 ? w2c_j2 : w2c_j3;
+  w2c_p1 = w2c_j2;
+  w2c_j3 = w2c_l7;
+  w2c_j4 = w2c_p1;
+  w2c_j5 = w2c_l7;
+  w2c_j6 = w2c_p1;
+  w2c_j7 = w2c_l7;
+  w2c_i6 = w2c_j6 < w2c_j7;
+  w2c_j4 = w2c_i6 ? w2c_j4 : w2c_j5;
+  w2c_i5 = w2c_l5;
+  w2c_j3 = w2c_i5 ? w2c_j3 : w2c_j4;
+  w2c_i4 = w2c_l2;
+  w2c_i5 = 1u;
+  w2c_i4 &= w2c_i5;
+  w2c_l2 = w2c_i4;
+  w2c_j2 = w2c_i4 ? w2c_j2 : w2c_j3;
+  w2c_p1 = w2c_j2;
+  w2c_j3 = w2c_l6;
+  w2c_j4 = w2c_p1;
+  w2c_i3 = w2c_j3 < w2c_j4;
+  w2c_j1 = w2c_i3 ? w2c_j1 : w2c_j2;
+  w2c_j2 = w2c_p1;
+  w2c_i3 = w2c_l3;
+  w2c_i4 = 1u;
+  w2c_i3 = w2c_i3 == w2c_i4;
+  w2c_j1 = w2c_i3 ? w2c_j1 : w2c_j2;
+  w2c_i2 = w2c_l2;
+  w2c_i3 = w2c_l4;
+  w2c_i2 &= w2c_i3;
+  w2c_l2 = w2c_i2;
+  w2c_j0 = w2c_i2 ? w2c_j0 : w2c_j1;
+  w2c_l6 = w2c_j0;
+  w2c_i0 = w2c_l3;
+  w2c_i1 = 1u;
+  w2c_i2 = w2c_l2;
+  w2c_i0 = w2c_i2 ? w2c_i0 : w2c_i1;
+  w2c_l3 = w2c_i0;
+  w2c_B1:;
+  w2c_j0 = w2c_p0;
+  w2c_i0 = (u32)(w2c_j0);
+  w2c_j1 = w2c_l6;
+  i64_store(&instance->w2c_memory, (u64)(w2c_i0) + 8, w2c_j1);
+  w2c_j0 = w2c_p0;
+  w2c_i0 = (u32)(w2c_j0);
+  w2c_i1 = w2c_l3;
   i32_store8(&instance->w2c_memory, (u64)(w2c_i0), w2c_i1);
   goto w2c_Bfunc;
   w2c_B0:;
@@ -41647,10 +42402,10 @@ static u32 w2c_tcp_c_connection_abort(Machine * instance, u64 w2c_p0, u64 w2c_p1
 }
 
 static u32 w2c_rattle__export_tcp_c_connection_abort(Machine * instance, u64 w2c_p0, u64 w2c_p1) {
-  u32 w2c_l7 = 0, w2c_l8 = 0, w2c_l9 = 0, w2c_l10 = 0, w2c_l11 = 0;
+  u32 w2c_l7 = 0, w2c_l8 = 0, w2c_l9 = 0, w2c_l10 = 0, w2c_l11 = 0, w2c_l12 = 0;
   u64 w2c_l2 = 0, w2c_l3 = 0, w2c_l4 = 0, w2c_l5 = 0, w2c_l6 = 0;
-  u32 w2c_i0, w2c_i1, w2c_i2, w2c_i3, w2c_i5;
-  u64 w2c_j0, w2c_j1, w2c_j2, w2c_j3, w2c_j4, w2c_j5, w2c_j6;
+  u32 w2c_i0, w2c_i1, w2c_i2, w2c_i3, w2c_i4, w2c_i5;
+  u64 w2c_j0, w2c_j1, w2c_j2, w2c_j3, w2c_j4;
   w2c_j0 = instance->w2c___stack_pointer;
   w2c_j1 = 16ull;
   w2c_j0 -= w2c_j1;
@@ -41660,7 +42415,7 @@ static u32 w2c_rattle__export_tcp_c_connection_abort(Machine * instance, u64 w2c
   w2c_l3 = w2c_j0;
   w2c_j1 = 16ull;
   w2c_i0 = (u64)((s64)w2c_j0 < (s64)w2c_j1);
-  if (w2c_i0) {goto w2c_B0;}
+  if (w2c_i0) {goto w2c_B3;}
   w2c_j0 = w2c_p0;
   w2c_i0 = (u32)(w2c_j0);
   w2c_j0 = i64_load(&instance->w2c_memory, (u64)(w2c_i0));
@@ -41682,7 +42437,14 @@ static u32 w2c_rattle__export_tcp_c_connection_abort(Machine * instance, u64 w2c
   w2c_j0 = w2c_l4;
   w2c_j1 = 8521743234667672684ull;
   w2c_i0 = w2c_j0 != w2c_j1;
-  if (w2c_i0) {goto w2c_B1;}
+  if (w2c_i0) {goto w2c_B0;}
+  w2c_j0 = w2c_p1;
+  w2c_j1 = 4611686018427387904ull;
+  w2c_j2 = w2c_p1;
+  w2c_j3 = 4611686018427387904ull;
+  w2c_i2 = w2c_j2 < w2c_j3;
+  w2c_j0 = w2c_i2 ? w2c_j0 : w2c_j1;
+  w2c_p1 = w2c_j0;
   w2c_j0 = w2c_l2;
   w2c_j1 = 704ull;
   w2c_j0 += w2c_j1;
@@ -41695,22 +42457,22 @@ static u32 w2c_rattle__export_tcp_c_connection_abort(Machine * instance, u64 w2c
   w2c_i0 = (u32)(w2c_j0);
   w2c_i0 = i32_load8_u(&instance->w2c_memory, (u64)(w2c_i0));
   w2c_i0 = !(w2c_i0);
-  if (w2c_i0) {goto w2c_B3;}
+  if (w2c_i0) {goto w2c_B5;}
   w2c_i0 = 14u;
   w2c_l7 = w2c_i0;
-  goto w2c_B2;
-  w2c_B3:;
+  goto w2c_B4;
+  w2c_B5:;
   w2c_j0 = w2c_l2;
   w2c_j1 = 48ull;
   w2c_j0 += w2c_j1;
   w2c_i0 = (u32)(w2c_j0);
   w2c_i0 = i32_load8_u(&instance->w2c_memory, (u64)(w2c_i0));
   w2c_l7 = w2c_i0;
-  if (w2c_i0) {goto w2c_B4;}
+  if (w2c_i0) {goto w2c_B6;}
   w2c_i0 = 11u;
   w2c_l7 = w2c_i0;
-  goto w2c_B2;
-  w2c_B4:;
+  goto w2c_B4;
+  w2c_B6:;
   w2c_i0 = w2c_l7;
   w2c_i1 = 4294967293u;
   w2c_i0 += w2c_i1;
@@ -41718,7 +42480,7 @@ static u32 w2c_rattle__export_tcp_c_connection_abort(Machine * instance, u64 w2c
   w2c_i0 &= w2c_i1;
   w2c_i1 = 4u;
   w2c_i0 = w2c_i0 > w2c_i1;
-  if (w2c_i0) {goto w2c_B5;}
+  if (w2c_i0) {goto w2c_B7;}
   w2c_j0 = w2c_l2;
   w2c_j1 = 404ull;
   w2c_j0 += w2c_j1;
@@ -41767,7 +42529,7 @@ static u32 w2c_rattle__export_tcp_c_connection_abort(Machine * instance, u64 w2c
   w2c_i2 = i32_load(&instance->w2c_memory, (u64)(w2c_i2));
   w2c_i1 += w2c_i2;
   i32_store(&instance->w2c_memory, (u64)(w2c_i0), w2c_i1);
-  w2c_B5:;
+  w2c_B7:;
   w2c_j0 = w2c_l2;
   w2c_j1 = 200ull;
   w2c_j0 += w2c_j1;
@@ -41814,12 +42576,12 @@ static u32 w2c_rattle__export_tcp_c_connection_abort(Machine * instance, u64 w2c
   w2c_i0 = (u32)(w2c_j0);
   w2c_j0 = i64_load(&instance->w2c_memory, (u64)(w2c_i0));
   w2c_i0 = !(w2c_j0);
-  if (w2c_i0) {goto w2c_B6;}
+  if (w2c_i0) {goto w2c_B8;}
   w2c_j0 = w2c_l5;
   w2c_i0 = (u32)(w2c_j0);
   w2c_j1 = 0ull;
   i64_store(&instance->w2c_memory, (u64)(w2c_i0), w2c_j1);
-  w2c_B6:;
+  w2c_B8:;
   w2c_i0 = 0u;
   w2c_l7 = w2c_i0;
   w2c_j0 = w2c_l2;
@@ -41834,32 +42596,36 @@ static u32 w2c_rattle__export_tcp_c_connection_abort(Machine * instance, u64 w2c
   w2c_i0 = (u32)(w2c_j0);
   w2c_i1 = 0u;
   i32_store16(&instance->w2c_memory, (u64)(w2c_i0), w2c_i1);
-  w2c_B2:;
-  w2c_i0 = 1u;
+  w2c_B4:;
+  w2c_j0 = w2c_p1;
+  w2c_j1 = w2c_l4;
+  w2c_i0 = w2c_j0 > w2c_j1;
   w2c_l8 = w2c_i0;
+  w2c_i0 = 1u;
+  w2c_l9 = w2c_i0;
   w2c_j0 = w2c_l2;
   w2c_j1 = 48ull;
   w2c_j0 += w2c_j1;
   w2c_i0 = (u32)(w2c_j0);
   w2c_i0 = i32_load8_u(&instance->w2c_memory, (u64)(w2c_i0));
-  w2c_l9 = w2c_i0;
+  w2c_l10 = w2c_i0;
   w2c_i1 = 254u;
   w2c_i0 &= w2c_i1;
   w2c_i1 = 2u;
   w2c_i0 = w2c_i0 == w2c_i1;
-  if (w2c_i0) {goto w2c_B7;}
+  if (w2c_i0) {goto w2c_B9;}
   w2c_i0 = 1u;
-  w2c_l8 = w2c_i0;
+  w2c_l9 = w2c_i0;
   w2c_i0 = 1u;
-  w2c_i1 = w2c_l9;
+  w2c_i1 = w2c_l10;
   w2c_i0 <<= (w2c_i1 & 31);
   w2c_i1 = 944u;
   w2c_i0 &= w2c_i1;
-  if (w2c_i0) {goto w2c_B8;}
+  if (w2c_i0) {goto w2c_B10;}
   w2c_i0 = 0u;
-  w2c_l8 = w2c_i0;
-  goto w2c_B7;
-  w2c_B8:;
+  w2c_l9 = w2c_i0;
+  goto w2c_B9;
+  w2c_B10:;
   w2c_j0 = w2c_l2;
   w2c_j1 = 64ull;
   w2c_j0 += w2c_j1;
@@ -41873,25 +42639,25 @@ static u32 w2c_rattle__export_tcp_c_connection_abort(Machine * instance, u64 w2c
   w2c_j1 = i64_load(&instance->w2c_memory, (u64)(w2c_i1));
   w2c_l6 = w2c_j1;
   w2c_i0 = w2c_j0 < w2c_j1;
-  if (w2c_i0) {goto w2c_B7;}
-  w2c_i0 = w2c_l9;
+  if (w2c_i0) {goto w2c_B9;}
+  w2c_i0 = w2c_l10;
   w2c_i1 = 6u;
   w2c_i0 = w2c_i0 != w2c_i1;
-  if (w2c_i0) {goto w2c_B9;}
+  if (w2c_i0) {goto w2c_B11;}
   w2c_i0 = 0u;
-  w2c_l8 = w2c_i0;
-  goto w2c_B7;
-  w2c_B9:;
+  w2c_l9 = w2c_i0;
+  goto w2c_B9;
+  w2c_B11:;
   w2c_j0 = w2c_l5;
   w2c_j1 = w2c_l6;
   w2c_i0 = w2c_j0 == w2c_j1;
-  if (w2c_i0) {goto w2c_B10;}
+  if (w2c_i0) {goto w2c_B12;}
   w2c_i0 = 0u;
-  w2c_l8 = w2c_i0;
-  goto w2c_B7;
-  w2c_B10:;
+  w2c_l9 = w2c_i0;
+  goto w2c_B9;
+  w2c_B12:;
   w2c_i0 = 0u;
-  w2c_l8 = w2c_i0;
+  w2c_l9 = w2c_i0;
   w2c_j0 = w2c_l2;
   w2c_j1 = 104ull;
   w2c_j0 += w2c_j1;
@@ -41913,88 +42679,187 @@ static u32 w2c_rattle__export_tcp_c_connection_abort(Machine * instance, u64 w2c
   w2c_i3 = w2c_j3 > w2c_j4;
   w2c_j1 = w2c_i3 ? w2c_j1 : w2c_j2;
   w2c_i0 = w2c_j0 <= w2c_j1;
-  if (w2c_i0) {goto w2c_B7;}
+  if (w2c_i0) {goto w2c_B9;}
   w2c_j0 = w2c_l2;
   w2c_j1 = 224ull;
   w2c_j0 += w2c_j1;
   w2c_i0 = (u32)(w2c_j0);
   w2c_i0 = i32_load(&instance->w2c_memory, (u64)(w2c_i0));
   w2c_i0 = !(w2c_i0);
-  w2c_l8 = w2c_i0;
-  w2c_B7:;
-  w2c_i0 = 0u;
-  w2c_l10 = w2c_i0;
-  w2c_i0 = 1u;
-  w2c_i1 = w2c_l9;
-  w2c_i0 <<= (w2c_i1 & 31);
-  w2c_i1 = 1103u;
-  w2c_i0 &= w2c_i1;
-  if (w2c_i0) {goto w2c_B11;}
-  w2c_j0 = w2c_l2;
-  w2c_j1 = 160ull;
-  w2c_j0 += w2c_j1;
-  w2c_i0 = (u32)(w2c_j0);
-  w2c_j0 = i64_load(&instance->w2c_memory, (u64)(w2c_i0));
-  w2c_j1 = 0ull;
-  w2c_i0 = w2c_j0 != w2c_j1;
-  w2c_l10 = w2c_i0;
-  w2c_B11:;
-  w2c_i0 = 0u;
-  w2c_l11 = w2c_i0;
-  w2c_i0 = w2c_l9;
-  w2c_i1 = 6u;
-  w2c_i0 = w2c_i0 != w2c_i1;
-  if (w2c_i0) {goto w2c_B12;}
-  w2c_j0 = w2c_l2;
-  w2c_j1 = 320ull;
-  w2c_j0 += w2c_j1;
-  w2c_i0 = (u32)(w2c_j0);
-  w2c_j0 = i64_load(&instance->w2c_memory, (u64)(w2c_i0));
-  w2c_i0 = !(w2c_j0);
-  w2c_l11 = w2c_i0;
-  w2c_B12:;
-  w2c_j0 = w2c_l3;
-  w2c_i0 = (u32)(w2c_j0);
-  w2c_i1 = w2c_l11;
-  i32_store8(&instance->w2c_memory, (u64)(w2c_i0) + 15, w2c_i1);
-  w2c_j0 = w2c_l3;
-  w2c_i0 = (u32)(w2c_j0);
-  w2c_i1 = w2c_l10;
-  i32_store8(&instance->w2c_memory, (u64)(w2c_i0) + 13, w2c_i1);
-  w2c_j0 = w2c_l3;
-  w2c_i0 = (u32)(w2c_j0);
-  w2c_i1 = w2c_l8;
-  i32_store8(&instance->w2c_memory, (u64)(w2c_i0) + 12, w2c_i1);
-  w2c_j0 = w2c_l3;
-  w2c_i0 = (u32)(w2c_j0);
-  w2c_i1 = w2c_l9;
-  w2c_i2 = 10u;
-  w2c_i1 = w2c_i1 == w2c_i2;
-  i32_store8(&instance->w2c_memory, (u64)(w2c_i0) + 14, w2c_i1);
+  w2c_l9 = w2c_i0;
+  w2c_B9:;
+  w2c_j0 = w2c_p1;
+  w2c_j1 = w2c_l4;
+  w2c_i2 = w2c_l8;
+  w2c_j0 = w2c_i2 ? w2c_j0 : w2c_j1;
+  w2c_l4 = w2c_j0;
   w2c_j0 = w2c_l2;
   w2c_j1 = 416ull;
   w2c_j0 += w2c_j1;
-  w2c_j1 = w2c_l3;
-  w2c_j2 = 12ull;
-  w2c_j1 += w2c_j2;
+  w2c_l5 = w2c_j0;
+  w2c_i0 = 0u;
+  w2c_l8 = w2c_i0;
+  w2c_i0 = 1u;
+  w2c_i1 = w2c_l10;
+  w2c_i0 <<= (w2c_i1 & 31);
+  w2c_i1 = 1103u;
+  w2c_i0 &= w2c_i1;
+  if (w2c_i0) {goto w2c_B13;}
+  w2c_i0 = 0u;
+  w2c_i1 = 256u;
   w2c_j2 = w2c_l2;
-  w2c_j3 = 64ull;
+  w2c_j3 = 160ull;
   w2c_j2 += w2c_j3;
   w2c_i2 = (u32)(w2c_j2);
   w2c_j2 = i64_load(&instance->w2c_memory, (u64)(w2c_i2));
-  w2c_j3 = w2c_p1;
-  w2c_j4 = 4611686018427387904ull;
-  w2c_j5 = w2c_p1;
-  w2c_j6 = 4611686018427387904ull;
-  w2c_i5 = w2c_j5 < w2c_j6;
-  w2c_j3 = w2c_i5 ? w2c_j3 : w2c_j4;
-  w2c_p1 = w2c_j3;
-  w2c_j4 = w2c_l4;
-  w2c_j5 = w2c_p1;
-  w2c_j6 = w2c_l4;
-  w2c_i5 = w2c_j5 > w2c_j6;
-  w2c_j3 = w2c_i5 ? w2c_j3 : w2c_j4;
-  w2c_tcp_driver__timers__Timers__follow(instance, w2c_j0, w2c_j1, w2c_j2, w2c_j3);
+  w2c_i2 = !(w2c_j2);
+  w2c_i0 = w2c_i2 ? w2c_i0 : w2c_i1;
+  w2c_l8 = w2c_i0;
+  w2c_B13:;
+  w2c_i0 = 0u;
+  w2c_l11 = w2c_i0;
+  w2c_i0 = w2c_l10;
+  w2c_i1 = 6u;
+  w2c_i0 = w2c_i0 != w2c_i1;
+  if (w2c_i0) {goto w2c_B14;}
+  w2c_i0 = 16777216u;
+  w2c_i1 = 0u;
+  w2c_j2 = w2c_l2;
+  w2c_j3 = 320ull;
+  w2c_j2 += w2c_j3;
+  w2c_i2 = (u32)(w2c_j2);
+  w2c_j2 = i64_load(&instance->w2c_memory, (u64)(w2c_i2));
+  w2c_i2 = !(w2c_j2);
+  w2c_i0 = w2c_i2 ? w2c_i0 : w2c_i1;
+  w2c_l11 = w2c_i0;
+  w2c_B14:;
+  w2c_j0 = w2c_l2;
+  w2c_j1 = 64ull;
+  w2c_j0 += w2c_j1;
+  w2c_i0 = (u32)(w2c_j0);
+  w2c_j0 = i64_load(&instance->w2c_memory, (u64)(w2c_i0));
+  w2c_p1 = w2c_j0;
+  w2c_j0 = w2c_l3;
+  w2c_i0 = (u32)(w2c_j0);
+  w2c_i1 = w2c_l9;
+  w2c_i2 = 65536u;
+  w2c_i3 = 0u;
+  w2c_i4 = w2c_l10;
+  w2c_i5 = 10u;
+  w2c_i4 = w2c_i4 == w2c_i5;
+  w2c_i2 = w2c_i4 ? w2c_i2 : w2c_i3;
+  w2c_i1 |= w2c_i2;
+  w2c_i2 = w2c_l8;
+  w2c_i1 |= w2c_i2;
+  w2c_i2 = w2c_l11;
+  w2c_i1 |= w2c_i2;
+  i32_store(&instance->w2c_memory, (u64)(w2c_i0) + 12, w2c_i1);
+  w2c_j0 = w2c_p1;
+  w2c_j1 = w2c_l2;
+  w2c_j2 = 632ull;
+  w2c_j1 += w2c_j2;
+  w2c_i1 = (u32)(w2c_j1);
+  w2c_j1 = i64_load(&instance->w2c_memory, (u64)(w2c_i1));
+  w2c_i0 = w2c_j0 != w2c_j1;
+  if (w2c_i0) {goto w2c_B2;}
+  w2c_j0 = w2c_l2;
+  w2c_j1 = 584ull;
+  w2c_j0 += w2c_j1;
+  w2c_i0 = (u32)(w2c_j0);
+  w2c_i0 = i32_load8_u(&instance->w2c_memory, (u64)(w2c_i0));
+  w2c_i1 = 1u;
+  w2c_i0 = w2c_i0 != w2c_i1;
+  w2c_i1 = w2c_l9;
+  w2c_i0 = w2c_i0 == w2c_i1;
+  if (w2c_i0) {goto w2c_B2;}
+  w2c_j0 = w2c_l2;
+  w2c_j1 = 640ull;
+  w2c_j0 += w2c_j1;
+  w2c_i0 = (u32)(w2c_j0);
+  w2c_i0 = i32_load8_u(&instance->w2c_memory, (u64)(w2c_i0));
+  w2c_l12 = w2c_i0;
+  w2c_i1 = 1u;
+  w2c_i0 = w2c_i0 == w2c_i1;
+  if (w2c_i0) {goto w2c_B16;}
+  w2c_i0 = w2c_l9;
+  if (w2c_i0) {goto w2c_B16;}
+  w2c_j0 = w2c_l2;
+  w2c_j1 = 656ull;
+  w2c_j0 += w2c_j1;
+  w2c_i0 = (u32)(w2c_j0);
+  w2c_i0 = i32_load(&instance->w2c_memory, (u64)(w2c_i0));
+  if (w2c_i0) {goto w2c_B2;}
+  w2c_j0 = w2c_l2;
+  w2c_j1 = 660ull;
+  w2c_j0 += w2c_j1;
+  w2c_i0 = (u32)(w2c_j0);
+  w2c_i0 = i32_load8_u(&instance->w2c_memory, (u64)(w2c_i0));
+  w2c_i0 = !(w2c_i0);
+  if (w2c_i0) {goto w2c_B15;}
+  goto w2c_B2;
+  w2c_B16:;
+  w2c_i0 = w2c_l12;
+  w2c_i1 = 1u;
+  w2c_i0 = w2c_i0 != w2c_i1;
+  if (w2c_i0) {goto w2c_B2;}
+  w2c_i0 = w2c_l9;
+  w2c_i0 = !(w2c_i0);
+  if (w2c_i0) {goto w2c_B2;}
+  w2c_B15:;
+  w2c_i0 = w2c_l8;
+  w2c_i1 = 0u;
+  w2c_i0 = w2c_i0 != w2c_i1;
+  w2c_j1 = w2c_l2;
+  w2c_j2 = 600ull;
+  w2c_j1 += w2c_j2;
+  w2c_i1 = (u32)(w2c_j1);
+  w2c_i1 = i32_load8_u(&instance->w2c_memory, (u64)(w2c_i1));
+  w2c_i2 = 1u;
+  w2c_i1 = w2c_i1 != w2c_i2;
+  w2c_i0 = w2c_i0 == w2c_i1;
+  if (w2c_i0) {goto w2c_B2;}
+  w2c_i0 = w2c_l10;
+  w2c_i1 = 10u;
+  w2c_i0 = w2c_i0 == w2c_i1;
+  w2c_j1 = w2c_l2;
+  w2c_j2 = 616ull;
+  w2c_j1 += w2c_j2;
+  w2c_i1 = (u32)(w2c_j1);
+  w2c_i1 = i32_load8_u(&instance->w2c_memory, (u64)(w2c_i1));
+  w2c_i2 = 1u;
+  w2c_i1 = w2c_i1 != w2c_i2;
+  w2c_i0 = w2c_i0 == w2c_i1;
+  if (w2c_i0) {goto w2c_B2;}
+  w2c_i0 = w2c_l11;
+  w2c_i1 = 0u;
+  w2c_i0 = w2c_i0 != w2c_i1;
+  w2c_j1 = w2c_l2;
+  w2c_j2 = 680ull;
+  w2c_j1 += w2c_j2;
+  w2c_i1 = (u32)(w2c_j1);
+  w2c_i1 = i32_load8_u(&instance->w2c_memory, (u64)(w2c_i1));
+  w2c_i2 = 1u;
+  w2c_i1 = w2c_i1 != w2c_i2;
+  w2c_i0 = w2c_i0 == w2c_i1;
+  if (w2c_i0) {goto w2c_B2;}
+  w2c_j0 = w2c_l2;
+  w2c_j1 = 704ull;
+  w2c_j0 += w2c_j1;
+  w2c_i0 = (u32)(w2c_j0);
+  w2c_j1 = w2c_l4;
+  i64_store(&instance->w2c_memory, (u64)(w2c_i0), w2c_j1);
+  goto w2c_B1;
+  w2c_B3:;
+  UNREACHABLE;
+  w2c_B2:;
+  w2c_j0 = w2c_l5;
+  w2c_j1 = w2c_l3;
+  w2c_j2 = 12ull;
+  w2c_j1 += w2c_j2;
+  w2c_j2 = w2c_p1;
+  w2c_j3 = w2c_l4;
+  w2c_tcp_driver__timers__Timers__start(instance, w2c_j0, w2c_j1, w2c_j2, w2c_j3);
+  w2c_B1:;
   w2c_j0 = w2c_p0;
   w2c_i0 = (u32)(w2c_j0);
   w2c_j1 = w2c_l2;
@@ -42003,16 +42868,12 @@ static u32 w2c_rattle__export_tcp_c_connection_abort(Machine * instance, u64 w2c
   w2c_i0 = (u32)(w2c_j0);
   w2c_j1 = 8521743234667672684ull;
   i64_store(&instance->w2c_memory, (u64)(w2c_i0), w2c_j1);
-  w2c_B1:;
+  w2c_B0:;
   w2c_j0 = w2c_l3;
   w2c_j1 = 16ull;
   w2c_j0 += w2c_j1;
   instance->w2c___stack_pointer = w2c_j0;
   w2c_i0 = w2c_l7;
-  goto w2c_Bfunc;
-  w2c_B0:;
-  UNREACHABLE;
-  w2c_Bfunc:;
   return w2c_i0;
 }
 
@@ -42038,8 +42899,8 @@ static u32 w2c_tcp_c_connection_acknowledge(Machine * instance, u64 w2c_p0, u64 
 static u32 w2c_rattle__export_tcp_c_connection_acknowledge(Machine * instance, u64 w2c_p0, u64 w2c_p1) {
   u32 w2c_l7 = 0, w2c_l8 = 0, w2c_l9 = 0, w2c_l10 = 0, w2c_l11 = 0;
   u64 w2c_l2 = 0, w2c_l3 = 0, w2c_l4 = 0, w2c_l5 = 0, w2c_l6 = 0;
-  u32 w2c_i0, w2c_i1, w2c_i2, w2c_i3, w2c_i5;
-  u64 w2c_j0, w2c_j1, w2c_j2, w2c_j3, w2c_j4, w2c_j5, w2c_j6;
+  u32 w2c_i0, w2c_i1, w2c_i2, w2c_i3, w2c_i4, w2c_i5;
+  u64 w2c_j0, w2c_j1, w2c_j2, w2c_j3, w2c_j4;
   w2c_j0 = instance->w2c___stack_pointer;
   w2c_j1 = 16ull;
   w2c_j0 -= w2c_j1;
@@ -42049,7 +42910,7 @@ static u32 w2c_rattle__export_tcp_c_connection_acknowledge(Machine * instance, u
   w2c_l3 = w2c_j0;
   w2c_j1 = 16ull;
   w2c_i0 = (u64)((s64)w2c_j0 < (s64)w2c_j1);
-  if (w2c_i0) {goto w2c_B0;}
+  if (w2c_i0) {goto w2c_B3;}
   w2c_j0 = w2c_p0;
   w2c_i0 = (u32)(w2c_j0);
   w2c_j0 = i64_load(&instance->w2c_memory, (u64)(w2c_i0));
@@ -42071,7 +42932,7 @@ static u32 w2c_rattle__export_tcp_c_connection_acknowledge(Machine * instance, u
   w2c_j0 = w2c_l4;
   w2c_j1 = 8521743234667672684ull;
   w2c_i0 = w2c_j0 != w2c_j1;
-  if (w2c_i0) {goto w2c_B1;}
+  if (w2c_i0) {goto w2c_B0;}
   w2c_j0 = w2c_l2;
   w2c_j1 = 385ull;
   w2c_j0 += w2c_j1;
@@ -42082,7 +42943,7 @@ static u32 w2c_rattle__export_tcp_c_connection_acknowledge(Machine * instance, u
   w2c_j1 += w2c_j2;
   w2c_i1 = (u32)(w2c_j1);
   w2c_i1 = i32_load8_u(&instance->w2c_memory, (u64)(w2c_i1));
-  w2c_l8 = w2c_i1;
+  w2c_l7 = w2c_i1;
   w2c_i2 = 4294967292u;
   w2c_i1 += w2c_i2;
   w2c_i2 = 255u;
@@ -42094,30 +42955,41 @@ static u32 w2c_rattle__export_tcp_c_connection_acknowledge(Machine * instance, u
   w2c_i2 = i32_load8_u(&instance->w2c_memory, (u64)(w2c_i2));
   w2c_i1 |= w2c_i2;
   i32_store8(&instance->w2c_memory, (u64)(w2c_i0), w2c_i1);
-  w2c_j0 = w2c_l2;
-  w2c_j1 = 704ull;
-  w2c_j0 += w2c_j1;
-  w2c_l4 = w2c_j0;
+  w2c_j0 = w2c_p1;
+  w2c_j1 = 4611686018427387904ull;
+  w2c_j2 = w2c_p1;
+  w2c_j3 = 4611686018427387904ull;
+  w2c_i2 = w2c_j2 < w2c_j3;
+  w2c_j0 = w2c_i2 ? w2c_j0 : w2c_j1;
+  w2c_p1 = w2c_j0;
+  w2c_j1 = w2c_l2;
+  w2c_j2 = 704ull;
+  w2c_j1 += w2c_j2;
+  w2c_i1 = (u32)(w2c_j1);
+  w2c_j1 = i64_load(&instance->w2c_memory, (u64)(w2c_i1));
+  w2c_l4 = w2c_j1;
+  w2c_i0 = w2c_j0 > w2c_j1;
+  w2c_l8 = w2c_i0;
   w2c_i0 = 1u;
   w2c_l9 = w2c_i0;
-  w2c_i0 = w2c_l8;
+  w2c_i0 = w2c_l7;
   w2c_i1 = 254u;
   w2c_i0 &= w2c_i1;
   w2c_i1 = 2u;
   w2c_i0 = w2c_i0 == w2c_i1;
-  if (w2c_i0) {goto w2c_B2;}
+  if (w2c_i0) {goto w2c_B4;}
   w2c_i0 = 1u;
   w2c_l9 = w2c_i0;
   w2c_i0 = 1u;
-  w2c_i1 = w2c_l8;
+  w2c_i1 = w2c_l7;
   w2c_i0 <<= (w2c_i1 & 31);
   w2c_i1 = 944u;
   w2c_i0 &= w2c_i1;
-  if (w2c_i0) {goto w2c_B3;}
+  if (w2c_i0) {goto w2c_B5;}
   w2c_i0 = 0u;
   w2c_l9 = w2c_i0;
-  goto w2c_B2;
-  w2c_B3:;
+  goto w2c_B4;
+  w2c_B5:;
   w2c_j0 = w2c_l2;
   w2c_j1 = 64ull;
   w2c_j0 += w2c_j1;
@@ -42131,23 +43003,23 @@ static u32 w2c_rattle__export_tcp_c_connection_acknowledge(Machine * instance, u
   w2c_j1 = i64_load(&instance->w2c_memory, (u64)(w2c_i1));
   w2c_l6 = w2c_j1;
   w2c_i0 = w2c_j0 < w2c_j1;
-  if (w2c_i0) {goto w2c_B2;}
-  w2c_i0 = w2c_l8;
+  if (w2c_i0) {goto w2c_B4;}
+  w2c_i0 = w2c_l7;
   w2c_i1 = 6u;
   w2c_i0 = w2c_i0 != w2c_i1;
-  if (w2c_i0) {goto w2c_B4;}
+  if (w2c_i0) {goto w2c_B6;}
   w2c_i0 = 0u;
   w2c_l9 = w2c_i0;
-  goto w2c_B2;
-  w2c_B4:;
+  goto w2c_B4;
+  w2c_B6:;
   w2c_j0 = w2c_l5;
   w2c_j1 = w2c_l6;
   w2c_i0 = w2c_j0 == w2c_j1;
-  if (w2c_i0) {goto w2c_B5;}
+  if (w2c_i0) {goto w2c_B7;}
   w2c_i0 = 0u;
   w2c_l9 = w2c_i0;
-  goto w2c_B2;
-  w2c_B5:;
+  goto w2c_B4;
+  w2c_B7:;
   w2c_i0 = 0u;
   w2c_l9 = w2c_i0;
   w2c_j0 = w2c_l2;
@@ -42171,7 +43043,7 @@ static u32 w2c_rattle__export_tcp_c_connection_acknowledge(Machine * instance, u
   w2c_i3 = w2c_j3 > w2c_j4;
   w2c_j1 = w2c_i3 ? w2c_j1 : w2c_j2;
   w2c_i0 = w2c_j0 <= w2c_j1;
-  if (w2c_i0) {goto w2c_B2;}
+  if (w2c_i0) {goto w2c_B4;}
   w2c_j0 = w2c_l2;
   w2c_j1 = 224ull;
   w2c_j0 += w2c_j1;
@@ -42179,86 +43051,179 @@ static u32 w2c_rattle__export_tcp_c_connection_acknowledge(Machine * instance, u
   w2c_i0 = i32_load(&instance->w2c_memory, (u64)(w2c_i0));
   w2c_i0 = !(w2c_i0);
   w2c_l9 = w2c_i0;
-  w2c_B2:;
-  w2c_j0 = w2c_l4;
-  w2c_i0 = (u32)(w2c_j0);
-  w2c_j0 = i64_load(&instance->w2c_memory, (u64)(w2c_i0));
+  w2c_B4:;
+  w2c_j0 = w2c_p1;
+  w2c_j1 = w2c_l4;
+  w2c_i2 = w2c_l8;
+  w2c_j0 = w2c_i2 ? w2c_j0 : w2c_j1;
   w2c_l4 = w2c_j0;
-  w2c_i0 = 0u;
-  w2c_l10 = w2c_i0;
-  w2c_i0 = 1u;
-  w2c_i1 = w2c_l8;
-  w2c_i0 <<= (w2c_i1 & 31);
-  w2c_i1 = 1103u;
-  w2c_i0 &= w2c_i1;
-  if (w2c_i0) {goto w2c_B6;}
-  w2c_j0 = w2c_l2;
-  w2c_j1 = 160ull;
-  w2c_j0 += w2c_j1;
-  w2c_i0 = (u32)(w2c_j0);
-  w2c_j0 = i64_load(&instance->w2c_memory, (u64)(w2c_i0));
-  w2c_j1 = 0ull;
-  w2c_i0 = w2c_j0 != w2c_j1;
-  w2c_l10 = w2c_i0;
-  w2c_B6:;
-  w2c_i0 = 0u;
-  w2c_l7 = w2c_i0;
-  w2c_i0 = 0u;
-  w2c_l11 = w2c_i0;
-  w2c_i0 = w2c_l8;
-  w2c_i1 = 6u;
-  w2c_i0 = w2c_i0 != w2c_i1;
-  if (w2c_i0) {goto w2c_B7;}
-  w2c_j0 = w2c_l2;
-  w2c_j1 = 320ull;
-  w2c_j0 += w2c_j1;
-  w2c_i0 = (u32)(w2c_j0);
-  w2c_j0 = i64_load(&instance->w2c_memory, (u64)(w2c_i0));
-  w2c_i0 = !(w2c_j0);
-  w2c_l11 = w2c_i0;
-  w2c_B7:;
-  w2c_j0 = w2c_l3;
-  w2c_i0 = (u32)(w2c_j0);
-  w2c_i1 = w2c_l11;
-  i32_store8(&instance->w2c_memory, (u64)(w2c_i0) + 15, w2c_i1);
-  w2c_j0 = w2c_l3;
-  w2c_i0 = (u32)(w2c_j0);
-  w2c_i1 = w2c_l10;
-  i32_store8(&instance->w2c_memory, (u64)(w2c_i0) + 13, w2c_i1);
-  w2c_j0 = w2c_l3;
-  w2c_i0 = (u32)(w2c_j0);
-  w2c_i1 = w2c_l9;
-  i32_store8(&instance->w2c_memory, (u64)(w2c_i0) + 12, w2c_i1);
-  w2c_j0 = w2c_l3;
-  w2c_i0 = (u32)(w2c_j0);
-  w2c_i1 = w2c_l8;
-  w2c_i2 = 10u;
-  w2c_i1 = w2c_i1 == w2c_i2;
-  i32_store8(&instance->w2c_memory, (u64)(w2c_i0) + 14, w2c_i1);
   w2c_j0 = w2c_l2;
   w2c_j1 = 416ull;
   w2c_j0 += w2c_j1;
-  w2c_j1 = w2c_l3;
-  w2c_j2 = 12ull;
-  w2c_j1 += w2c_j2;
+  w2c_l5 = w2c_j0;
+  w2c_i0 = 0u;
+  w2c_l8 = w2c_i0;
+  w2c_i0 = 1u;
+  w2c_i1 = w2c_l7;
+  w2c_i0 <<= (w2c_i1 & 31);
+  w2c_i1 = 1103u;
+  w2c_i0 &= w2c_i1;
+  if (w2c_i0) {goto w2c_B8;}
+  w2c_i0 = 0u;
+  w2c_i1 = 256u;
   w2c_j2 = w2c_l2;
-  w2c_j3 = 64ull;
+  w2c_j3 = 160ull;
   w2c_j2 += w2c_j3;
   w2c_i2 = (u32)(w2c_j2);
   w2c_j2 = i64_load(&instance->w2c_memory, (u64)(w2c_i2));
-  w2c_j3 = w2c_p1;
-  w2c_j4 = 4611686018427387904ull;
-  w2c_j5 = w2c_p1;
-  w2c_j6 = 4611686018427387904ull;
-  w2c_i5 = w2c_j5 < w2c_j6;
-  w2c_j3 = w2c_i5 ? w2c_j3 : w2c_j4;
-  w2c_p1 = w2c_j3;
-  w2c_j4 = w2c_l4;
-  w2c_j5 = w2c_p1;
-  w2c_j6 = w2c_l4;
-  w2c_i5 = w2c_j5 > w2c_j6;
-  w2c_j3 = w2c_i5 ? w2c_j3 : w2c_j4;
-  w2c_tcp_driver__timers__Timers__follow(instance, w2c_j0, w2c_j1, w2c_j2, w2c_j3);
+  w2c_i2 = !(w2c_j2);
+  w2c_i0 = w2c_i2 ? w2c_i0 : w2c_i1;
+  w2c_l8 = w2c_i0;
+  w2c_B8:;
+  w2c_i0 = 0u;
+  w2c_l10 = w2c_i0;
+  w2c_i0 = w2c_l7;
+  w2c_i1 = 6u;
+  w2c_i0 = w2c_i0 != w2c_i1;
+  if (w2c_i0) {goto w2c_B9;}
+  w2c_i0 = 16777216u;
+  w2c_i1 = 0u;
+  w2c_j2 = w2c_l2;
+  w2c_j3 = 320ull;
+  w2c_j2 += w2c_j3;
+  w2c_i2 = (u32)(w2c_j2);
+  w2c_j2 = i64_load(&instance->w2c_memory, (u64)(w2c_i2));
+  w2c_i2 = !(w2c_j2);
+  w2c_i0 = w2c_i2 ? w2c_i0 : w2c_i1;
+  w2c_l10 = w2c_i0;
+  w2c_B9:;
+  w2c_j0 = w2c_l2;
+  w2c_j1 = 64ull;
+  w2c_j0 += w2c_j1;
+  w2c_i0 = (u32)(w2c_j0);
+  w2c_j0 = i64_load(&instance->w2c_memory, (u64)(w2c_i0));
+  w2c_p1 = w2c_j0;
+  w2c_j0 = w2c_l3;
+  w2c_i0 = (u32)(w2c_j0);
+  w2c_i1 = w2c_l9;
+  w2c_i2 = 65536u;
+  w2c_i3 = 0u;
+  w2c_i4 = w2c_l7;
+  w2c_i5 = 10u;
+  w2c_i4 = w2c_i4 == w2c_i5;
+  w2c_i2 = w2c_i4 ? w2c_i2 : w2c_i3;
+  w2c_i1 |= w2c_i2;
+  w2c_i2 = w2c_l8;
+  w2c_i1 |= w2c_i2;
+  w2c_i2 = w2c_l10;
+  w2c_i1 |= w2c_i2;
+  i32_store(&instance->w2c_memory, (u64)(w2c_i0) + 12, w2c_i1);
+  w2c_j0 = w2c_p1;
+  w2c_j1 = w2c_l2;
+  w2c_j2 = 632ull;
+  w2c_j1 += w2c_j2;
+  w2c_i1 = (u32)(w2c_j1);
+  w2c_j1 = i64_load(&instance->w2c_memory, (u64)(w2c_i1));
+  w2c_i0 = w2c_j0 != w2c_j1;
+  if (w2c_i0) {goto w2c_B2;}
+  w2c_j0 = w2c_l2;
+  w2c_j1 = 584ull;
+  w2c_j0 += w2c_j1;
+  w2c_i0 = (u32)(w2c_j0);
+  w2c_i0 = i32_load8_u(&instance->w2c_memory, (u64)(w2c_i0));
+  w2c_i1 = 1u;
+  w2c_i0 = w2c_i0 != w2c_i1;
+  w2c_i1 = w2c_l9;
+  w2c_i0 = w2c_i0 == w2c_i1;
+  if (w2c_i0) {goto w2c_B2;}
+  w2c_j0 = w2c_l2;
+  w2c_j1 = 640ull;
+  w2c_j0 += w2c_j1;
+  w2c_i0 = (u32)(w2c_j0);
+  w2c_i0 = i32_load8_u(&instance->w2c_memory, (u64)(w2c_i0));
+  w2c_l11 = w2c_i0;
+  w2c_i1 = 1u;
+  w2c_i0 = w2c_i0 == w2c_i1;
+  if (w2c_i0) {goto w2c_B11;}
+  w2c_i0 = w2c_l9;
+  if (w2c_i0) {goto w2c_B11;}
+  w2c_j0 = w2c_l2;
+  w2c_j1 = 656ull;
+  w2c_j0 += w2c_j1;
+  w2c_i0 = (u32)(w2c_j0);
+  w2c_i0 = i32_load(&instance->w2c_memory, (u64)(w2c_i0));
+  if (w2c_i0) {goto w2c_B2;}
+  w2c_j0 = w2c_l2;
+  w2c_j1 = 660ull;
+  w2c_j0 += w2c_j1;
+  w2c_i0 = (u32)(w2c_j0);
+  w2c_i0 = i32_load8_u(&instance->w2c_memory, (u64)(w2c_i0));
+  w2c_i0 = !(w2c_i0);
+  if (w2c_i0) {goto w2c_B10;}
+  goto w2c_B2;
+  w2c_B11:;
+  w2c_i0 = w2c_l11;
+  w2c_i1 = 1u;
+  w2c_i0 = w2c_i0 != w2c_i1;
+  if (w2c_i0) {goto w2c_B2;}
+  w2c_i0 = w2c_l9;
+  w2c_i0 = !(w2c_i0);
+  if (w2c_i0) {goto w2c_B2;}
+  w2c_B10:;
+  w2c_i0 = w2c_l8;
+  w2c_i1 = 0u;
+  w2c_i0 = w2c_i0 != w2c_i1;
+  w2c_j1 = w2c_l2;
+  w2c_j2 = 600ull;
+  w2c_j1 += w2c_j2;
+  w2c_i1 = (u32)(w2c_j1);
+  w2c_i1 = i32_load8_u(&instance->w2c_memory, (u64)(w2c_i1));
+  w2c_i2 = 1u;
+  w2c_i1 = w2c_i1 != w2c_i2;
+  w2c_i0 = w2c_i0 == w2c_i1;
+  if (w2c_i0) {goto w2c_B2;}
+  w2c_i0 = w2c_l7;
+  w2c_i1 = 10u;
+  w2c_i0 = w2c_i0 == w2c_i1;
+  w2c_j1 = w2c_l2;
+  w2c_j2 = 616ull;
+  w2c_j1 += w2c_j2;
+  w2c_i1 = (u32)(w2c_j1);
+  w2c_i1 = i32_load8_u(&instance->w2c_memory, (u64)(w2c_i1));
+  w2c_i2 = 1u;
+  w2c_i1 = w2c_i1 != w2c_i2;
+  w2c_i0 = w2c_i0 == w2c_i1;
+  if (w2c_i0) {goto w2c_B2;}
+  w2c_i0 = w2c_l10;
+  w2c_i1 = 0u;
+  w2c_i0 = w2c_i0 != w2c_i1;
+  w2c_j1 = w2c_l2;
+  w2c_j2 = 680ull;
+  w2c_j1 += w2c_j2;
+  w2c_i1 = (u32)(w2c_j1);
+  w2c_i1 = i32_load8_u(&instance->w2c_memory, (u64)(w2c_i1));
+  w2c_i2 = 1u;
+  w2c_i1 = w2c_i1 != w2c_i2;
+  w2c_i0 = w2c_i0 == w2c_i1;
+  if (w2c_i0) {goto w2c_B2;}
+  w2c_j0 = w2c_l2;
+  w2c_j1 = 704ull;
+  w2c_j0 += w2c_j1;
+  w2c_i0 = (u32)(w2c_j0);
+  w2c_j1 = w2c_l4;
+  i64_store(&instance->w2c_memory, (u64)(w2c_i0), w2c_j1);
+  goto w2c_B1;
+  w2c_B3:;
+  UNREACHABLE;
+  w2c_B2:;
+  w2c_j0 = w2c_l5;
+  w2c_j1 = w2c_l3;
+  w2c_j2 = 12ull;
+  w2c_j1 += w2c_j2;
+  w2c_j2 = w2c_p1;
+  w2c_j3 = w2c_l4;
+  w2c_tcp_driver__timers__Timers__start(instance, w2c_j0, w2c_j1, w2c_j2, w2c_j3);
+  w2c_B1:;
   w2c_j0 = w2c_p0;
   w2c_i0 = (u32)(w2c_j0);
   w2c_j1 = w2c_l2;
@@ -42267,16 +43232,14 @@ static u32 w2c_rattle__export_tcp_c_connection_acknowledge(Machine * instance, u
   w2c_i0 = (u32)(w2c_j0);
   w2c_j1 = 8521743234667672684ull;
   i64_store(&instance->w2c_memory, (u64)(w2c_i0), w2c_j1);
-  w2c_B1:;
+  w2c_i0 = 0u;
+  w2c_l7 = w2c_i0;
+  w2c_B0:;
   w2c_j0 = w2c_l3;
   w2c_j1 = 16ull;
   w2c_j0 += w2c_j1;
   instance->w2c___stack_pointer = w2c_j0;
   w2c_i0 = w2c_l7;
-  goto w2c_Bfunc;
-  w2c_B0:;
-  UNREACHABLE;
-  w2c_Bfunc:;
   return w2c_i0;
 }
 
@@ -42345,20 +43308,6 @@ static u32 w2c_rattle__export_tcp_c_connection_arrive(Machine * instance, u64 w2
   w2c_j1 = 8521743234667672684ull;
   w2c_i0 = w2c_j0 != w2c_j1;
   if (w2c_i0) {goto w2c_B13;}
-  w2c_j0 = w2c_p3;
-  w2c_i0 = (u32)(w2c_j0);
-  w2c_i0 = i32_load(&instance->w2c_memory, (u64)(w2c_i0));
-  w2c_l18 = w2c_i0;
-  w2c_j0 = w2c_p2;
-  w2c_i0 = (u32)(w2c_j0);
-  w2c_i0 = i32_load(&instance->w2c_memory, (u64)(w2c_i0));
-  w2c_l19 = w2c_i0;
-  w2c_i0 = 0u;
-  w2c_l20 = w2c_i0;
-  w2c_j0 = w2c_l8;
-  w2c_i0 = (u32)(w2c_j0);
-  w2c_i1 = 0u;
-  i32_store(&instance->w2c_memory, (u64)(w2c_i0) + 4, w2c_i1);
   w2c_j0 = w2c_l9;
   w2c_j1 = 696ull;
   w2c_j0 += w2c_j1;
@@ -42376,9 +43325,7 @@ static u32 w2c_rattle__export_tcp_c_connection_arrive(Machine * instance, u64 w2
   w2c_j1 = 8521743234667672684ull;
   i64_store(&instance->w2c_memory, (u64)(w2c_i0), w2c_j1);
   w2c_i0 = 58u;
-  w2c_l21 = w2c_i0;
-  w2c_j0 = 0ull;
-  w2c_p2 = w2c_j0;
+  w2c_l18 = w2c_i0;
   goto w2c_B2;
   w2c_B15:;
   w2c_j0 = w2c_p4;
@@ -42389,16 +43336,24 @@ static u32 w2c_rattle__export_tcp_c_connection_arrive(Machine * instance, u64 w2
   w2c_j1 = w2c_i3 ? w2c_j1 : w2c_j2;
   w2c_j0 += w2c_j1;
   w2c_l10 = w2c_j0;
+  w2c_j0 = w2c_p3;
+  w2c_i0 = (u32)(w2c_j0);
+  w2c_i0 = i32_load(&instance->w2c_memory, (u64)(w2c_i0));
+  w2c_l19 = w2c_i0;
+  w2c_j0 = w2c_p2;
+  w2c_i0 = (u32)(w2c_j0);
+  w2c_i0 = i32_load(&instance->w2c_memory, (u64)(w2c_i0));
+  w2c_l20 = w2c_i0;
   w2c_j0 = w2c_l9;
   w2c_j1 = 48ull;
   w2c_j0 += w2c_j1;
   w2c_i0 = (u32)(w2c_j0);
   w2c_i0 = i32_load8_u(&instance->w2c_memory, (u64)(w2c_i0));
-  w2c_l22 = w2c_i0;
+  w2c_l21 = w2c_i0;
   w2c_i1 = 10u;
   w2c_i0 = w2c_i0 == w2c_i1;
   if (w2c_i0) {goto w2c_B18;}
-  w2c_i0 = w2c_l22;
+  w2c_i0 = w2c_l21;
   w2c_i1 = 254u;
   w2c_i0 &= w2c_i1;
   w2c_i1 = 8u;
@@ -42444,9 +43399,9 @@ static u32 w2c_rattle__export_tcp_c_connection_arrive(Machine * instance, u64 w2
   w2c_j0 += w2c_j1;
   w2c_i0 = (u32)(w2c_j0);
   w2c_j0 = i64_load(&instance->w2c_memory, (u64)(w2c_i0));
-  w2c_l11 = w2c_j0;
-  w2c_j0 = 0ull;
   w2c_p2 = w2c_j0;
+  w2c_j0 = 0ull;
+  w2c_p3 = w2c_j0;
   w2c_j0 = w2c_l8;
   w2c_i0 = (u32)(w2c_j0);
   w2c_j1 = 0ull;
@@ -42481,13 +43436,13 @@ static u32 w2c_rattle__export_tcp_c_connection_arrive(Machine * instance, u64 w2
   w2c_j3 = 4611686018427387904ull;
   w2c_i2 = w2c_j2 < w2c_j3;
   w2c_j0 = w2c_i2 ? w2c_j0 : w2c_j1;
-  w2c_p1 = w2c_j0;
+  w2c_l11 = w2c_j0;
   w2c_j0 = w2c_p5;
   w2c_j1 = 20ull;
   w2c_i0 = w2c_j0 >= w2c_j1;
   if (w2c_i0) {goto w2c_B20;}
   w2c_i0 = 1u;
-  w2c_l21 = w2c_i0;
+  w2c_l18 = w2c_i0;
   goto w2c_B19;
   w2c_B20:;
   w2c_j0 = w2c_p5;
@@ -42495,7 +43450,7 @@ static u32 w2c_rattle__export_tcp_c_connection_arrive(Machine * instance, u64 w2
   w2c_i0 = w2c_j0 <= w2c_j1;
   if (w2c_i0) {goto w2c_B21;}
   w2c_i0 = 2u;
-  w2c_l21 = w2c_i0;
+  w2c_l18 = w2c_i0;
   goto w2c_B19;
   w2c_B21:;
   w2c_j0 = w2c_p5;
@@ -42505,20 +43460,20 @@ static u32 w2c_rattle__export_tcp_c_connection_arrive(Machine * instance, u64 w2
   w2c_j0 = w2c_p5;
   w2c_j1 = 18446744073709551600ull;
   w2c_j0 += w2c_j1;
-  w2c_p3 = w2c_j0;
+  w2c_p1 = w2c_j0;
   w2c_j1 = 16ull;
   w2c_j0 &= w2c_j1;
   w2c_j1 = 0ull;
   w2c_i0 = w2c_j0 == w2c_j1;
   if (w2c_i0) {goto w2c_B25;}
   w2c_i0 = 0u;
-  w2c_l21 = w2c_i0;
+  w2c_l18 = w2c_i0;
   w2c_j0 = w2c_p5;
   w2c_l12 = w2c_j0;
   w2c_j0 = w2c_l10;
   w2c_l7 = w2c_j0;
   w2c_i0 = 0u;
-  w2c_l20 = w2c_i0;
+  w2c_l22 = w2c_i0;
   w2c_i0 = 0u;
   w2c_l23 = w2c_i0;
   w2c_i0 = 0u;
@@ -42602,23 +43557,23 @@ static u32 w2c_rattle__export_tcp_c_connection_arrive(Machine * instance, u64 w2
   w2c_l30 = w2c_i0;
   w2c_i1 = 8u;
   w2c_i0 >>= (w2c_i1 & 31);
-  w2c_l20 = w2c_i0;
+  w2c_l22 = w2c_i0;
   w2c_j0 = w2c_l10;
   w2c_i0 = (u32)(w2c_j0);
   w2c_i0 = get16(near0 + 0);
   w2c_l29 = w2c_i0;
   w2c_i1 = 8u;
   w2c_i0 >>= (w2c_i1 & 31);
-  w2c_l21 = w2c_i0;
-  w2c_j0 = w2c_p3;
+  w2c_l18 = w2c_i0;
+  w2c_j0 = w2c_p1;
   w2c_l12 = w2c_j0;
   w2c_B24:;
-  w2c_j0 = w2c_p3;
+  w2c_j0 = w2c_p1;
   w2c_j1 = 16ull;
   w2c_i0 = w2c_j0 < w2c_j1;
   if (w2c_i0) {goto w2c_B26;}
   w2c_j0 = w2c_l12;
-  w2c_p3 = w2c_j0;
+  w2c_p1 = w2c_j0;
   w2c_L27: 
     w2c_j0 = w2c_l7;
     w2c_j1 = 18ull;
@@ -42673,20 +43628,20 @@ static u32 w2c_rattle__export_tcp_c_connection_arrive(Machine * instance, u64 w2
     w2c_i1 = w2c_l38;
     w2c_i2 = 8u;
     w2c_i1 >>= (w2c_i2 & 31);
-    w2c_i2 = w2c_l20;
+    w2c_i2 = w2c_l22;
     w2c_i1 += w2c_i2;
     w2c_i0 += w2c_i1;
-    w2c_l20 = w2c_i0;
+    w2c_l22 = w2c_i0;
     w2c_i0 = w2c_l39;
     w2c_i1 = 8u;
     w2c_i0 >>= (w2c_i1 & 31);
     w2c_i1 = w2c_l40;
     w2c_i2 = 8u;
     w2c_i1 >>= (w2c_i2 & 31);
-    w2c_i2 = w2c_l21;
+    w2c_i2 = w2c_l18;
     w2c_i1 += w2c_i2;
     w2c_i0 += w2c_i1;
-    w2c_l21 = w2c_i0;
+    w2c_l18 = w2c_i0;
     w2c_i0 = w2c_l41;
     w2c_i1 = w2c_l42;
     w2c_i2 = w2c_l31;
@@ -42817,16 +43772,16 @@ static u32 w2c_rattle__export_tcp_c_connection_arrive(Machine * instance, u64 w2
     w2c_j1 = 32ull;
     w2c_j0 += w2c_j1;
     w2c_l7 = w2c_j0;
-    w2c_j0 = w2c_p3;
+    w2c_j0 = w2c_p1;
     w2c_j1 = 18446744073709551584ull;
     w2c_j0 += w2c_j1;
-    w2c_p3 = w2c_j0;
+    w2c_p1 = w2c_j0;
     w2c_j1 = 15ull;
     w2c_i0 = w2c_j0 > w2c_j1;
     if (w2c_i0) {goto w2c_L27;}
   w2c_B26:;
   w2c_i0 = w2c_l29;
-  w2c_i1 = w2c_l21;
+  w2c_i1 = w2c_l18;
   w2c_i2 = 8u;
   w2c_i1 <<= (w2c_i2 & 31);
   w2c_i0 -= w2c_i1;
@@ -42834,7 +43789,7 @@ static u32 w2c_rattle__export_tcp_c_connection_arrive(Machine * instance, u64 w2
   w2c_i0 &= w2c_i1;
   w2c_i1 = 8u;
   w2c_i0 <<= (w2c_i1 & 31);
-  w2c_i1 = w2c_l21;
+  w2c_i1 = w2c_l18;
   w2c_i2 = 65535u;
   w2c_i1 &= w2c_i2;
   w2c_i0 += w2c_i1;
@@ -42882,7 +43837,7 @@ static u32 w2c_rattle__export_tcp_c_connection_arrive(Machine * instance, u64 w2
   w2c_i0 += w2c_i1;
   w2c_l23 = w2c_i0;
   w2c_i0 = w2c_l30;
-  w2c_i1 = w2c_l20;
+  w2c_i1 = w2c_l22;
   w2c_i2 = 8u;
   w2c_i1 <<= (w2c_i2 & 31);
   w2c_i0 -= w2c_i1;
@@ -42890,7 +43845,7 @@ static u32 w2c_rattle__export_tcp_c_connection_arrive(Machine * instance, u64 w2
   w2c_i0 &= w2c_i1;
   w2c_i1 = 8u;
   w2c_i0 <<= (w2c_i1 & 31);
-  w2c_i1 = w2c_l20;
+  w2c_i1 = w2c_l22;
   w2c_i2 = 65535u;
   w2c_i1 &= w2c_i2;
   w2c_i0 += w2c_i1;
@@ -42908,7 +43863,7 @@ static u32 w2c_rattle__export_tcp_c_connection_arrive(Machine * instance, u64 w2
   w2c_i2 &= w2c_i3;
   w2c_i1 += w2c_i2;
   w2c_i0 += w2c_i1;
-  w2c_l20 = w2c_i0;
+  w2c_l22 = w2c_i0;
   w2c_i0 = w2c_l32;
   w2c_i1 = w2c_l24;
   w2c_i2 = 8u;
@@ -42938,7 +43893,7 @@ static u32 w2c_rattle__export_tcp_c_connection_arrive(Machine * instance, u64 w2
   w2c_i0 += w2c_i1;
   w2c_l24 = w2c_i0;
   w2c_i0 = 0u;
-  w2c_l21 = w2c_i0;
+  w2c_l18 = w2c_i0;
   w2c_j0 = w2c_p5;
   w2c_j1 = w2c_p5;
   w2c_j2 = 240ull;
@@ -42967,10 +43922,10 @@ static u32 w2c_rattle__export_tcp_c_connection_arrive(Machine * instance, u64 w2
   w2c_j2 = 40ull;
   w2c_j1 <<= (w2c_j2 & 63);
   w2c_j0 |= w2c_j1;
-  w2c_p3 = w2c_j0;
+  w2c_p1 = w2c_j0;
   w2c_j1 = 48ull;
   w2c_j0 >>= (w2c_j1 & 63);
-  w2c_j1 = w2c_p3;
+  w2c_j1 = w2c_p1;
   w2c_j2 = w2c_l7;
   w2c_j3 = 16711680ull;
   w2c_j2 &= w2c_j3;
@@ -43025,7 +43980,7 @@ static u32 w2c_rattle__export_tcp_c_connection_arrive(Machine * instance, u64 w2
   w2c_j0 = w2c_l13;
   w2c_j1 = 18446744073709551592ull;
   w2c_j0 += w2c_j1;
-  w2c_p3 = w2c_j0;
+  w2c_p1 = w2c_j0;
   w2c_j0 = w2c_l10;
   w2c_j1 = w2c_l12;
   w2c_j0 += w2c_j1;
@@ -43037,52 +43992,52 @@ static u32 w2c_rattle__export_tcp_c_connection_arrive(Machine * instance, u64 w2
   w2c_i1 = w2c_l23;
   w2c_i0 += w2c_i1;
   w2c_l23 = w2c_i0;
-  w2c_i0 = w2c_l20;
+  w2c_i0 = w2c_l22;
   w2c_i1 = w2c_l24;
   w2c_i0 += w2c_i1;
-  w2c_l20 = w2c_i0;
-  w2c_j0 = w2c_p3;
+  w2c_l22 = w2c_i0;
+  w2c_j0 = w2c_p1;
   w2c_j1 = 4ull;
   w2c_i0 = w2c_j0 < w2c_j1;
   if (w2c_i0) {goto w2c_B30;}
   w2c_j0 = w2c_l7;
   w2c_i0 = (u32)(w2c_j0);
   w2c_i0 = i32_load(&instance->w2c_memory, (u64)(w2c_i0));
-  w2c_l21 = w2c_i0;
+  w2c_l18 = w2c_i0;
   w2c_i1 = 16711935u;
   w2c_i0 &= w2c_i1;
   w2c_i1 = 8u;
   w2c_i0 = I32_ROTR(w2c_i0, w2c_i1);
-  w2c_i1 = w2c_l21;
+  w2c_i1 = w2c_l18;
   w2c_i2 = 24u;
   w2c_i1 = I32_ROTR(w2c_i1, w2c_i2);
   w2c_i2 = 16711935u;
   w2c_i1 &= w2c_i2;
   w2c_i0 |= w2c_i1;
-  w2c_l21 = w2c_i0;
+  w2c_l18 = w2c_i0;
   w2c_i1 = 16u;
   w2c_i0 >>= (w2c_i1 & 31);
-  w2c_i1 = w2c_l21;
+  w2c_i1 = w2c_l18;
   w2c_i2 = 65535u;
   w2c_i1 &= w2c_i2;
   w2c_i0 += w2c_i1;
-  w2c_l21 = w2c_i0;
-  w2c_j0 = w2c_p3;
+  w2c_l18 = w2c_i0;
+  w2c_j0 = w2c_p1;
   w2c_j1 = 18446744073709551612ull;
   w2c_j0 += w2c_j1;
-  w2c_p3 = w2c_j0;
+  w2c_p1 = w2c_j0;
   w2c_j0 = w2c_l7;
   w2c_j1 = 4ull;
   w2c_j0 += w2c_j1;
   w2c_l7 = w2c_j0;
   w2c_B30:;
   w2c_i0 = w2c_l23;
-  w2c_i1 = w2c_l20;
+  w2c_i1 = w2c_l22;
   w2c_i0 += w2c_i1;
   w2c_l23 = w2c_i0;
   w2c_i0 = 0u;
-  w2c_l20 = w2c_i0;
-  w2c_j0 = w2c_p3;
+  w2c_l22 = w2c_i0;
+  w2c_j0 = w2c_p1;
   w2c_j1 = 2ull;
   w2c_i0 = w2c_j0 >= w2c_j1;
   if (w2c_i0) {goto w2c_B32;}
@@ -43090,10 +44045,10 @@ static u32 w2c_rattle__export_tcp_c_connection_arrive(Machine * instance, u64 w2
   w2c_l12 = w2c_j0;
   goto w2c_B31;
   w2c_B32:;
-  w2c_j0 = w2c_p3;
+  w2c_j0 = w2c_p1;
   w2c_j1 = 18446744073709551614ull;
   w2c_j0 += w2c_j1;
-  w2c_p3 = w2c_j0;
+  w2c_p1 = w2c_j0;
   w2c_j0 = w2c_l7;
   w2c_j1 = 2ull;
   w2c_j0 += w2c_j1;
@@ -43107,17 +44062,17 @@ static u32 w2c_rattle__export_tcp_c_connection_arrive(Machine * instance, u64 w2
   w2c_i1 = (u32)(w2c_j1);
   w2c_i1 = i32_load8_u(&instance->w2c_memory, (u64)(w2c_i1) + 1u);
   w2c_i0 |= w2c_i1;
-  w2c_l20 = w2c_i0;
+  w2c_l22 = w2c_i0;
   w2c_B31:;
   w2c_i0 = w2c_l26;
   w2c_i1 = w2c_l23;
   w2c_i0 += w2c_i1;
-  w2c_i1 = w2c_l21;
+  w2c_i1 = w2c_l18;
   w2c_i0 += w2c_i1;
-  w2c_i1 = w2c_l20;
+  w2c_i1 = w2c_l22;
   w2c_i0 += w2c_i1;
-  w2c_l21 = w2c_i0;
-  w2c_j0 = w2c_p3;
+  w2c_l18 = w2c_i0;
+  w2c_j0 = w2c_p1;
   w2c_j1 = 1ull;
   w2c_i0 = w2c_j0 != w2c_j1;
   if (w2c_i0) {goto w2c_B22;}
@@ -43126,34 +44081,53 @@ static u32 w2c_rattle__export_tcp_c_connection_arrive(Machine * instance, u64 w2
   w2c_i0 = i32_load8_u(&instance->w2c_memory, (u64)(w2c_i0));
   w2c_i1 = 8u;
   w2c_i0 <<= (w2c_i1 & 31);
-  w2c_i1 = w2c_l21;
+  w2c_i1 = w2c_l18;
   w2c_i0 += w2c_i1;
-  w2c_l21 = w2c_i0;
+  w2c_l18 = w2c_i0;
   goto w2c_B22;
   w2c_B23:;
   w2c_j0 = w2c_l10;
   w2c_j1 = w2c_p5;
   w2c_i0 = w2c_tcp_numbers__sums__long_sum(instance, w2c_j0, w2c_j1);
-  w2c_l21 = w2c_i0;
+  w2c_l18 = w2c_i0;
   w2c_B22:;
   w2c_j0 = w2c_p5;
   w2c_i0 = (u32)(w2c_j0);
-  w2c_i1 = w2c_l19;
+  w2c_i1 = w2c_l20;
   w2c_i2 = 24u;
   w2c_i1 >>= (w2c_i2 & 31);
   w2c_l24 = w2c_i1;
   w2c_i0 += w2c_i1;
-  w2c_i1 = w2c_l19;
+  w2c_i1 = w2c_l20;
   w2c_i2 = 8u;
   w2c_i1 >>= (w2c_i2 & 31);
-  w2c_l20 = w2c_i1;
+  w2c_l22 = w2c_i1;
   w2c_i2 = 65280u;
   w2c_i1 &= w2c_i2;
   w2c_i0 += w2c_i1;
-  w2c_i1 = w2c_l18;
+  w2c_i1 = w2c_l19;
   w2c_i2 = 24u;
   w2c_i1 >>= (w2c_i2 & 31);
   w2c_l25 = w2c_i1;
+  w2c_i0 += w2c_i1;
+  w2c_i1 = w2c_l20;
+  w2c_i2 = 8u;
+  w2c_i1 <<= (w2c_i2 & 31);
+  w2c_i2 = w2c_l20;
+  w2c_i3 = 65280u;
+  w2c_i2 &= w2c_i3;
+  w2c_i3 = 8u;
+  w2c_i2 >>= (w2c_i3 & 31);
+  w2c_i1 |= w2c_i2;
+  w2c_i2 = 65535u;
+  w2c_i1 &= w2c_i2;
+  w2c_i0 += w2c_i1;
+  w2c_i1 = w2c_l19;
+  w2c_i2 = 8u;
+  w2c_i1 >>= (w2c_i2 & 31);
+  w2c_l23 = w2c_i1;
+  w2c_i2 = 65280u;
+  w2c_i1 &= w2c_i2;
   w2c_i0 += w2c_i1;
   w2c_i1 = w2c_l19;
   w2c_i2 = 8u;
@@ -43168,25 +44142,6 @@ static u32 w2c_rattle__export_tcp_c_connection_arrive(Machine * instance, u64 w2
   w2c_i1 &= w2c_i2;
   w2c_i0 += w2c_i1;
   w2c_i1 = w2c_l18;
-  w2c_i2 = 8u;
-  w2c_i1 >>= (w2c_i2 & 31);
-  w2c_l23 = w2c_i1;
-  w2c_i2 = 65280u;
-  w2c_i1 &= w2c_i2;
-  w2c_i0 += w2c_i1;
-  w2c_i1 = w2c_l18;
-  w2c_i2 = 8u;
-  w2c_i1 <<= (w2c_i2 & 31);
-  w2c_i2 = w2c_l18;
-  w2c_i3 = 65280u;
-  w2c_i2 &= w2c_i3;
-  w2c_i3 = 8u;
-  w2c_i2 >>= (w2c_i3 & 31);
-  w2c_i1 |= w2c_i2;
-  w2c_i2 = 65535u;
-  w2c_i1 &= w2c_i2;
-  w2c_i0 += w2c_i1;
-  w2c_i1 = w2c_l21;
   w2c_i0 += w2c_i1;
   w2c_i1 = 6u;
   w2c_i0 += w2c_i1;
@@ -43195,11 +44150,11 @@ static u32 w2c_rattle__export_tcp_c_connection_arrive(Machine * instance, u64 w2
   w2c_i0 = !(w2c_i0);
   if (w2c_i0) {goto w2c_B33;}
   w2c_i0 = 3u;
-  w2c_l21 = w2c_i0;
+  w2c_l18 = w2c_i0;
   goto w2c_B19;
   w2c_B33:;
   w2c_i0 = 4u;
-  w2c_l21 = w2c_i0;
+  w2c_l18 = w2c_i0;
   w2c_j0 = w2c_l10;
   w2c_i0 = (u32)(w2c_j0);
   w2c_i0 = i32_load8_u(&instance->w2c_memory, (u64)(w2c_i0) + 12u);
@@ -43231,7 +44186,7 @@ static u32 w2c_rattle__export_tcp_c_connection_arrive(Machine * instance, u64 w2
   w2c_j0 = w2c_l10;
   w2c_j1 = 20ull;
   w2c_j0 += w2c_j1;
-  w2c_p3 = w2c_j0;
+  w2c_p1 = w2c_j0;
   w2c_j0 = 18446744073709551576ull;
   w2c_l14 = w2c_j0;
   w2c_j0 = w2c_l15;
@@ -43245,7 +44200,7 @@ static u32 w2c_rattle__export_tcp_c_connection_arrive(Machine * instance, u64 w2
     if (w2c_i0) {goto w2c_B35;}
     w2c_j0 = 1ull;
     w2c_l12 = w2c_j0;
-    w2c_j0 = w2c_p3;
+    w2c_j0 = w2c_p1;
     w2c_i0 = (u32)(w2c_j0);
     w2c_j0 = i64_load8_u(&instance->w2c_memory, (u64)(w2c_i0));
     w2c_l13 = w2c_j0;
@@ -43268,7 +44223,7 @@ static u32 w2c_rattle__export_tcp_c_connection_arrive(Machine * instance, u64 w2
     w2c_l7 = w2c_j0;
     goto w2c_B37;
     w2c_B41:;
-    w2c_j0 = w2c_p3;
+    w2c_j0 = w2c_p1;
     w2c_i0 = (u32)(w2c_j0);
     w2c_j0 = i64_load8_u(&instance->w2c_memory, (u64)(w2c_i0) + 1u);
     w2c_l12 = w2c_j0;
@@ -43288,10 +44243,10 @@ static u32 w2c_rattle__export_tcp_c_connection_arrive(Machine * instance, u64 w2
     if (w2c_i0) {goto w2c_B35;}
     w2c_j0 = 1ull;
     w2c_l13 = w2c_j0;
-    w2c_j0 = w2c_p3;
+    w2c_j0 = w2c_p1;
     w2c_j1 = w2c_l12;
     w2c_j0 += w2c_j1;
-    w2c_p3 = w2c_j0;
+    w2c_p1 = w2c_j0;
     w2c_i0 = (u32)(w2c_j0);
     w2c_j0 = i64_load8_u(&instance->w2c_memory, (u64)(w2c_i0));
     w2c_l12 = w2c_j0;
@@ -43314,7 +44269,7 @@ static u32 w2c_rattle__export_tcp_c_connection_arrive(Machine * instance, u64 w2
     w2c_l7 = w2c_j0;
     goto w2c_B37;
     w2c_B44:;
-    w2c_j0 = w2c_p3;
+    w2c_j0 = w2c_p1;
     w2c_i0 = (u32)(w2c_j0);
     w2c_j0 = i64_load8_u(&instance->w2c_memory, (u64)(w2c_i0) + 1u);
     w2c_l13 = w2c_j0;
@@ -43330,10 +44285,10 @@ static u32 w2c_rattle__export_tcp_c_connection_arrive(Machine * instance, u64 w2
     w2c_j1 = w2c_l13;
     w2c_j0 -= w2c_j1;
     w2c_l7 = w2c_j0;
-    w2c_j0 = w2c_p3;
+    w2c_j0 = w2c_p1;
     w2c_j1 = w2c_l13;
     w2c_j0 += w2c_j1;
-    w2c_p3 = w2c_j0;
+    w2c_p1 = w2c_j0;
     w2c_j0 = w2c_l14;
     w2c_j1 = 2ull;
     w2c_j0 += w2c_j1;
@@ -43348,7 +44303,7 @@ static u32 w2c_rattle__export_tcp_c_connection_arrive(Machine * instance, u64 w2
   w2c_j0 = 0ull;
   w2c_l12 = w2c_j0;
   w2c_L45: 
-    w2c_j0 = w2c_p3;
+    w2c_j0 = w2c_p1;
     w2c_j1 = w2c_l12;
     w2c_j0 += w2c_j1;
     w2c_i0 = (u32)(w2c_j0);
@@ -43379,7 +44334,7 @@ static u32 w2c_rattle__export_tcp_c_connection_arrive(Machine * instance, u64 w2
   w2c_j1 = w2c_p5;
   w2c_j2 = w2c_l15;
   w2c_j1 -= w2c_j2;
-  w2c_p3 = w2c_j1;
+  w2c_p1 = w2c_j1;
   i64_store(&instance->w2c_memory, (u64)(w2c_i0) + 56, w2c_j1);
   w2c_j0 = w2c_l8;
   w2c_i0 = (u32)(w2c_j0);
@@ -43406,10 +44361,10 @@ static u32 w2c_rattle__export_tcp_c_connection_arrive(Machine * instance, u64 w2
   w2c_j1 += w2c_j2;
   w2c_i1 = (u32)(w2c_j1);
   w2c_i1 = i32_load16_u(&instance->w2c_memory, (u64)(w2c_i1));
-  w2c_l21 = w2c_i1;
+  w2c_l18 = w2c_i1;
   w2c_i2 = 8u;
   w2c_i1 <<= (w2c_i2 & 31);
-  w2c_i2 = w2c_l21;
+  w2c_i2 = w2c_l18;
   w2c_i3 = 8u;
   w2c_i2 >>= (w2c_i3 & 31);
   w2c_i1 |= w2c_i2;
@@ -43421,7 +44376,7 @@ static u32 w2c_rattle__export_tcp_c_connection_arrive(Machine * instance, u64 w2
   w2c_j1 += w2c_j2;
   w2c_i1 = (u32)(w2c_j1);
   w2c_i1 = i32_load(&instance->w2c_memory, (u64)(w2c_i1));
-  w2c_l21 = w2c_i1;
+  w2c_l18 = w2c_i1;
   w2c_i2 = 16711935u;
   w2c_i1 &= w2c_i2;
   w2c_i2 = 8u;
@@ -43434,10 +44389,10 @@ static u32 w2c_rattle__export_tcp_c_connection_arrive(Machine * instance, u64 w2
   w2c_j0 = w2c_l8;
   w2c_i0 = (u32)(w2c_j0);
   w2c_i1 = w2c_l27;
-  w2c_i2 = w2c_l21;
+  w2c_i2 = w2c_l18;
   w2c_i3 = 24u;
   w2c_i2 = I32_ROTR(w2c_i2, w2c_i3);
-  w2c_l21 = w2c_i2;
+  w2c_l18 = w2c_i2;
   w2c_i3 = 16711935u;
   w2c_i2 &= w2c_i3;
   w2c_i1 |= w2c_i2;
@@ -43448,7 +44403,7 @@ static u32 w2c_rattle__export_tcp_c_connection_arrive(Machine * instance, u64 w2
   i64_store16(&instance->w2c_memory, (u64)(w2c_i0) + 13, w2c_j1);
   w2c_j0 = w2c_l8;
   w2c_i0 = (u32)(w2c_j0);
-  w2c_i1 = w2c_l21;
+  w2c_i1 = w2c_l18;
   w2c_i2 = 24u;
   w2c_i1 <<= (w2c_i2 & 31);
   w2c_j1 = (u64)(w2c_i1);
@@ -43491,7 +44446,7 @@ static u32 w2c_rattle__export_tcp_c_connection_arrive(Machine * instance, u64 w2
   w2c_j3 = 56ull;
   w2c_j2 <<= (w2c_j3 & 63);
   w2c_j1 |= w2c_j2;
-  w2c_p2 = w2c_j1;
+  w2c_p3 = w2c_j1;
   w2c_j2 = w2c_l10;
   w2c_j3 = 13ull;
   w2c_j2 += w2c_j3;
@@ -43514,18 +44469,18 @@ static u32 w2c_rattle__export_tcp_c_connection_arrive(Machine * instance, u64 w2
   w2c_j4 += w2c_j5;
   w2c_i4 = (u32)(w2c_j4);
   w2c_i4 = i32_load(&instance->w2c_memory, (u64)(w2c_i4));
-  w2c_l21 = w2c_i4;
+  w2c_l18 = w2c_i4;
   w2c_i5 = 16711935u;
   w2c_i4 &= w2c_i5;
   w2c_i5 = 8u;
   w2c_i4 = I32_ROTR(w2c_i4, w2c_i5);
-  w2c_i5 = w2c_l21;
+  w2c_i5 = w2c_l18;
   w2c_i6 = 24u;
   w2c_i5 = I32_ROTR(w2c_i5, w2c_i6);
   w2c_i6 = 16711935u;
   w2c_i5 &= w2c_i6;
   w2c_i4 |= w2c_i5;
-  w2c_l29 = w2c_i4;
+  w2c_l31 = w2c_i4;
   w2c_j4 = (u64)(w2c_i4);
   w2c_j3 |= w2c_j4;
   w2c_j2 |= w2c_j3;
@@ -43534,17 +44489,17 @@ static u32 w2c_rattle__export_tcp_c_connection_arrive(Machine * instance, u64 w2
   w2c_i0 = 1u;
   w2c_l26 = w2c_i0;
   w2c_i0 = 1u;
-  w2c_l21 = w2c_i0;
+  w2c_l18 = w2c_i0;
   w2c_j0 = w2c_l9;
   w2c_i0 = (u32)(w2c_j0);
   w2c_i0 = i32_load8_u(&instance->w2c_memory, (u64)(w2c_i0));
-  w2c_i1 = w2c_l18;
+  w2c_i1 = w2c_l19;
   w2c_i2 = 255u;
   w2c_i1 &= w2c_i2;
   w2c_i0 = w2c_i0 != w2c_i1;
   if (w2c_i0) {goto w2c_B46;}
   w2c_i0 = 1u;
-  w2c_l21 = w2c_i0;
+  w2c_l18 = w2c_i0;
   w2c_j0 = w2c_l9;
   w2c_j1 = 1ull;
   w2c_j0 += w2c_j1;
@@ -43558,7 +44513,7 @@ static u32 w2c_rattle__export_tcp_c_connection_arrive(Machine * instance, u64 w2
   w2c_i0 = w2c_i0 != w2c_i1;
   if (w2c_i0) {goto w2c_B46;}
   w2c_i0 = 1u;
-  w2c_l21 = w2c_i0;
+  w2c_l18 = w2c_i0;
   w2c_j0 = w2c_l9;
   w2c_j1 = 2ull;
   w2c_j0 += w2c_j1;
@@ -43566,7 +44521,7 @@ static u32 w2c_rattle__export_tcp_c_connection_arrive(Machine * instance, u64 w2
   w2c_i0 = i32_load8_u(&instance->w2c_memory, (u64)(w2c_i0));
   w2c_i1 = 255u;
   w2c_i0 &= w2c_i1;
-  w2c_i1 = w2c_l18;
+  w2c_i1 = w2c_l19;
   w2c_i2 = 16u;
   w2c_i1 >>= (w2c_i2 & 31);
   w2c_i2 = 255u;
@@ -43574,7 +44529,7 @@ static u32 w2c_rattle__export_tcp_c_connection_arrive(Machine * instance, u64 w2
   w2c_i0 = w2c_i0 != w2c_i1;
   if (w2c_i0) {goto w2c_B46;}
   w2c_i0 = 1u;
-  w2c_l21 = w2c_i0;
+  w2c_l18 = w2c_i0;
   w2c_j0 = w2c_l9;
   w2c_j1 = 3ull;
   w2c_j0 += w2c_j1;
@@ -43595,14 +44550,14 @@ static u32 w2c_rattle__export_tcp_c_connection_arrive(Machine * instance, u64 w2
   w2c_j1 >>= (w2c_j2 & 63);
   w2c_i1 = (u32)(w2c_j1);
   w2c_i0 = w2c_i0 != w2c_i1;
-  w2c_l21 = w2c_i0;
+  w2c_l18 = w2c_i0;
   w2c_B46:;
   w2c_j0 = w2c_l9;
   w2c_j1 = 52ull;
   w2c_j0 += w2c_j1;
   w2c_i0 = (u32)(w2c_j0);
   w2c_i0 = i32_load8_u(&instance->w2c_memory, (u64)(w2c_i0));
-  w2c_i1 = w2c_l19;
+  w2c_i1 = w2c_l20;
   w2c_i2 = 255u;
   w2c_i1 &= w2c_i2;
   w2c_i0 = w2c_i0 != w2c_i1;
@@ -43614,7 +44569,7 @@ static u32 w2c_rattle__export_tcp_c_connection_arrive(Machine * instance, u64 w2
   w2c_i0 = i32_load8_u(&instance->w2c_memory, (u64)(w2c_i0));
   w2c_i1 = 255u;
   w2c_i0 &= w2c_i1;
-  w2c_i1 = w2c_l20;
+  w2c_i1 = w2c_l22;
   w2c_i2 = 255u;
   w2c_i1 &= w2c_i2;
   w2c_i0 = w2c_i0 != w2c_i1;
@@ -43626,7 +44581,7 @@ static u32 w2c_rattle__export_tcp_c_connection_arrive(Machine * instance, u64 w2
   w2c_i0 = i32_load8_u(&instance->w2c_memory, (u64)(w2c_i0));
   w2c_i1 = 255u;
   w2c_i0 &= w2c_i1;
-  w2c_i1 = w2c_l19;
+  w2c_i1 = w2c_l20;
   w2c_i2 = 16u;
   w2c_i1 >>= (w2c_i2 & 31);
   w2c_i2 = 255u;
@@ -43655,24 +44610,24 @@ static u32 w2c_rattle__export_tcp_c_connection_arrive(Machine * instance, u64 w2
   w2c_l26 = w2c_i0;
   w2c_B47:;
   w2c_i0 = 0u;
-  w2c_l23 = w2c_i0;
+  w2c_l22 = w2c_i0;
   w2c_i0 = 0u;
-  w2c_l30 = w2c_i0;
-  w2c_i0 = w2c_l21;
-  w2c_i1 = w2c_l22;
+  w2c_l29 = w2c_i0;
+  w2c_i0 = w2c_l18;
+  w2c_i1 = w2c_l21;
   w2c_i2 = 1u;
   w2c_i1 = w2c_i1 > w2c_i2;
   w2c_i2 = w2c_l26;
   w2c_i1 &= w2c_i2;
   w2c_i0 |= w2c_i1;
   if (w2c_i0) {goto w2c_B8;}
-  w2c_i0 = w2c_l22;
+  w2c_i0 = w2c_l21;
   w2c_i1 = 4294967293u;
   w2c_i0 += w2c_i1;
   w2c_i1 = 8u;
   w2c_i0 = w2c_i0 < w2c_i1;
   if (w2c_i0) {goto w2c_B48;}
-  w2c_i0 = w2c_l22;
+  w2c_i0 = w2c_l21;
   switch (w2c_i0) {
     case 0: goto w2c_B51;
     case 1: goto w2c_B50;
@@ -43686,7 +44641,7 @@ static u32 w2c_rattle__export_tcp_c_connection_arrive(Machine * instance, u64 w2
   w2c_i3 = 4u;
   w2c_i2 &= w2c_i3;
   w2c_i0 = w2c_i2 ? w2c_i0 : w2c_i1;
-  w2c_l30 = w2c_i0;
+  w2c_l29 = w2c_i0;
   goto w2c_B8;
   w2c_B50:;
   w2c_i0 = w2c_l27;
@@ -43695,7 +44650,7 @@ static u32 w2c_rattle__export_tcp_c_connection_arrive(Machine * instance, u64 w2
   w2c_i0 = !(w2c_i0);
   if (w2c_i0) {goto w2c_B52;}
   w2c_i0 = 1u;
-  w2c_l30 = w2c_i0;
+  w2c_l29 = w2c_i0;
   goto w2c_B8;
   w2c_B52:;
   w2c_i0 = w2c_l27;
@@ -43704,7 +44659,7 @@ static u32 w2c_rattle__export_tcp_c_connection_arrive(Machine * instance, u64 w2
   w2c_i0 = !(w2c_i0);
   if (w2c_i0) {goto w2c_B53;}
   w2c_i0 = 3u;
-  w2c_l30 = w2c_i0;
+  w2c_l29 = w2c_i0;
   goto w2c_B8;
   w2c_B53:;
   w2c_i0 = 5u;
@@ -43713,14 +44668,14 @@ static u32 w2c_rattle__export_tcp_c_connection_arrive(Machine * instance, u64 w2
   w2c_i3 = 2u;
   w2c_i2 &= w2c_i3;
   w2c_i0 = w2c_i2 ? w2c_i0 : w2c_i1;
-  w2c_l30 = w2c_i0;
+  w2c_l29 = w2c_i0;
   goto w2c_B8;
   w2c_B49:;
   w2c_j0 = w2c_l9;
-  w2c_i1 = w2c_l29;
+  w2c_i1 = w2c_l31;
   w2c_i2 = w2c_l27;
   w2c_i0 = w2c_tcp_conn__endpoint__Endpoint__judge_syn_sent(instance, w2c_j0, w2c_i1, w2c_i2);
-  w2c_l30 = w2c_i0;
+  w2c_l29 = w2c_i0;
   goto w2c_B8;
   w2c_B48:;
   w2c_j0 = w2c_l9;
@@ -43740,13 +44695,13 @@ static u32 w2c_rattle__export_tcp_c_connection_arrive(Machine * instance, u64 w2
   w2c_j0 += w2c_j1;
   w2c_i0 = (u32)(w2c_j0);
   w2c_i0 = i32_load(&instance->w2c_memory, (u64)(w2c_i0));
-  w2c_l31 = w2c_i0;
+  w2c_l30 = w2c_i0;
   w2c_j0 = w2c_l9;
   w2c_j1 = 244ull;
   w2c_j0 += w2c_j1;
   w2c_i0 = (u32)(w2c_j0);
   w2c_i0 = i32_load(&instance->w2c_memory, (u64)(w2c_i0));
-  w2c_l21 = w2c_i0;
+  w2c_l18 = w2c_i0;
   w2c_j0 = w2c_l9;
   w2c_j1 = 312ull;
   w2c_j0 += w2c_j1;
@@ -43765,7 +44720,7 @@ static u32 w2c_rattle__export_tcp_c_connection_arrive(Machine * instance, u64 w2
   w2c_i2 = 1u;
   w2c_i1 &= w2c_i2;
   w2c_l32 = w2c_i1;
-  w2c_j2 = w2c_p3;
+  w2c_j2 = w2c_p1;
   w2c_i2 = (u32)(w2c_j2);
   w2c_i1 += w2c_i2;
   w2c_i2 = w2c_l27;
@@ -43774,16 +44729,16 @@ static u32 w2c_rattle__export_tcp_c_connection_arrive(Machine * instance, u64 w2
   w2c_i3 = 1u;
   w2c_i2 &= w2c_i3;
   w2c_i1 += w2c_i2;
-  w2c_l20 = w2c_i1;
+  w2c_l23 = w2c_i1;
   w2c_i0 |= w2c_i1;
   if (w2c_i0) {goto w2c_B56;}
   w2c_i0 = w2c_l28;
-  w2c_i1 = w2c_l21;
+  w2c_i1 = w2c_l18;
   w2c_i0 = w2c_i0 != w2c_i1;
   if (w2c_i0) {goto w2c_B11;}
   goto w2c_B55;
   w2c_B56:;
-  w2c_i0 = w2c_l20;
+  w2c_i0 = w2c_l23;
   w2c_i0 = !(w2c_i0);
   if (w2c_i0) {goto w2c_B57;}
   w2c_i0 = w2c_l25;
@@ -43791,15 +44746,15 @@ static u32 w2c_rattle__export_tcp_c_connection_arrive(Machine * instance, u64 w2
   w2c_i0 = w2c_i0 == w2c_i1;
   if (w2c_i0) {goto w2c_B54;}
   w2c_i0 = w2c_l28;
-  w2c_i1 = w2c_l21;
+  w2c_i1 = w2c_l18;
   w2c_i0 -= w2c_i1;
   w2c_i1 = w2c_l24;
   w2c_i0 = w2c_i0 < w2c_i1;
   if (w2c_i0) {goto w2c_B55;}
-  w2c_i0 = w2c_l20;
+  w2c_i0 = w2c_l23;
   w2c_i1 = w2c_l28;
   w2c_i0 += w2c_i1;
-  w2c_i1 = w2c_l21;
+  w2c_i1 = w2c_l18;
   w2c_i2 = 4294967295u;
   w2c_i1 ^= w2c_i2;
   w2c_i0 += w2c_i1;
@@ -43809,7 +44764,7 @@ static u32 w2c_rattle__export_tcp_c_connection_arrive(Machine * instance, u64 w2
   goto w2c_B11;
   w2c_B57:;
   w2c_i0 = w2c_l28;
-  w2c_i1 = w2c_l21;
+  w2c_i1 = w2c_l18;
   w2c_i0 -= w2c_i1;
   w2c_i1 = w2c_l24;
   w2c_i0 = w2c_i0 >= w2c_i1;
@@ -43823,10 +44778,10 @@ static u32 w2c_rattle__export_tcp_c_connection_arrive(Machine * instance, u64 w2
   w2c_i0 = 10u;
   w2c_i1 = 11u;
   w2c_i2 = w2c_l28;
-  w2c_i3 = w2c_l21;
+  w2c_i3 = w2c_l18;
   w2c_i2 = w2c_i2 == w2c_i3;
   w2c_i0 = w2c_i2 ? w2c_i0 : w2c_i1;
-  w2c_l30 = w2c_i0;
+  w2c_l29 = w2c_i0;
   goto w2c_B8;
   w2c_B58:;
   w2c_i0 = w2c_l27;
@@ -43835,7 +44790,7 @@ static u32 w2c_rattle__export_tcp_c_connection_arrive(Machine * instance, u64 w2
   w2c_i0 = !(w2c_i0);
   if (w2c_i0) {goto w2c_B59;}
   w2c_i0 = 12u;
-  w2c_l30 = w2c_i0;
+  w2c_l29 = w2c_i0;
   goto w2c_B8;
   w2c_B59:;
   w2c_i0 = w2c_l27;
@@ -43843,35 +44798,35 @@ static u32 w2c_rattle__export_tcp_c_connection_arrive(Machine * instance, u64 w2
   w2c_i0 &= w2c_i1;
   if (w2c_i0) {goto w2c_B60;}
   w2c_i0 = 13u;
-  w2c_l30 = w2c_i0;
+  w2c_l29 = w2c_i0;
   goto w2c_B8;
   w2c_B60:;
   w2c_j0 = 0ull;
   w2c_j1 = w2c_l12;
-  w2c_i2 = w2c_l29;
-  w2c_i3 = w2c_l31;
+  w2c_i2 = w2c_l31;
+  w2c_i3 = w2c_l30;
   w2c_j4 = w2c_l12;
   w2c_i4 = (u32)(w2c_j4);
   w2c_i3 += w2c_i4;
   w2c_i2 -= w2c_i3;
-  w2c_l21 = w2c_i2;
+  w2c_l18 = w2c_i2;
   w2c_j2 = (u64)(w2c_i2);
   w2c_j1 += w2c_j2;
   w2c_l7 = w2c_j1;
   w2c_j2 = 18446744069414584320ull;
   w2c_j1 += w2c_j2;
-  w2c_p3 = w2c_j1;
-  w2c_j2 = w2c_p3;
+  w2c_p1 = w2c_j1;
+  w2c_j2 = w2c_p1;
   w2c_j3 = w2c_l7;
   w2c_i2 = w2c_j2 > w2c_j3;
   w2c_j0 = w2c_i2 ? w2c_j0 : w2c_j1;
   w2c_j1 = w2c_l7;
-  w2c_i2 = w2c_l21;
+  w2c_i2 = w2c_l18;
   w2c_i3 = 0u;
   w2c_i2 = (u32)((s32)w2c_i2 < (s32)w2c_i3);
   w2c_j0 = w2c_i2 ? w2c_j0 : w2c_j1;
   w2c_l14 = w2c_j0;
-  w2c_i0 = w2c_l22;
+  w2c_i0 = w2c_l21;
   w2c_i1 = 3u;
   w2c_i0 = w2c_i0 != w2c_i1;
   if (w2c_i0) {goto w2c_B61;}
@@ -43880,11 +44835,11 @@ static u32 w2c_rattle__export_tcp_c_connection_arrive(Machine * instance, u64 w2
   w2c_i0 = w2c_j0 != w2c_j1;
   if (w2c_i0) {goto w2c_B62;}
   w2c_i0 = 17u;
-  w2c_l30 = w2c_i0;
+  w2c_l29 = w2c_i0;
   goto w2c_B6;
   w2c_B62:;
   w2c_i0 = 15u;
-  w2c_l30 = w2c_i0;
+  w2c_l29 = w2c_i0;
   goto w2c_B8;
   w2c_B61:;
   w2c_j0 = w2c_l13;
@@ -43892,7 +44847,7 @@ static u32 w2c_rattle__export_tcp_c_connection_arrive(Machine * instance, u64 w2
   w2c_i0 = w2c_j0 < w2c_j1;
   if (w2c_i0) {goto w2c_B9;}
   w2c_i0 = 17u;
-  w2c_l30 = w2c_i0;
+  w2c_l29 = w2c_i0;
   goto w2c_B5;
   w2c_B54:;
   w2c_i0 = w2c_l27;
@@ -43901,7 +44856,7 @@ static u32 w2c_rattle__export_tcp_c_connection_arrive(Machine * instance, u64 w2
   w2c_i0 = !(w2c_i0);
   if (w2c_i0) {goto w2c_B63;}
   w2c_i0 = 1u;
-  w2c_l30 = w2c_i0;
+  w2c_l29 = w2c_i0;
   goto w2c_B8;
   w2c_B63:;
   w2c_i0 = w2c_l27;
@@ -43909,7 +44864,7 @@ static u32 w2c_rattle__export_tcp_c_connection_arrive(Machine * instance, u64 w2
   w2c_i0 &= w2c_i1;
   if (w2c_i0) {goto w2c_B10;}
   w2c_i0 = 9u;
-  w2c_l30 = w2c_i0;
+  w2c_l29 = w2c_i0;
   goto w2c_B8;
   w2c_B34:;
   w2c_i0 = 5u;
@@ -43917,7 +44872,7 @@ static u32 w2c_rattle__export_tcp_c_connection_arrive(Machine * instance, u64 w2
   w2c_j2 = w2c_l12;
   w2c_i2 = !(w2c_j2);
   w2c_i0 = w2c_i2 ? w2c_i0 : w2c_i1;
-  w2c_l21 = w2c_i0;
+  w2c_l18 = w2c_i0;
   w2c_B19:;
   w2c_j0 = w2c_l9;
   w2c_j1 = 224ull;
@@ -43932,21 +44887,21 @@ static u32 w2c_rattle__export_tcp_c_connection_arrive(Machine * instance, u64 w2
   w2c_i0 = 0u;
   w2c_l25 = w2c_i0;
   w2c_i0 = 0u;
-  w2c_l31 = w2c_i0;
-  w2c_i0 = 0u;
-  w2c_l33 = w2c_i0;
-  w2c_i0 = 0u;
   w2c_l30 = w2c_i0;
+  w2c_i0 = 0u;
+  w2c_l32 = w2c_i0;
+  w2c_i0 = 0u;
+  w2c_l29 = w2c_i0;
+  w2c_i0 = 0u;
+  w2c_l22 = w2c_i0;
   w2c_i0 = 0u;
   w2c_l23 = w2c_i0;
   w2c_i0 = 0u;
-  w2c_l20 = w2c_i0;
-  w2c_i0 = 0u;
   w2c_l26 = w2c_i0;
   w2c_i0 = 0u;
-  w2c_l32 = w2c_i0;
+  w2c_l31 = w2c_i0;
   w2c_j0 = 0ull;
-  w2c_p5 = w2c_j0;
+  w2c_p1 = w2c_j0;
   goto w2c_B3;
   w2c_B14:;
   UNREACHABLE;
@@ -43968,7 +44923,7 @@ static u32 w2c_rattle__export_tcp_c_connection_arrive(Machine * instance, u64 w2
   w2c_j1 = 0ull;
   i64_store(&instance->w2c_memory, (u64)(w2c_i0), w2c_j1);
   w2c_i0 = 31u;
-  w2c_l21 = w2c_i0;
+  w2c_l18 = w2c_i0;
   goto w2c_B0;
   w2c_B12:;
   w2c_j0 = w2c_p0;
@@ -43980,11 +44935,7 @@ static u32 w2c_rattle__export_tcp_c_connection_arrive(Machine * instance, u64 w2
   w2c_j1 = 8521743234667672684ull;
   i64_store(&instance->w2c_memory, (u64)(w2c_i0), w2c_j1);
   w2c_i0 = 59u;
-  w2c_l21 = w2c_i0;
-  w2c_j0 = 0ull;
-  w2c_p2 = w2c_j0;
-  w2c_i0 = 0u;
-  w2c_l20 = w2c_i0;
+  w2c_l18 = w2c_i0;
   goto w2c_B2;
   w2c_B11:;
   w2c_i0 = w2c_l27;
@@ -43993,11 +44944,11 @@ static u32 w2c_rattle__export_tcp_c_connection_arrive(Machine * instance, u64 w2
   w2c_i0 = !(w2c_i0);
   if (w2c_i0) {goto w2c_B64;}
   w2c_i0 = 1u;
-  w2c_l30 = w2c_i0;
+  w2c_l29 = w2c_i0;
   goto w2c_B8;
   w2c_B64:;
   w2c_i0 = 9u;
-  w2c_l30 = w2c_i0;
+  w2c_l29 = w2c_i0;
   w2c_i0 = w2c_l27;
   w2c_i1 = 16u;
   w2c_i0 &= w2c_i1;
@@ -44014,35 +44965,35 @@ static u32 w2c_rattle__export_tcp_c_connection_arrive(Machine * instance, u64 w2
   w2c_i0 = !(w2c_i0);
   if (w2c_i0) {goto w2c_B65;}
   w2c_i0 = 9u;
-  w2c_l30 = w2c_i0;
+  w2c_l29 = w2c_i0;
   goto w2c_B8;
   w2c_B65:;
   w2c_j0 = 0ull;
   w2c_j1 = w2c_l12;
-  w2c_i2 = w2c_l29;
-  w2c_i3 = w2c_l31;
+  w2c_i2 = w2c_l31;
+  w2c_i3 = w2c_l30;
   w2c_j4 = w2c_l12;
   w2c_i4 = (u32)(w2c_j4);
   w2c_i3 += w2c_i4;
   w2c_i2 -= w2c_i3;
-  w2c_l21 = w2c_i2;
+  w2c_l18 = w2c_i2;
   w2c_j2 = (u64)(w2c_i2);
   w2c_j1 += w2c_j2;
   w2c_l7 = w2c_j1;
   w2c_j2 = 18446744069414584320ull;
   w2c_j1 += w2c_j2;
-  w2c_p3 = w2c_j1;
-  w2c_j2 = w2c_p3;
+  w2c_p1 = w2c_j1;
+  w2c_j2 = w2c_p1;
   w2c_j3 = w2c_l7;
   w2c_i2 = w2c_j2 > w2c_j3;
   w2c_j0 = w2c_i2 ? w2c_j0 : w2c_j1;
   w2c_j1 = w2c_l7;
-  w2c_i2 = w2c_l21;
+  w2c_i2 = w2c_l18;
   w2c_i3 = 0u;
   w2c_i2 = (u32)((s32)w2c_i2 < (s32)w2c_i3);
   w2c_j0 = w2c_i2 ? w2c_j0 : w2c_j1;
   w2c_l14 = w2c_j0;
-  w2c_i0 = w2c_l22;
+  w2c_i0 = w2c_l21;
   w2c_i1 = 3u;
   w2c_i0 = w2c_i0 != w2c_i1;
   if (w2c_i0) {goto w2c_B66;}
@@ -44051,7 +45002,7 @@ static u32 w2c_rattle__export_tcp_c_connection_arrive(Machine * instance, u64 w2
   w2c_i0 = w2c_j0 == w2c_j1;
   if (w2c_i0) {goto w2c_B7;}
   w2c_i0 = 16u;
-  w2c_l30 = w2c_i0;
+  w2c_l29 = w2c_i0;
   goto w2c_B8;
   w2c_B66:;
   w2c_j0 = w2c_l13;
@@ -44059,11 +45010,11 @@ static u32 w2c_rattle__export_tcp_c_connection_arrive(Machine * instance, u64 w2
   w2c_i0 = w2c_j0 < w2c_j1;
   if (w2c_i0) {goto w2c_B9;}
   w2c_i0 = 18u;
-  w2c_l30 = w2c_i0;
+  w2c_l29 = w2c_i0;
   goto w2c_B5;
   w2c_B9:;
   w2c_i0 = 14u;
-  w2c_l30 = w2c_i0;
+  w2c_l29 = w2c_i0;
   w2c_B8:;
   w2c_j0 = w2c_p4;
   w2c_j1 = 80ull;
@@ -44071,11 +45022,11 @@ static u32 w2c_rattle__export_tcp_c_connection_arrive(Machine * instance, u64 w2
   w2c_l7 = w2c_j0;
   w2c_i0 = (u32)(w2c_j0);
   w2c_j0 = i64_load(&instance->w2c_memory, (u64)(w2c_i0));
-  w2c_p3 = w2c_j0;
+  w2c_p1 = w2c_j0;
   goto w2c_B4;
   w2c_B7:;
   w2c_i0 = 18u;
-  w2c_l30 = w2c_i0;
+  w2c_l29 = w2c_i0;
   w2c_B6:;
   w2c_j0 = w2c_l13;
   w2c_l14 = w2c_j0;
@@ -44099,7 +45050,7 @@ static u32 w2c_rattle__export_tcp_c_connection_arrive(Machine * instance, u64 w2
   w2c_l7 = w2c_j3;
   w2c_i3 = (u32)(w2c_j3);
   w2c_j3 = i64_load(&instance->w2c_memory, (u64)(w2c_i3));
-  w2c_p3 = w2c_j3;
+  w2c_p1 = w2c_j3;
   w2c_j4 = 18446744073709551615ull;
   w2c_j3 ^= w2c_j4;
   w2c_j4 = w2c_l13;
@@ -44121,7 +45072,7 @@ static u32 w2c_rattle__export_tcp_c_connection_arrive(Machine * instance, u64 w2
   w2c_j2 = w2c_l12;
   w2c_i1 = w2c_j1 == w2c_j2;
   w2c_i0 &= w2c_i1;
-  w2c_j1 = w2c_p2;
+  w2c_j1 = w2c_p3;
   w2c_j2 = 48ull;
   w2c_j1 >>= (w2c_j2 & 63);
   w2c_i1 = (u32)(w2c_j1);
@@ -44138,16 +45089,16 @@ static u32 w2c_rattle__export_tcp_c_connection_arrive(Machine * instance, u64 w2
   w2c_i2 = i32_load(&instance->w2c_memory, (u64)(w2c_i2));
   w2c_i1 = w2c_i1 == w2c_i2;
   w2c_i0 &= w2c_i1;
-  w2c_l23 = w2c_i0;
+  w2c_l22 = w2c_i0;
   w2c_B4:;
-  w2c_i0 = w2c_l30;
+  w2c_i0 = w2c_l29;
   w2c_i1 = 255u;
   w2c_i0 &= w2c_i1;
-  w2c_l21 = w2c_i0;
+  w2c_l18 = w2c_i0;
   w2c_i1 = 17u;
   w2c_i0 = w2c_i0 < w2c_i1;
   if (w2c_i0) {goto w2c_B68;}
-  w2c_i0 = w2c_l21;
+  w2c_i0 = w2c_l18;
   w2c_i1 = 4294967279u;
   w2c_i0 += w2c_i1;
   switch (w2c_i0) {
@@ -44168,39 +45119,39 @@ static u32 w2c_rattle__export_tcp_c_connection_arrive(Machine * instance, u64 w2
   w2c_j1 += w2c_j2;
   w2c_tcp_conn__endpoint__Endpoint__take_own_syn(instance, w2c_j0, w2c_j1);
   w2c_i0 = 0u;
-  w2c_l31 = w2c_i0;
+  w2c_l30 = w2c_i0;
   w2c_j0 = w2c_p4;
   w2c_j1 = 64ull;
   w2c_j0 += w2c_j1;
-  w2c_p2 = w2c_j0;
+  w2c_p3 = w2c_j0;
   w2c_j1 = 0ull;
-  w2c_j2 = w2c_p2;
+  w2c_j2 = w2c_p3;
   w2c_i2 = (u32)(w2c_j2);
   w2c_j2 = i64_load(&instance->w2c_memory, (u64)(w2c_i2));
-  w2c_p2 = w2c_j2;
-  w2c_i3 = w2c_l29;
+  w2c_p3 = w2c_j2;
+  w2c_i3 = w2c_l31;
   w2c_j4 = w2c_l9;
   w2c_j5 = 8ull;
   w2c_j4 += w2c_j5;
   w2c_i4 = (u32)(w2c_j4);
   w2c_i4 = i32_load(&instance->w2c_memory, (u64)(w2c_i4));
-  w2c_j5 = w2c_p2;
+  w2c_j5 = w2c_p3;
   w2c_i5 = (u32)(w2c_j5);
   w2c_i4 += w2c_i5;
   w2c_i3 -= w2c_i4;
-  w2c_l21 = w2c_i3;
+  w2c_l18 = w2c_i3;
   w2c_j3 = (u64)(w2c_i3);
   w2c_j2 += w2c_j3;
-  w2c_p2 = w2c_j2;
+  w2c_p3 = w2c_j2;
   w2c_j3 = 18446744069414584320ull;
   w2c_j2 += w2c_j3;
   w2c_l12 = w2c_j2;
   w2c_j3 = w2c_l12;
-  w2c_j4 = w2c_p2;
+  w2c_j4 = w2c_p3;
   w2c_i3 = w2c_j3 > w2c_j4;
   w2c_j1 = w2c_i3 ? w2c_j1 : w2c_j2;
-  w2c_j2 = w2c_p2;
-  w2c_i3 = w2c_l21;
+  w2c_j2 = w2c_p3;
+  w2c_i3 = w2c_l18;
   w2c_i4 = 0u;
   w2c_i3 = (u32)((s32)w2c_i3 < (s32)w2c_i4);
   w2c_j1 = w2c_i3 ? w2c_j1 : w2c_j2;
@@ -44218,9 +45169,9 @@ static u32 w2c_rattle__export_tcp_c_connection_arrive(Machine * instance, u64 w2
   w2c_j2 = 8ull;
   w2c_j1 += w2c_j2;
   w2c_i0 = w2c_tcp_conn__endpoint__Endpoint__take_its_text(instance, w2c_j0, w2c_j1);
-  w2c_l21 = w2c_i0;
+  w2c_l18 = w2c_i0;
   w2c_i0 = 1u;
-  w2c_l32 = w2c_i0;
+  w2c_l31 = w2c_i0;
   w2c_j0 = w2c_l9;
   w2c_j1 = w2c_l8;
   w2c_j2 = 8ull;
@@ -44232,14 +45183,14 @@ static u32 w2c_rattle__export_tcp_c_connection_arrive(Machine * instance, u64 w2
   w2c_i2 = 1u;
   w2c_i1 &= w2c_i2;
   w2c_i0 -= w2c_i1;
-  w2c_i1 = w2c_l21;
+  w2c_i1 = w2c_l18;
   w2c_i0 &= w2c_i1;
-  w2c_i1 = w2c_l21;
+  w2c_i1 = w2c_l18;
   w2c_j2 = w2c_p5;
   w2c_j3 = w2c_l15;
   w2c_i2 = w2c_j2 == w2c_j3;
   w2c_i0 = w2c_i2 ? w2c_i0 : w2c_i1;
-  w2c_l32 = w2c_i0;
+  w2c_l31 = w2c_i0;
   w2c_B71:;
   w2c_i0 = 3u;
   w2c_l25 = w2c_i0;
@@ -44252,9 +45203,9 @@ static u32 w2c_rattle__export_tcp_c_connection_arrive(Machine * instance, u64 w2
   w2c_i0 = w2c_i0 != w2c_i1;
   if (w2c_i0) {goto w2c_B67;}
   w2c_i0 = 1u;
-  w2c_l31 = w2c_i0;
+  w2c_l30 = w2c_i0;
   w2c_i0 = 1u;
-  w2c_l21 = w2c_i0;
+  w2c_l18 = w2c_i0;
   w2c_j0 = w2c_l13;
   w2c_j1 = 0ull;
   w2c_i0 = w2c_j0 != w2c_j1;
@@ -44266,7 +45217,7 @@ static u32 w2c_rattle__export_tcp_c_connection_arrive(Machine * instance, u64 w2
   w2c_j0 = i64_load(&instance->w2c_memory, (u64)(w2c_i0));
   w2c_j1 = 0ull;
   w2c_i0 = w2c_j0 != w2c_j1;
-  w2c_l21 = w2c_i0;
+  w2c_l18 = w2c_i0;
   w2c_B72:;
   w2c_i0 = w2c_l27;
   w2c_i1 = 1u;
@@ -44275,9 +45226,9 @@ static u32 w2c_rattle__export_tcp_c_connection_arrive(Machine * instance, u64 w2
   w2c_j0 = w2c_p5;
   w2c_j1 = w2c_l15;
   w2c_i0 = w2c_j0 != w2c_j1;
-  w2c_i1 = w2c_l21;
+  w2c_i1 = w2c_l18;
   w2c_i0 &= w2c_i1;
-  w2c_l31 = w2c_i0;
+  w2c_l30 = w2c_i0;
   goto w2c_B67;
   w2c_B69:;
   w2c_j0 = w2c_l9;
@@ -44288,35 +45239,35 @@ static u32 w2c_rattle__export_tcp_c_connection_arrive(Machine * instance, u64 w2
   w2c_j0 = w2c_p4;
   w2c_j1 = 64ull;
   w2c_j0 += w2c_j1;
-  w2c_p2 = w2c_j0;
+  w2c_p3 = w2c_j0;
   w2c_j1 = 0ull;
-  w2c_j2 = w2c_p2;
+  w2c_j2 = w2c_p3;
   w2c_i2 = (u32)(w2c_j2);
   w2c_j2 = i64_load(&instance->w2c_memory, (u64)(w2c_i2));
-  w2c_p2 = w2c_j2;
-  w2c_i3 = w2c_l29;
+  w2c_p3 = w2c_j2;
+  w2c_i3 = w2c_l31;
   w2c_j4 = w2c_l9;
   w2c_j5 = 8ull;
   w2c_j4 += w2c_j5;
   w2c_i4 = (u32)(w2c_j4);
   w2c_i4 = i32_load(&instance->w2c_memory, (u64)(w2c_i4));
-  w2c_j5 = w2c_p2;
+  w2c_j5 = w2c_p3;
   w2c_i5 = (u32)(w2c_j5);
   w2c_i4 += w2c_i5;
   w2c_i3 -= w2c_i4;
-  w2c_l21 = w2c_i3;
+  w2c_l18 = w2c_i3;
   w2c_j3 = (u64)(w2c_i3);
   w2c_j2 += w2c_j3;
-  w2c_p2 = w2c_j2;
+  w2c_p3 = w2c_j2;
   w2c_j3 = 18446744069414584320ull;
   w2c_j2 += w2c_j3;
   w2c_l12 = w2c_j2;
   w2c_j3 = w2c_l12;
-  w2c_j4 = w2c_p2;
+  w2c_j4 = w2c_p3;
   w2c_i3 = w2c_j3 > w2c_j4;
   w2c_j1 = w2c_i3 ? w2c_j1 : w2c_j2;
-  w2c_j2 = w2c_p2;
-  w2c_i3 = w2c_l21;
+  w2c_j2 = w2c_p3;
+  w2c_i3 = w2c_l18;
   w2c_i4 = 0u;
   w2c_i3 = (u32)((s32)w2c_i3 < (s32)w2c_i4);
   w2c_j1 = w2c_i3 ? w2c_j1 : w2c_j2;
@@ -44330,11 +45281,11 @@ static u32 w2c_rattle__export_tcp_c_connection_arrive(Machine * instance, u64 w2
   w2c_j0 = w2c_l9;
   w2c_tcp_conn__endpoint__Endpoint__take_own_fin(instance, w2c_j0);
   w2c_i0 = 1u;
-  w2c_l21 = w2c_i0;
+  w2c_l18 = w2c_i0;
   w2c_j0 = w2c_p4;
   w2c_j1 = 385ull;
   w2c_j0 += w2c_j1;
-  w2c_p2 = w2c_j0;
+  w2c_p3 = w2c_j0;
   w2c_i0 = (u32)(w2c_j0);
   w2c_i0 = i32_load8_u(&instance->w2c_memory, (u64)(w2c_i0));
   if (w2c_i0) {goto w2c_B73;}
@@ -44345,11 +45296,11 @@ static u32 w2c_rattle__export_tcp_c_connection_arrive(Machine * instance, u64 w2
   w2c_i0 = i32_load8_u(&instance->w2c_memory, (u64)(w2c_i0));
   w2c_i1 = 0u;
   w2c_i0 = w2c_i0 != w2c_i1;
-  w2c_l21 = w2c_i0;
+  w2c_l18 = w2c_i0;
   w2c_B73:;
-  w2c_j0 = w2c_p2;
+  w2c_j0 = w2c_p3;
   w2c_i0 = (u32)(w2c_j0);
-  w2c_i1 = w2c_l21;
+  w2c_i1 = w2c_l18;
   i32_store8(&instance->w2c_memory, (u64)(w2c_i0), w2c_i1);
   w2c_i0 = 3u;
   w2c_l25 = w2c_i0;
@@ -44365,24 +45316,24 @@ static u32 w2c_rattle__export_tcp_c_connection_arrive(Machine * instance, u64 w2
   w2c_j3 = w2c_l15;
   w2c_i2 = w2c_j2 == w2c_j3;
   w2c_i0 = w2c_i2 ? w2c_i0 : w2c_i1;
-  w2c_l32 = w2c_i0;
+  w2c_l31 = w2c_i0;
   w2c_j0 = w2c_l9;
   w2c_j1 = 385ull;
   w2c_j0 += w2c_j1;
   w2c_i0 = (u32)(w2c_j0);
   w2c_i0 = i32_load8_u(&instance->w2c_memory, (u64)(w2c_i0));
-  w2c_l31 = w2c_i0;
+  w2c_l30 = w2c_i0;
   goto w2c_B67;
   w2c_B68:;
   w2c_j0 = w2c_l9;
-  w2c_i1 = w2c_l30;
-  w2c_i2 = w2c_l19;
+  w2c_i1 = w2c_l29;
+  w2c_i2 = w2c_l20;
   w2c_j3 = w2c_l8;
   w2c_j4 = 8ull;
   w2c_j3 += w2c_j4;
   w2c_tcp_conn__endpoint__Endpoint__follow_other(instance, w2c_j0, w2c_i1, w2c_i2, w2c_j3);
   w2c_i0 = 0u;
-  w2c_l31 = w2c_i0;
+  w2c_l30 = w2c_i0;
   w2c_i0 = 3u;
   w2c_l25 = w2c_i0;
   w2c_i0 = 0u;
@@ -44397,19 +45348,19 @@ static u32 w2c_rattle__export_tcp_c_connection_arrive(Machine * instance, u64 w2
   w2c_j3 = w2c_l15;
   w2c_i2 = w2c_j2 == w2c_j3;
   w2c_i0 = w2c_i2 ? w2c_i0 : w2c_i1;
-  w2c_l32 = w2c_i0;
-  w2c_i0 = w2c_l21;
+  w2c_l31 = w2c_i0;
+  w2c_i0 = w2c_l18;
   w2c_i1 = 8u;
   w2c_i0 = w2c_i0 == w2c_i1;
   w2c_l24 = w2c_i0;
   w2c_i0 = 1u;
-  w2c_i1 = w2c_l21;
+  w2c_i1 = w2c_l18;
   w2c_i0 <<= (w2c_i1 & 31);
-  w2c_l21 = w2c_i0;
+  w2c_l18 = w2c_i0;
   w2c_i1 = 129630u;
   w2c_i0 &= w2c_i1;
   if (w2c_i0) {goto w2c_B75;}
-  w2c_i0 = w2c_l21;
+  w2c_i0 = w2c_l18;
   w2c_i1 = 1440u;
   w2c_i0 &= w2c_i1;
   if (w2c_i0) {goto w2c_B74;}
@@ -44421,9 +45372,9 @@ static u32 w2c_rattle__export_tcp_c_connection_arrive(Machine * instance, u64 w2
   w2c_l25 = w2c_i0;
   w2c_B74:;
   w2c_i0 = 1u;
-  w2c_l31 = w2c_i0;
+  w2c_l30 = w2c_i0;
   w2c_i0 = 1u;
-  w2c_i1 = w2c_l30;
+  w2c_i1 = w2c_l29;
   w2c_i2 = 255u;
   w2c_i1 &= w2c_i2;
   w2c_i0 <<= (w2c_i1 & 31);
@@ -44431,30 +45382,30 @@ static u32 w2c_rattle__export_tcp_c_connection_arrive(Machine * instance, u64 w2
   w2c_i0 &= w2c_i1;
   if (w2c_i0) {goto w2c_B67;}
   w2c_i0 = 0u;
-  w2c_l31 = w2c_i0;
+  w2c_l30 = w2c_i0;
   w2c_B67:;
   w2c_j0 = w2c_l7;
   w2c_i0 = (u32)(w2c_j0);
   w2c_j0 = i64_load(&instance->w2c_memory, (u64)(w2c_i0));
   w2c_l7 = w2c_j0;
-  w2c_j1 = w2c_p3;
+  w2c_j1 = w2c_p1;
   w2c_j0 -= w2c_j1;
   w2c_p5 = w2c_j0;
   w2c_j1 = w2c_l7;
   w2c_i0 = w2c_j0 > w2c_j1;
-  w2c_l21 = w2c_i0;
+  w2c_l18 = w2c_i0;
   w2c_j0 = w2c_l9;
   w2c_j1 = 224ull;
   w2c_j0 += w2c_j1;
   w2c_l7 = w2c_j0;
   w2c_i0 = 0u;
   w2c_l27 = w2c_i0;
-  w2c_i0 = w2c_l22;
+  w2c_i0 = w2c_l21;
   w2c_i1 = 10u;
   w2c_i0 = w2c_i0 != w2c_i1;
   if (w2c_i0) {goto w2c_B76;}
   w2c_i0 = 1u;
-  w2c_i1 = w2c_l30;
+  w2c_i1 = w2c_l29;
   w2c_i2 = 255u;
   w2c_i1 &= w2c_i2;
   w2c_i0 <<= (w2c_i1 & 31);
@@ -44470,17 +45421,17 @@ static u32 w2c_rattle__export_tcp_c_connection_arrive(Machine * instance, u64 w2
   w2c_B76:;
   w2c_j0 = 0ull;
   w2c_j1 = w2c_p5;
-  w2c_i2 = w2c_l21;
+  w2c_i2 = w2c_l18;
   w2c_j0 = w2c_i2 ? w2c_j0 : w2c_j1;
-  w2c_p2 = w2c_j0;
+  w2c_p3 = w2c_j0;
   w2c_j0 = w2c_l7;
   w2c_i0 = (u32)(w2c_j0);
   w2c_i0 = i32_load(&instance->w2c_memory, (u64)(w2c_i0));
   w2c_l34 = w2c_i0;
   w2c_i0 = 1u;
-  w2c_l21 = w2c_i0;
+  w2c_l18 = w2c_i0;
   w2c_i0 = 1u;
-  w2c_i1 = w2c_l30;
+  w2c_i1 = w2c_l29;
   w2c_i2 = 255u;
   w2c_i1 &= w2c_i2;
   w2c_i0 <<= (w2c_i1 & 31);
@@ -44495,9 +45446,9 @@ static u32 w2c_rattle__export_tcp_c_connection_arrive(Machine * instance, u64 w2
   goto w2c_B77;
   w2c_B80:;
   w2c_i0 = 0u;
-  w2c_l20 = w2c_i0;
+  w2c_l23 = w2c_i0;
   w2c_i0 = w2c_l24;
-  w2c_i1 = w2c_l32;
+  w2c_i1 = w2c_l31;
   w2c_i2 = 255u;
   w2c_i1 &= w2c_i2;
   w2c_i2 = 0u;
@@ -44505,9 +45456,9 @@ static u32 w2c_rattle__export_tcp_c_connection_arrive(Machine * instance, u64 w2
   w2c_i0 |= w2c_i1;
   w2c_l28 = w2c_i0;
   w2c_j0 = 0ull;
-  w2c_p5 = w2c_j0;
+  w2c_p1 = w2c_j0;
   w2c_i0 = 1u;
-  w2c_l33 = w2c_i0;
+  w2c_l32 = w2c_i0;
   goto w2c_B78;
   w2c_B79:;
   w2c_i0 = 0u;
@@ -44515,13 +45466,13 @@ static u32 w2c_rattle__export_tcp_c_connection_arrive(Machine * instance, u64 w2
   w2c_i0 = w2c_l24;
   if (w2c_i0) {goto w2c_B77;}
   w2c_j0 = 0ull;
-  w2c_p5 = w2c_j0;
+  w2c_p1 = w2c_j0;
   w2c_i0 = 1u;
-  w2c_l21 = w2c_i0;
+  w2c_l18 = w2c_i0;
   w2c_i0 = 1u;
-  w2c_l33 = w2c_i0;
+  w2c_l32 = w2c_i0;
   w2c_i0 = 0u;
-  w2c_l20 = w2c_i0;
+  w2c_l23 = w2c_i0;
   w2c_B78:;
   w2c_i0 = 0u;
   w2c_l26 = w2c_i0;
@@ -44529,20 +45480,26 @@ static u32 w2c_rattle__export_tcp_c_connection_arrive(Machine * instance, u64 w2
   w2c_B77:;
   w2c_i0 = w2c_l34;
   w2c_j0 = (u64)(w2c_i0);
-  w2c_p5 = w2c_j0;
+  w2c_p1 = w2c_j0;
   w2c_i0 = 1u;
-  w2c_l21 = w2c_i0;
+  w2c_l18 = w2c_i0;
   w2c_i0 = 1u;
-  w2c_l33 = w2c_i0;
+  w2c_l32 = w2c_i0;
   w2c_i0 = 1u;
-  w2c_l20 = w2c_i0;
+  w2c_l23 = w2c_i0;
   w2c_i0 = 1u;
   w2c_l26 = w2c_i0;
   w2c_B3:;
-  w2c_j0 = w2c_p1;
-  w2c_j1 = w2c_l11;
+  w2c_j0 = w2c_l11;
+  w2c_j1 = w2c_p2;
   w2c_i0 = w2c_j0 > w2c_j1;
   w2c_l24 = w2c_i0;
+  w2c_j0 = w2c_l9;
+  w2c_j1 = 632ull;
+  w2c_j0 += w2c_j1;
+  w2c_i0 = (u32)(w2c_j0);
+  w2c_j0 = i64_load(&instance->w2c_memory, (u64)(w2c_i0));
+  w2c_p5 = w2c_j0;
   w2c_j0 = w2c_l9;
   w2c_j1 = 64ull;
   w2c_j0 += w2c_j1;
@@ -44551,11 +45508,7 @@ static u32 w2c_rattle__export_tcp_c_connection_arrive(Machine * instance, u64 w2
   w2c_l7 = w2c_j0;
   w2c_i0 = !(w2c_j0);
   if (w2c_i0) {goto w2c_B81;}
-  w2c_j0 = w2c_l9;
-  w2c_j1 = 632ull;
-  w2c_j0 += w2c_j1;
-  w2c_i0 = (u32)(w2c_j0);
-  w2c_j0 = i64_load(&instance->w2c_memory, (u64)(w2c_i0));
+  w2c_j0 = w2c_p5;
   w2c_j1 = 0ull;
   w2c_i0 = w2c_j0 != w2c_j1;
   if (w2c_i0) {goto w2c_B81;}
@@ -44576,46 +45529,46 @@ static u32 w2c_rattle__export_tcp_c_connection_arrive(Machine * instance, u64 w2
   w2c_j1 += w2c_j2;
   w2c_i1 = (u32)(w2c_j1);
   w2c_j1 = i64_load(&instance->w2c_memory, (u64)(w2c_i1));
-  w2c_p3 = w2c_j1;
+  w2c_l10 = w2c_j1;
   w2c_i0 = w2c_j0 >= w2c_j1;
   if (w2c_i0) {goto w2c_B81;}
   w2c_j0 = w2c_l9;
   w2c_j1 = 544ull;
   w2c_j0 += w2c_j1;
   w2c_i0 = (u32)(w2c_j0);
-  w2c_j1 = w2c_p3;
+  w2c_j1 = w2c_l10;
   w2c_j2 = w2c_l9;
   w2c_j3 = 488ull;
   w2c_j2 += w2c_j3;
   w2c_i2 = (u32)(w2c_j2);
   w2c_j2 = i64_load(&instance->w2c_memory, (u64)(w2c_i2));
-  w2c_l10 = w2c_j2;
-  w2c_j3 = w2c_p3;
-  w2c_j4 = w2c_l10;
+  w2c_l12 = w2c_j2;
+  w2c_j3 = w2c_l10;
+  w2c_j4 = w2c_l12;
   w2c_i3 = w2c_j3 > w2c_j4;
   w2c_j1 = w2c_i3 ? w2c_j1 : w2c_j2;
-  w2c_p3 = w2c_j1;
+  w2c_l10 = w2c_j1;
   w2c_j2 = w2c_l9;
   w2c_j3 = 496ull;
   w2c_j2 += w2c_j3;
   w2c_i2 = (u32)(w2c_j2);
   w2c_j2 = i64_load(&instance->w2c_memory, (u64)(w2c_i2));
-  w2c_l10 = w2c_j2;
-  w2c_j3 = w2c_p3;
-  w2c_j4 = w2c_l10;
+  w2c_l12 = w2c_j2;
+  w2c_j3 = w2c_l10;
+  w2c_j4 = w2c_l12;
   w2c_i3 = w2c_j3 < w2c_j4;
   w2c_j1 = w2c_i3 ? w2c_j1 : w2c_j2;
   i64_store(&instance->w2c_memory, (u64)(w2c_i0), w2c_j1);
   w2c_B81:;
-  w2c_j0 = w2c_p1;
-  w2c_j1 = w2c_l11;
+  w2c_j0 = w2c_l11;
+  w2c_j1 = w2c_p2;
   w2c_i2 = w2c_l24;
   w2c_j0 = w2c_i2 ? w2c_j0 : w2c_j1;
-  w2c_p3 = w2c_j0;
+  w2c_p2 = w2c_j0;
   w2c_j0 = w2c_p4;
   w2c_j1 = 560ull;
   w2c_j0 += w2c_j1;
-  w2c_p1 = w2c_j0;
+  w2c_l10 = w2c_j0;
   w2c_i0 = (u32)(w2c_j0);
   w2c_i0 = i32_load8_u(&instance->w2c_memory, (u64)(w2c_i0));
   w2c_i1 = 1u;
@@ -44634,45 +45587,45 @@ static u32 w2c_rattle__export_tcp_c_connection_arrive(Machine * instance, u64 w2
   w2c_j0 += w2c_j1;
   w2c_i0 = (u32)(w2c_j0);
   w2c_j0 = i64_load(&instance->w2c_memory, (u64)(w2c_i0));
-  w2c_l10 = w2c_j0;
-  w2c_j0 = w2c_p1;
+  w2c_l11 = w2c_j0;
+  w2c_j0 = w2c_l10;
   w2c_i0 = (u32)(w2c_j0);
   w2c_j1 = 0ull;
   i64_store(&instance->w2c_memory, (u64)(w2c_i0) + 16, w2c_j1);
-  w2c_j0 = w2c_p1;
+  w2c_j0 = w2c_l10;
   w2c_i0 = (u32)(w2c_j0);
   w2c_j1 = 0ull;
   i64_store(&instance->w2c_memory, (u64)(w2c_i0) + 8, w2c_j1);
-  w2c_j0 = w2c_p1;
+  w2c_j0 = w2c_l10;
   w2c_i0 = (u32)(w2c_j0);
   w2c_j1 = 0ull;
   i64_store(&instance->w2c_memory, (u64)(w2c_i0), w2c_j1);
   w2c_j0 = 0ull;
-  w2c_j1 = w2c_p3;
-  w2c_j2 = w2c_l10;
+  w2c_j1 = w2c_p2;
+  w2c_j2 = w2c_l11;
   w2c_j1 -= w2c_j2;
-  w2c_p1 = w2c_j1;
-  w2c_j2 = w2c_p1;
-  w2c_j3 = w2c_p3;
+  w2c_l10 = w2c_j1;
+  w2c_j2 = w2c_l10;
+  w2c_j3 = w2c_p2;
   w2c_i2 = w2c_j2 > w2c_j3;
   w2c_j0 = w2c_i2 ? w2c_j0 : w2c_j1;
-  w2c_p1 = w2c_j0;
+  w2c_l10 = w2c_j0;
   w2c_j1 = 1099511627776ull;
-  w2c_j2 = w2c_p1;
+  w2c_j2 = w2c_l10;
   w2c_j3 = 1099511627776ull;
   w2c_i2 = w2c_j2 < w2c_j3;
   w2c_j0 = w2c_i2 ? w2c_j0 : w2c_j1;
-  w2c_p1 = w2c_j0;
+  w2c_l10 = w2c_j0;
   w2c_j0 = w2c_p4;
   w2c_j1 = 520ull;
   w2c_j0 += w2c_j1;
   w2c_i0 = (u32)(w2c_j0);
   w2c_i0 = i32_load8_u(&instance->w2c_memory, (u64)(w2c_i0));
   if (w2c_i0) {goto w2c_B84;}
-  w2c_j0 = w2c_p1;
+  w2c_j0 = w2c_l10;
   w2c_j1 = 1ull;
   w2c_j0 >>= (w2c_j1 & 63);
-  w2c_l10 = w2c_j0;
+  w2c_l11 = w2c_j0;
   goto w2c_B83;
   w2c_B84:;
   w2c_j0 = w2c_l9;
@@ -44680,14 +45633,14 @@ static u32 w2c_rattle__export_tcp_c_connection_arrive(Machine * instance, u64 w2
   w2c_j0 += w2c_j1;
   w2c_i0 = (u32)(w2c_j0);
   w2c_j0 = i64_load(&instance->w2c_memory, (u64)(w2c_i0));
-  w2c_l11 = w2c_j0;
-  w2c_j1 = w2c_p1;
+  w2c_l12 = w2c_j0;
+  w2c_j1 = w2c_l10;
   w2c_j0 -= w2c_j1;
-  w2c_j1 = w2c_p1;
-  w2c_j2 = w2c_l11;
+  w2c_j1 = w2c_l10;
+  w2c_j2 = w2c_l12;
   w2c_j1 -= w2c_j2;
-  w2c_j2 = w2c_l11;
-  w2c_j3 = w2c_p1;
+  w2c_j2 = w2c_l12;
+  w2c_j3 = w2c_l10;
   w2c_i2 = w2c_j2 > w2c_j3;
   w2c_j0 = w2c_i2 ? w2c_j0 : w2c_j1;
   w2c_j1 = w2c_l9;
@@ -44700,15 +45653,15 @@ static u32 w2c_rattle__export_tcp_c_connection_arrive(Machine * instance, u64 w2
   w2c_j0 += w2c_j1;
   w2c_j1 = 2ull;
   w2c_j0 >>= (w2c_j1 & 63);
-  w2c_l10 = w2c_j0;
-  w2c_j0 = w2c_l11;
+  w2c_l11 = w2c_j0;
+  w2c_j0 = w2c_l12;
   w2c_j1 = 7ull;
   w2c_j0 *= w2c_j1;
-  w2c_j1 = w2c_p1;
+  w2c_j1 = w2c_l10;
   w2c_j0 += w2c_j1;
   w2c_j1 = 3ull;
   w2c_j0 >>= (w2c_j1 & 63);
-  w2c_p1 = w2c_j0;
+  w2c_l10 = w2c_j0;
   w2c_B83:;
   w2c_j0 = w2c_p4;
   w2c_j1 = 520ull;
@@ -44720,24 +45673,37 @@ static u32 w2c_rattle__export_tcp_c_connection_arrive(Machine * instance, u64 w2
   w2c_j1 = 536ull;
   w2c_j0 += w2c_j1;
   w2c_i0 = (u32)(w2c_j0);
-  w2c_j1 = w2c_l10;
+  w2c_j1 = w2c_l11;
   i64_store(&instance->w2c_memory, (u64)(w2c_i0), w2c_j1);
   w2c_j0 = w2c_l9;
   w2c_j1 = 528ull;
   w2c_j0 += w2c_j1;
   w2c_i0 = (u32)(w2c_j0);
-  w2c_j1 = w2c_p1;
+  w2c_j1 = w2c_l10;
   i64_store(&instance->w2c_memory, (u64)(w2c_i0), w2c_j1);
   w2c_j0 = w2c_l9;
   w2c_j1 = 544ull;
   w2c_j0 += w2c_j1;
   w2c_i0 = (u32)(w2c_j0);
-  w2c_j1 = w2c_l10;
+  w2c_j1 = w2c_l11;
   w2c_j2 = 2ull;
   w2c_j1 <<= (w2c_j2 & 63);
-  w2c_l10 = w2c_j1;
+  w2c_l11 = w2c_j1;
   w2c_j2 = w2c_l9;
   w2c_j3 = 504ull;
+  w2c_j2 += w2c_j3;
+  w2c_i2 = (u32)(w2c_j2);
+  w2c_j2 = i64_load(&instance->w2c_memory, (u64)(w2c_i2));
+  w2c_l12 = w2c_j2;
+  w2c_j3 = w2c_l11;
+  w2c_j4 = w2c_l12;
+  w2c_i3 = w2c_j3 > w2c_j4;
+  w2c_j1 = w2c_i3 ? w2c_j1 : w2c_j2;
+  w2c_j2 = w2c_l10;
+  w2c_j1 += w2c_j2;
+  w2c_l10 = w2c_j1;
+  w2c_j2 = w2c_l9;
+  w2c_j3 = 488ull;
   w2c_j2 += w2c_j3;
   w2c_i2 = (u32)(w2c_j2);
   w2c_j2 = i64_load(&instance->w2c_memory, (u64)(w2c_i2));
@@ -44746,34 +45712,21 @@ static u32 w2c_rattle__export_tcp_c_connection_arrive(Machine * instance, u64 w2
   w2c_j4 = w2c_l11;
   w2c_i3 = w2c_j3 > w2c_j4;
   w2c_j1 = w2c_i3 ? w2c_j1 : w2c_j2;
-  w2c_j2 = w2c_p1;
-  w2c_j1 += w2c_j2;
-  w2c_p1 = w2c_j1;
-  w2c_j2 = w2c_l9;
-  w2c_j3 = 488ull;
-  w2c_j2 += w2c_j3;
-  w2c_i2 = (u32)(w2c_j2);
-  w2c_j2 = i64_load(&instance->w2c_memory, (u64)(w2c_i2));
-  w2c_l10 = w2c_j2;
-  w2c_j3 = w2c_p1;
-  w2c_j4 = w2c_l10;
-  w2c_i3 = w2c_j3 > w2c_j4;
-  w2c_j1 = w2c_i3 ? w2c_j1 : w2c_j2;
-  w2c_p1 = w2c_j1;
+  w2c_l10 = w2c_j1;
   w2c_j2 = w2c_l9;
   w2c_j3 = 496ull;
   w2c_j2 += w2c_j3;
   w2c_i2 = (u32)(w2c_j2);
   w2c_j2 = i64_load(&instance->w2c_memory, (u64)(w2c_i2));
-  w2c_l10 = w2c_j2;
-  w2c_j3 = w2c_p1;
-  w2c_j4 = w2c_l10;
+  w2c_l11 = w2c_j2;
+  w2c_j3 = w2c_l10;
+  w2c_j4 = w2c_l11;
   w2c_i3 = w2c_j3 < w2c_j4;
   w2c_j1 = w2c_i3 ? w2c_j1 : w2c_j2;
   i64_store(&instance->w2c_memory, (u64)(w2c_i0), w2c_j1);
   w2c_B82:;
-  w2c_i0 = w2c_l20;
-  w2c_j1 = w2c_p5;
+  w2c_i0 = w2c_l23;
+  w2c_j1 = w2c_p1;
   w2c_j2 = 0ull;
   w2c_i1 = w2c_j1 != w2c_j2;
   w2c_j2 = w2c_p4;
@@ -44781,7 +45734,7 @@ static u32 w2c_rattle__export_tcp_c_connection_arrive(Machine * instance, u64 w2
   w2c_j2 += w2c_j3;
   w2c_i2 = (u32)(w2c_j2);
   w2c_i2 = i32_load8_u(&instance->w2c_memory, (u64)(w2c_i2));
-  w2c_l29 = w2c_i2;
+  w2c_l33 = w2c_i2;
   w2c_i1 &= w2c_i2;
   w2c_i0 &= w2c_i1;
   w2c_i1 = 1u;
@@ -44806,15 +45759,15 @@ static u32 w2c_rattle__export_tcp_c_connection_arrive(Machine * instance, u64 w2
   w2c_j1 = i64_load(&instance->w2c_memory, (u64)(w2c_i1));
   w2c_j2 = 2ull;
   w2c_j1 <<= (w2c_j2 & 63);
-  w2c_p5 = w2c_j1;
+  w2c_p1 = w2c_j1;
   w2c_j2 = w2c_l9;
   w2c_j3 = 504ull;
   w2c_j2 += w2c_j3;
   w2c_i2 = (u32)(w2c_j2);
   w2c_j2 = i64_load(&instance->w2c_memory, (u64)(w2c_i2));
-  w2c_p1 = w2c_j2;
-  w2c_j3 = w2c_p5;
-  w2c_j4 = w2c_p1;
+  w2c_l10 = w2c_j2;
+  w2c_j3 = w2c_p1;
+  w2c_j4 = w2c_l10;
   w2c_i3 = w2c_j3 > w2c_j4;
   w2c_j1 = w2c_i3 ? w2c_j1 : w2c_j2;
   w2c_j2 = w2c_l9;
@@ -44823,26 +45776,26 @@ static u32 w2c_rattle__export_tcp_c_connection_arrive(Machine * instance, u64 w2
   w2c_i2 = (u32)(w2c_j2);
   w2c_j2 = i64_load(&instance->w2c_memory, (u64)(w2c_i2));
   w2c_j1 += w2c_j2;
-  w2c_p5 = w2c_j1;
+  w2c_p1 = w2c_j1;
   w2c_j2 = w2c_l9;
   w2c_j3 = 488ull;
   w2c_j2 += w2c_j3;
   w2c_i2 = (u32)(w2c_j2);
   w2c_j2 = i64_load(&instance->w2c_memory, (u64)(w2c_i2));
-  w2c_p1 = w2c_j2;
-  w2c_j3 = w2c_p5;
-  w2c_j4 = w2c_p1;
+  w2c_l10 = w2c_j2;
+  w2c_j3 = w2c_p1;
+  w2c_j4 = w2c_l10;
   w2c_i3 = w2c_j3 > w2c_j4;
   w2c_j1 = w2c_i3 ? w2c_j1 : w2c_j2;
-  w2c_p5 = w2c_j1;
+  w2c_p1 = w2c_j1;
   w2c_j2 = w2c_l9;
   w2c_j3 = 496ull;
   w2c_j2 += w2c_j3;
   w2c_i2 = (u32)(w2c_j2);
   w2c_j2 = i64_load(&instance->w2c_memory, (u64)(w2c_i2));
-  w2c_p1 = w2c_j2;
-  w2c_j3 = w2c_p5;
-  w2c_j4 = w2c_p1;
+  w2c_l10 = w2c_j2;
+  w2c_j3 = w2c_p1;
+  w2c_j4 = w2c_l10;
   w2c_i3 = w2c_j3 < w2c_j4;
   w2c_j1 = w2c_i3 ? w2c_j1 : w2c_j2;
   i64_store(&instance->w2c_memory, (u64)(w2c_i0), w2c_j1);
@@ -44863,8 +45816,8 @@ static u32 w2c_rattle__export_tcp_c_connection_arrive(Machine * instance, u64 w2
   w2c_l24 = w2c_i0;
   goto w2c_B85;
   w2c_B86:;
-  w2c_i0 = w2c_l20;
-  w2c_j1 = w2c_p5;
+  w2c_i0 = w2c_l23;
+  w2c_j1 = w2c_p1;
   w2c_i1 = !(w2c_j1);
   w2c_l24 = w2c_i1;
   w2c_j2 = w2c_l7;
@@ -44901,8 +45854,8 @@ static u32 w2c_rattle__export_tcp_c_connection_arrive(Machine * instance, u64 w2
   w2c_j0 += w2c_j1;
   w2c_i0 = (u32)(w2c_j0);
   w2c_i1 = w2c_l24;
-  w2c_i2 = w2c_l29;
-  w2c_i3 = w2c_l20;
+  w2c_i2 = w2c_l33;
+  w2c_i3 = w2c_l23;
   w2c_i1 = w2c_i3 ? w2c_i1 : w2c_i2;
   w2c_i2 = 1u;
   w2c_i1 &= w2c_i2;
@@ -44948,7 +45901,7 @@ static u32 w2c_rattle__export_tcp_c_connection_arrive(Machine * instance, u64 w2
   w2c_j0 += w2c_j1;
   w2c_i0 = (u32)(w2c_j0);
   w2c_i0 = i32_load8_u(&instance->w2c_memory, (u64)(w2c_i0));
-  w2c_l20 = w2c_i0;
+  w2c_l23 = w2c_i0;
   w2c_i1 = 254u;
   w2c_i0 &= w2c_i1;
   w2c_i1 = 2u;
@@ -44957,7 +45910,7 @@ static u32 w2c_rattle__export_tcp_c_connection_arrive(Machine * instance, u64 w2
   w2c_i0 = 1u;
   w2c_l24 = w2c_i0;
   w2c_i0 = 1u;
-  w2c_i1 = w2c_l20;
+  w2c_i1 = w2c_l23;
   w2c_i0 <<= (w2c_i1 & 31);
   w2c_i1 = 944u;
   w2c_i0 &= w2c_i1;
@@ -44972,10 +45925,10 @@ static u32 w2c_rattle__export_tcp_c_connection_arrive(Machine * instance, u64 w2
   w2c_j1 += w2c_j2;
   w2c_i1 = (u32)(w2c_j1);
   w2c_j1 = i64_load(&instance->w2c_memory, (u64)(w2c_i1));
-  w2c_p5 = w2c_j1;
+  w2c_p1 = w2c_j1;
   w2c_i0 = w2c_j0 < w2c_j1;
   if (w2c_i0) {goto w2c_B90;}
-  w2c_i0 = w2c_l20;
+  w2c_i0 = w2c_l23;
   w2c_i1 = 6u;
   w2c_i0 = w2c_i0 != w2c_i1;
   if (w2c_i0) {goto w2c_B92;}
@@ -44986,7 +45939,7 @@ static u32 w2c_rattle__export_tcp_c_connection_arrive(Machine * instance, u64 w2
   w2c_i0 = 0u;
   w2c_l24 = w2c_i0;
   w2c_j0 = w2c_l7;
-  w2c_j1 = w2c_p5;
+  w2c_j1 = w2c_p1;
   w2c_i0 = w2c_j0 != w2c_j1;
   if (w2c_i0) {goto w2c_B90;}
   w2c_i0 = w2c_l34;
@@ -45006,8 +45959,8 @@ static u32 w2c_rattle__export_tcp_c_connection_arrive(Machine * instance, u64 w2
   w2c_j3 ^= w2c_j4;
   w2c_j4 = w2c_l7;
   w2c_j3 += w2c_j4;
-  w2c_p5 = w2c_j3;
-  w2c_j4 = w2c_p5;
+  w2c_p1 = w2c_j3;
+  w2c_j4 = w2c_p1;
   w2c_j5 = w2c_l7;
   w2c_i4 = w2c_j4 > w2c_j5;
   w2c_j2 = w2c_i4 ? w2c_j2 : w2c_j3;
@@ -45018,65 +45971,158 @@ static u32 w2c_rattle__export_tcp_c_connection_arrive(Machine * instance, u64 w2
   w2c_j0 = w2c_l9;
   w2c_j1 = 416ull;
   w2c_j0 += w2c_j1;
-  w2c_p5 = w2c_j0;
+  w2c_p1 = w2c_j0;
   w2c_i0 = 0u;
-  w2c_l28 = w2c_i0;
+  w2c_l27 = w2c_i0;
   w2c_i0 = 1u;
-  w2c_i1 = w2c_l20;
+  w2c_i1 = w2c_l23;
   w2c_i0 <<= (w2c_i1 & 31);
   w2c_i1 = 1103u;
   w2c_i0 &= w2c_i1;
   if (w2c_i0) {goto w2c_B93;}
-  w2c_j0 = w2c_l9;
-  w2c_j1 = 160ull;
-  w2c_j0 += w2c_j1;
-  w2c_i0 = (u32)(w2c_j0);
-  w2c_j0 = i64_load(&instance->w2c_memory, (u64)(w2c_i0));
-  w2c_j1 = 0ull;
-  w2c_i0 = w2c_j0 != w2c_j1;
-  w2c_l28 = w2c_i0;
+  w2c_i0 = 0u;
+  w2c_i1 = 256u;
+  w2c_j2 = w2c_l9;
+  w2c_j3 = 160ull;
+  w2c_j2 += w2c_j3;
+  w2c_i2 = (u32)(w2c_j2);
+  w2c_j2 = i64_load(&instance->w2c_memory, (u64)(w2c_i2));
+  w2c_i2 = !(w2c_j2);
+  w2c_i0 = w2c_i2 ? w2c_i0 : w2c_i1;
+  w2c_l27 = w2c_i0;
   w2c_B93:;
   w2c_i0 = 0u;
-  w2c_l29 = w2c_i0;
-  w2c_i0 = 0u;
-  w2c_l27 = w2c_i0;
-  w2c_i0 = w2c_l20;
+  w2c_l28 = w2c_i0;
+  w2c_i0 = w2c_l23;
   w2c_i1 = 6u;
   w2c_i0 = w2c_i0 != w2c_i1;
   if (w2c_i0) {goto w2c_B94;}
-  w2c_j0 = w2c_l9;
-  w2c_j1 = 320ull;
-  w2c_j0 += w2c_j1;
-  w2c_i0 = (u32)(w2c_j0);
-  w2c_j0 = i64_load(&instance->w2c_memory, (u64)(w2c_i0));
-  w2c_i0 = !(w2c_j0);
-  w2c_l27 = w2c_i0;
+  w2c_i0 = 16777216u;
+  w2c_i1 = 0u;
+  w2c_j2 = w2c_l9;
+  w2c_j3 = 320ull;
+  w2c_j2 += w2c_j3;
+  w2c_i2 = (u32)(w2c_j2);
+  w2c_j2 = i64_load(&instance->w2c_memory, (u64)(w2c_i2));
+  w2c_i2 = !(w2c_j2);
+  w2c_i0 = w2c_i2 ? w2c_i0 : w2c_i1;
+  w2c_l28 = w2c_i0;
   w2c_B94:;
   w2c_j0 = w2c_l8;
   w2c_i0 = (u32)(w2c_j0);
-  w2c_i1 = w2c_l27;
-  i32_store8(&instance->w2c_memory, (u64)(w2c_i0) + 7, w2c_i1);
-  w2c_j0 = w2c_l8;
-  w2c_i0 = (u32)(w2c_j0);
-  w2c_i1 = w2c_l28;
-  i32_store8(&instance->w2c_memory, (u64)(w2c_i0) + 5, w2c_i1);
-  w2c_j0 = w2c_l8;
-  w2c_i0 = (u32)(w2c_j0);
   w2c_i1 = w2c_l24;
-  i32_store8(&instance->w2c_memory, (u64)(w2c_i0) + 4, w2c_i1);
-  w2c_j0 = w2c_l8;
+  w2c_i2 = 65536u;
+  w2c_i3 = 0u;
+  w2c_i4 = w2c_l23;
+  w2c_i5 = 10u;
+  w2c_i4 = w2c_i4 == w2c_i5;
+  w2c_i2 = w2c_i4 ? w2c_i2 : w2c_i3;
+  w2c_i1 |= w2c_i2;
+  w2c_i2 = w2c_l27;
+  w2c_i1 |= w2c_i2;
+  w2c_i2 = w2c_l28;
+  w2c_i1 |= w2c_i2;
+  i32_store(&instance->w2c_memory, (u64)(w2c_i0) + 8, w2c_i1);
+  w2c_j0 = w2c_l7;
+  w2c_j1 = w2c_p5;
+  w2c_i0 = w2c_j0 != w2c_j1;
+  if (w2c_i0) {goto w2c_B96;}
+  w2c_j0 = w2c_l9;
+  w2c_j1 = 584ull;
+  w2c_j0 += w2c_j1;
   w2c_i0 = (u32)(w2c_j0);
-  w2c_i1 = w2c_l20;
-  w2c_i2 = 10u;
-  w2c_i1 = w2c_i1 == w2c_i2;
-  i32_store8(&instance->w2c_memory, (u64)(w2c_i0) + 6, w2c_i1);
-  w2c_j0 = w2c_p5;
+  w2c_i0 = i32_load8_u(&instance->w2c_memory, (u64)(w2c_i0));
+  w2c_i1 = 1u;
+  w2c_i0 = w2c_i0 != w2c_i1;
+  w2c_i1 = w2c_l24;
+  w2c_i0 = w2c_i0 == w2c_i1;
+  if (w2c_i0) {goto w2c_B96;}
+  w2c_j0 = w2c_l9;
+  w2c_j1 = 640ull;
+  w2c_j0 += w2c_j1;
+  w2c_i0 = (u32)(w2c_j0);
+  w2c_i0 = i32_load8_u(&instance->w2c_memory, (u64)(w2c_i0));
+  w2c_l33 = w2c_i0;
+  w2c_i1 = 1u;
+  w2c_i0 = w2c_i0 == w2c_i1;
+  if (w2c_i0) {goto w2c_B98;}
+  w2c_i0 = w2c_l24;
+  if (w2c_i0) {goto w2c_B98;}
+  w2c_j0 = w2c_l9;
+  w2c_j1 = 656ull;
+  w2c_j0 += w2c_j1;
+  w2c_i0 = (u32)(w2c_j0);
+  w2c_i0 = i32_load(&instance->w2c_memory, (u64)(w2c_i0));
+  if (w2c_i0) {goto w2c_B96;}
+  w2c_j0 = w2c_l9;
+  w2c_j1 = 660ull;
+  w2c_j0 += w2c_j1;
+  w2c_i0 = (u32)(w2c_j0);
+  w2c_i0 = i32_load8_u(&instance->w2c_memory, (u64)(w2c_i0));
+  w2c_i0 = !(w2c_i0);
+  if (w2c_i0) {goto w2c_B97;}
+  goto w2c_B96;
+  w2c_B98:;
+  w2c_i0 = w2c_l33;
+  w2c_i1 = 1u;
+  w2c_i0 = w2c_i0 != w2c_i1;
+  if (w2c_i0) {goto w2c_B96;}
+  w2c_i0 = w2c_l24;
+  w2c_i0 = !(w2c_i0);
+  if (w2c_i0) {goto w2c_B96;}
+  w2c_B97:;
+  w2c_i0 = w2c_l27;
+  w2c_i1 = 0u;
+  w2c_i0 = w2c_i0 != w2c_i1;
+  w2c_j1 = w2c_l9;
+  w2c_j2 = 600ull;
+  w2c_j1 += w2c_j2;
+  w2c_i1 = (u32)(w2c_j1);
+  w2c_i1 = i32_load8_u(&instance->w2c_memory, (u64)(w2c_i1));
+  w2c_i2 = 1u;
+  w2c_i1 = w2c_i1 != w2c_i2;
+  w2c_i0 = w2c_i0 == w2c_i1;
+  if (w2c_i0) {goto w2c_B96;}
+  w2c_i0 = w2c_l23;
+  w2c_i1 = 10u;
+  w2c_i0 = w2c_i0 == w2c_i1;
+  w2c_j1 = w2c_l9;
+  w2c_j2 = 616ull;
+  w2c_j1 += w2c_j2;
+  w2c_i1 = (u32)(w2c_j1);
+  w2c_i1 = i32_load8_u(&instance->w2c_memory, (u64)(w2c_i1));
+  w2c_i2 = 1u;
+  w2c_i1 = w2c_i1 != w2c_i2;
+  w2c_i0 = w2c_i0 == w2c_i1;
+  if (w2c_i0) {goto w2c_B96;}
+  w2c_i0 = w2c_l28;
+  w2c_i1 = 0u;
+  w2c_i0 = w2c_i0 != w2c_i1;
+  w2c_j1 = w2c_l9;
+  w2c_j2 = 680ull;
+  w2c_j1 += w2c_j2;
+  w2c_i1 = (u32)(w2c_j1);
+  w2c_i1 = i32_load8_u(&instance->w2c_memory, (u64)(w2c_i1));
+  w2c_i2 = 1u;
+  w2c_i1 = w2c_i1 != w2c_i2;
+  w2c_i0 = w2c_i0 == w2c_i1;
+  if (w2c_i0) {goto w2c_B96;}
+  w2c_j0 = w2c_l9;
+  w2c_j1 = 704ull;
+  w2c_j0 += w2c_j1;
+  w2c_i0 = (u32)(w2c_j0);
+  w2c_j1 = w2c_p2;
+  i64_store(&instance->w2c_memory, (u64)(w2c_i0), w2c_j1);
+  goto w2c_B95;
+  w2c_B96:;
+  w2c_j0 = w2c_p1;
   w2c_j1 = w2c_l8;
-  w2c_j2 = 4ull;
+  w2c_j2 = 8ull;
   w2c_j1 += w2c_j2;
   w2c_j2 = w2c_l7;
-  w2c_j3 = w2c_p3;
-  w2c_tcp_driver__timers__Timers__follow(instance, w2c_j0, w2c_j1, w2c_j2, w2c_j3);
+  w2c_j3 = w2c_p2;
+  w2c_tcp_driver__timers__Timers__start(instance, w2c_j0, w2c_j1, w2c_j2, w2c_j3);
+  w2c_B95:;
   w2c_j0 = w2c_p0;
   w2c_i0 = (u32)(w2c_j0);
   w2c_j1 = w2c_p4;
@@ -45085,50 +46131,56 @@ static u32 w2c_rattle__export_tcp_c_connection_arrive(Machine * instance, u64 w2
   w2c_i0 = (u32)(w2c_j0);
   w2c_j1 = 8521743234667672684ull;
   i64_store(&instance->w2c_memory, (u64)(w2c_i0), w2c_j1);
+  w2c_i0 = 0u;
+  w2c_l23 = w2c_i0;
   w2c_i0 = w2c_l25;
   switch (w2c_i0) {
-    case 0: goto w2c_B95;
-    case 1: goto w2c_B97;
-    case 2: goto w2c_B97;
-    case 3: goto w2c_B96;
-    default: goto w2c_B95;
+    case 0: goto w2c_B99;
+    case 1: goto w2c_B101;
+    case 2: goto w2c_B101;
+    case 3: goto w2c_B100;
+    default: goto w2c_B99;
   }
-  w2c_B97:;
+  w2c_B101:;
   w2c_i0 = 55u;
-  w2c_l29 = w2c_i0;
-  w2c_B96:;
-  w2c_i0 = w2c_l29;
+  w2c_l23 = w2c_i0;
+  w2c_B100:;
+  w2c_i0 = w2c_l23;
   w2c_i1 = w2c_l25;
   w2c_i2 = 1u;
   w2c_i1 = w2c_i1 == w2c_i2;
   w2c_i0 += w2c_i1;
-  w2c_l21 = w2c_i0;
-  w2c_B95:;
-  w2c_i0 = w2c_l30;
+  w2c_l18 = w2c_i0;
+  w2c_B99:;
+  w2c_i0 = w2c_l29;
   w2c_i1 = 255u;
   w2c_i0 &= w2c_i1;
   w2c_i1 = 1u;
   w2c_i0 += w2c_i1;
   w2c_i1 = 0u;
-  w2c_i2 = w2c_l33;
+  w2c_i2 = w2c_l32;
   w2c_i0 = w2c_i2 ? w2c_i0 : w2c_i1;
   w2c_l24 = w2c_i0;
-  w2c_i0 = w2c_l32;
+  w2c_i0 = w2c_l31;
   w2c_i1 = 255u;
   w2c_i0 &= w2c_i1;
   w2c_l25 = w2c_i0;
-  w2c_i0 = w2c_l31;
+  w2c_i0 = w2c_l30;
   w2c_i1 = 1u;
   w2c_i0 &= w2c_i1;
-  w2c_l20 = w2c_i0;
+  w2c_l23 = w2c_i0;
   goto w2c_B1;
   w2c_B2:;
+  w2c_j0 = 0ull;
+  w2c_p3 = w2c_j0;
+  w2c_i0 = 0u;
+  w2c_l23 = w2c_i0;
   w2c_i0 = 0u;
   w2c_l24 = w2c_i0;
   w2c_i0 = 0u;
   w2c_l25 = w2c_i0;
   w2c_i0 = 0u;
-  w2c_l23 = w2c_i0;
+  w2c_l22 = w2c_i0;
   w2c_i0 = 0u;
   w2c_l26 = w2c_i0;
   w2c_B1:;
@@ -45142,7 +46194,7 @@ static u32 w2c_rattle__export_tcp_c_connection_arrive(Machine * instance, u64 w2
   i32_store(&instance->w2c_memory, (u64)(w2c_i0) + 24, w2c_i1);
   w2c_j0 = w2c_p6;
   w2c_i0 = (u32)(w2c_j0);
-  w2c_i1 = w2c_l23;
+  w2c_i1 = w2c_l22;
   i32_store(&instance->w2c_memory, (u64)(w2c_i0) + 20, w2c_i1);
   w2c_j0 = w2c_p6;
   w2c_i0 = (u32)(w2c_j0);
@@ -45150,7 +46202,7 @@ static u32 w2c_rattle__export_tcp_c_connection_arrive(Machine * instance, u64 w2
   i32_store(&instance->w2c_memory, (u64)(w2c_i0) + 16, w2c_i1);
   w2c_j0 = w2c_p6;
   w2c_i0 = (u32)(w2c_j0);
-  w2c_j1 = w2c_p2;
+  w2c_j1 = w2c_p3;
   i64_store(&instance->w2c_memory, (u64)(w2c_i0) + 8, w2c_j1);
   w2c_j0 = w2c_p6;
   w2c_i0 = (u32)(w2c_j0);
@@ -45158,14 +46210,14 @@ static u32 w2c_rattle__export_tcp_c_connection_arrive(Machine * instance, u64 w2
   i32_store(&instance->w2c_memory, (u64)(w2c_i0) + 4, w2c_i1);
   w2c_j0 = w2c_p6;
   w2c_i0 = (u32)(w2c_j0);
-  w2c_i1 = w2c_l20;
+  w2c_i1 = w2c_l23;
   i32_store(&instance->w2c_memory, (u64)(w2c_i0), w2c_i1);
   w2c_B0:;
   w2c_j0 = w2c_l8;
   w2c_j1 = 64ull;
   w2c_j0 += w2c_j1;
   instance->w2c___stack_pointer = w2c_j0;
-  w2c_i0 = w2c_l21;
+  w2c_i0 = w2c_l18;
   return w2c_i0;
 }
 
@@ -45189,10 +46241,10 @@ static u32 w2c_tcp_c_connection_close(Machine * instance, u64 w2c_p0, u64 w2c_p1
 }
 
 static u32 w2c_rattle__export_tcp_c_connection_close(Machine * instance, u64 w2c_p0, u64 w2c_p1) {
-  u32 w2c_l7 = 0, w2c_l8 = 0, w2c_l9 = 0, w2c_l10 = 0, w2c_l11 = 0;
+  u32 w2c_l7 = 0, w2c_l8 = 0, w2c_l9 = 0, w2c_l10 = 0, w2c_l11 = 0, w2c_l12 = 0;
   u64 w2c_l2 = 0, w2c_l3 = 0, w2c_l4 = 0, w2c_l5 = 0, w2c_l6 = 0;
-  u32 w2c_i0, w2c_i1, w2c_i2, w2c_i3, w2c_i5;
-  u64 w2c_j0, w2c_j1, w2c_j2, w2c_j3, w2c_j4, w2c_j5, w2c_j6;
+  u32 w2c_i0, w2c_i1, w2c_i2, w2c_i3, w2c_i4, w2c_i5;
+  u64 w2c_j0, w2c_j1, w2c_j2, w2c_j3, w2c_j4;
   w2c_j0 = instance->w2c___stack_pointer;
   w2c_j1 = 16ull;
   w2c_j0 -= w2c_j1;
@@ -45202,7 +46254,7 @@ static u32 w2c_rattle__export_tcp_c_connection_close(Machine * instance, u64 w2c
   w2c_l3 = w2c_j0;
   w2c_j1 = 16ull;
   w2c_i0 = (u64)((s64)w2c_j0 < (s64)w2c_j1);
-  if (w2c_i0) {goto w2c_B0;}
+  if (w2c_i0) {goto w2c_B3;}
   w2c_j0 = w2c_p0;
   w2c_i0 = (u32)(w2c_j0);
   w2c_j0 = i64_load(&instance->w2c_memory, (u64)(w2c_i0));
@@ -45224,7 +46276,14 @@ static u32 w2c_rattle__export_tcp_c_connection_close(Machine * instance, u64 w2c
   w2c_j0 = w2c_l4;
   w2c_j1 = 8521743234667672684ull;
   w2c_i0 = w2c_j0 != w2c_j1;
-  if (w2c_i0) {goto w2c_B1;}
+  if (w2c_i0) {goto w2c_B0;}
+  w2c_j0 = w2c_p1;
+  w2c_j1 = 4611686018427387904ull;
+  w2c_j2 = w2c_p1;
+  w2c_j3 = 4611686018427387904ull;
+  w2c_i2 = w2c_j2 < w2c_j3;
+  w2c_j0 = w2c_i2 ? w2c_j0 : w2c_j1;
+  w2c_p1 = w2c_j0;
   w2c_j0 = w2c_l2;
   w2c_j1 = 704ull;
   w2c_j0 += w2c_j1;
@@ -45237,22 +46296,22 @@ static u32 w2c_rattle__export_tcp_c_connection_close(Machine * instance, u64 w2c
   w2c_i0 = (u32)(w2c_j0);
   w2c_i0 = i32_load8_u(&instance->w2c_memory, (u64)(w2c_i0));
   w2c_i0 = !(w2c_i0);
-  if (w2c_i0) {goto w2c_B3;}
+  if (w2c_i0) {goto w2c_B5;}
   w2c_i0 = 14u;
   w2c_l7 = w2c_i0;
-  goto w2c_B2;
-  w2c_B3:;
+  goto w2c_B4;
+  w2c_B5:;
   w2c_j0 = w2c_l2;
   w2c_j1 = 48ull;
   w2c_j0 += w2c_j1;
   w2c_i0 = (u32)(w2c_j0);
   w2c_i0 = i32_load8_u(&instance->w2c_memory, (u64)(w2c_i0));
   w2c_l8 = w2c_i0;
-  if (w2c_i0) {goto w2c_B4;}
+  if (w2c_i0) {goto w2c_B6;}
   w2c_i0 = 11u;
   w2c_l7 = w2c_i0;
-  goto w2c_B2;
-  w2c_B4:;
+  goto w2c_B4;
+  w2c_B6:;
   w2c_j0 = w2c_l2;
   w2c_j1 = 50ull;
   w2c_j0 += w2c_j1;
@@ -45260,11 +46319,11 @@ static u32 w2c_rattle__export_tcp_c_connection_close(Machine * instance, u64 w2c
   w2c_i0 = (u32)(w2c_j0);
   w2c_i0 = i32_load8_u(&instance->w2c_memory, (u64)(w2c_i0));
   w2c_i0 = !(w2c_i0);
-  if (w2c_i0) {goto w2c_B5;}
+  if (w2c_i0) {goto w2c_B7;}
   w2c_i0 = 13u;
   w2c_l7 = w2c_i0;
-  goto w2c_B2;
-  w2c_B5:;
+  goto w2c_B4;
+  w2c_B7:;
   w2c_j0 = w2c_l5;
   w2c_i0 = (u32)(w2c_j0);
   w2c_i1 = 1u;
@@ -45275,19 +46334,19 @@ static u32 w2c_rattle__export_tcp_c_connection_close(Machine * instance, u64 w2c
   w2c_i1 = 4294967295u;
   w2c_i0 += w2c_i1;
   switch (w2c_i0) {
-    case 0: goto w2c_B8;
-    case 1: goto w2c_B8;
-    case 2: goto w2c_B2;
-    case 3: goto w2c_B7;
-    case 4: goto w2c_B2;
-    case 5: goto w2c_B2;
-    case 6: goto w2c_B6;
-    case 7: goto w2c_B2;
-    case 8: goto w2c_B2;
-    case 9: goto w2c_B2;
-    default: goto w2c_B8;
+    case 0: goto w2c_B10;
+    case 1: goto w2c_B10;
+    case 2: goto w2c_B4;
+    case 3: goto w2c_B9;
+    case 4: goto w2c_B4;
+    case 5: goto w2c_B4;
+    case 6: goto w2c_B8;
+    case 7: goto w2c_B4;
+    case 8: goto w2c_B4;
+    case 9: goto w2c_B4;
+    default: goto w2c_B10;
   }
-  w2c_B8:;
+  w2c_B10:;
   w2c_j0 = w2c_l2;
   w2c_j1 = 200ull;
   w2c_j0 += w2c_j1;
@@ -45334,12 +46393,12 @@ static u32 w2c_rattle__export_tcp_c_connection_close(Machine * instance, u64 w2c
   w2c_i0 = (u32)(w2c_j0);
   w2c_j0 = i64_load(&instance->w2c_memory, (u64)(w2c_i0));
   w2c_i0 = !(w2c_j0);
-  if (w2c_i0) {goto w2c_B9;}
+  if (w2c_i0) {goto w2c_B11;}
   w2c_j0 = w2c_l5;
   w2c_i0 = (u32)(w2c_j0);
   w2c_j1 = 0ull;
   i64_store(&instance->w2c_memory, (u64)(w2c_i0), w2c_j1);
-  w2c_B9:;
+  w2c_B11:;
   w2c_i0 = 0u;
   w2c_l7 = w2c_i0;
   w2c_j0 = w2c_l2;
@@ -45354,25 +46413,29 @@ static u32 w2c_rattle__export_tcp_c_connection_close(Machine * instance, u64 w2c
   w2c_i0 = (u32)(w2c_j0);
   w2c_i1 = 0u;
   i32_store16(&instance->w2c_memory, (u64)(w2c_i0), w2c_i1);
-  goto w2c_B2;
-  w2c_B7:;
+  goto w2c_B4;
+  w2c_B9:;
   w2c_j0 = w2c_l2;
   w2c_j1 = 48ull;
   w2c_j0 += w2c_j1;
   w2c_i0 = (u32)(w2c_j0);
   w2c_i1 = 5u;
   i32_store8(&instance->w2c_memory, (u64)(w2c_i0), w2c_i1);
-  goto w2c_B2;
-  w2c_B6:;
+  goto w2c_B4;
+  w2c_B8:;
   w2c_j0 = w2c_l2;
   w2c_j1 = 48ull;
   w2c_j0 += w2c_j1;
   w2c_i0 = (u32)(w2c_j0);
   w2c_i1 = 9u;
   i32_store8(&instance->w2c_memory, (u64)(w2c_i0), w2c_i1);
-  w2c_B2:;
-  w2c_i0 = 1u;
+  w2c_B4:;
+  w2c_j0 = w2c_p1;
+  w2c_j1 = w2c_l4;
+  w2c_i0 = w2c_j0 > w2c_j1;
   w2c_l9 = w2c_i0;
+  w2c_i0 = 1u;
+  w2c_l10 = w2c_i0;
   w2c_j0 = w2c_l2;
   w2c_j1 = 48ull;
   w2c_j0 += w2c_j1;
@@ -45383,19 +46446,19 @@ static u32 w2c_rattle__export_tcp_c_connection_close(Machine * instance, u64 w2c
   w2c_i0 &= w2c_i1;
   w2c_i1 = 2u;
   w2c_i0 = w2c_i0 == w2c_i1;
-  if (w2c_i0) {goto w2c_B10;}
+  if (w2c_i0) {goto w2c_B12;}
   w2c_i0 = 1u;
-  w2c_l9 = w2c_i0;
+  w2c_l10 = w2c_i0;
   w2c_i0 = 1u;
   w2c_i1 = w2c_l8;
   w2c_i0 <<= (w2c_i1 & 31);
   w2c_i1 = 944u;
   w2c_i0 &= w2c_i1;
-  if (w2c_i0) {goto w2c_B11;}
+  if (w2c_i0) {goto w2c_B13;}
   w2c_i0 = 0u;
-  w2c_l9 = w2c_i0;
-  goto w2c_B10;
-  w2c_B11:;
+  w2c_l10 = w2c_i0;
+  goto w2c_B12;
+  w2c_B13:;
   w2c_j0 = w2c_l2;
   w2c_j1 = 64ull;
   w2c_j0 += w2c_j1;
@@ -45409,25 +46472,25 @@ static u32 w2c_rattle__export_tcp_c_connection_close(Machine * instance, u64 w2c
   w2c_j1 = i64_load(&instance->w2c_memory, (u64)(w2c_i1));
   w2c_l6 = w2c_j1;
   w2c_i0 = w2c_j0 < w2c_j1;
-  if (w2c_i0) {goto w2c_B10;}
+  if (w2c_i0) {goto w2c_B12;}
   w2c_i0 = w2c_l8;
   w2c_i1 = 6u;
   w2c_i0 = w2c_i0 != w2c_i1;
-  if (w2c_i0) {goto w2c_B12;}
+  if (w2c_i0) {goto w2c_B14;}
   w2c_i0 = 0u;
-  w2c_l9 = w2c_i0;
-  goto w2c_B10;
-  w2c_B12:;
+  w2c_l10 = w2c_i0;
+  goto w2c_B12;
+  w2c_B14:;
   w2c_j0 = w2c_l5;
   w2c_j1 = w2c_l6;
   w2c_i0 = w2c_j0 == w2c_j1;
-  if (w2c_i0) {goto w2c_B13;}
+  if (w2c_i0) {goto w2c_B15;}
   w2c_i0 = 0u;
-  w2c_l9 = w2c_i0;
-  goto w2c_B10;
-  w2c_B13:;
+  w2c_l10 = w2c_i0;
+  goto w2c_B12;
+  w2c_B15:;
   w2c_i0 = 0u;
-  w2c_l9 = w2c_i0;
+  w2c_l10 = w2c_i0;
   w2c_j0 = w2c_l2;
   w2c_j1 = 104ull;
   w2c_j0 += w2c_j1;
@@ -45449,88 +46512,187 @@ static u32 w2c_rattle__export_tcp_c_connection_close(Machine * instance, u64 w2c
   w2c_i3 = w2c_j3 > w2c_j4;
   w2c_j1 = w2c_i3 ? w2c_j1 : w2c_j2;
   w2c_i0 = w2c_j0 <= w2c_j1;
-  if (w2c_i0) {goto w2c_B10;}
+  if (w2c_i0) {goto w2c_B12;}
   w2c_j0 = w2c_l2;
   w2c_j1 = 224ull;
   w2c_j0 += w2c_j1;
   w2c_i0 = (u32)(w2c_j0);
   w2c_i0 = i32_load(&instance->w2c_memory, (u64)(w2c_i0));
   w2c_i0 = !(w2c_i0);
-  w2c_l9 = w2c_i0;
-  w2c_B10:;
-  w2c_i0 = 0u;
   w2c_l10 = w2c_i0;
+  w2c_B12:;
+  w2c_j0 = w2c_p1;
+  w2c_j1 = w2c_l4;
+  w2c_i2 = w2c_l9;
+  w2c_j0 = w2c_i2 ? w2c_j0 : w2c_j1;
+  w2c_l4 = w2c_j0;
+  w2c_j0 = w2c_l2;
+  w2c_j1 = 416ull;
+  w2c_j0 += w2c_j1;
+  w2c_l5 = w2c_j0;
+  w2c_i0 = 0u;
+  w2c_l9 = w2c_i0;
   w2c_i0 = 1u;
   w2c_i1 = w2c_l8;
   w2c_i0 <<= (w2c_i1 & 31);
   w2c_i1 = 1103u;
   w2c_i0 &= w2c_i1;
-  if (w2c_i0) {goto w2c_B14;}
-  w2c_j0 = w2c_l2;
-  w2c_j1 = 160ull;
-  w2c_j0 += w2c_j1;
-  w2c_i0 = (u32)(w2c_j0);
-  w2c_j0 = i64_load(&instance->w2c_memory, (u64)(w2c_i0));
-  w2c_j1 = 0ull;
-  w2c_i0 = w2c_j0 != w2c_j1;
-  w2c_l10 = w2c_i0;
-  w2c_B14:;
+  if (w2c_i0) {goto w2c_B16;}
+  w2c_i0 = 0u;
+  w2c_i1 = 256u;
+  w2c_j2 = w2c_l2;
+  w2c_j3 = 160ull;
+  w2c_j2 += w2c_j3;
+  w2c_i2 = (u32)(w2c_j2);
+  w2c_j2 = i64_load(&instance->w2c_memory, (u64)(w2c_i2));
+  w2c_i2 = !(w2c_j2);
+  w2c_i0 = w2c_i2 ? w2c_i0 : w2c_i1;
+  w2c_l9 = w2c_i0;
+  w2c_B16:;
   w2c_i0 = 0u;
   w2c_l11 = w2c_i0;
   w2c_i0 = w2c_l8;
   w2c_i1 = 6u;
   w2c_i0 = w2c_i0 != w2c_i1;
-  if (w2c_i0) {goto w2c_B15;}
-  w2c_j0 = w2c_l2;
-  w2c_j1 = 320ull;
-  w2c_j0 += w2c_j1;
-  w2c_i0 = (u32)(w2c_j0);
-  w2c_j0 = i64_load(&instance->w2c_memory, (u64)(w2c_i0));
-  w2c_i0 = !(w2c_j0);
-  w2c_l11 = w2c_i0;
-  w2c_B15:;
-  w2c_j0 = w2c_l3;
-  w2c_i0 = (u32)(w2c_j0);
-  w2c_i1 = w2c_l11;
-  i32_store8(&instance->w2c_memory, (u64)(w2c_i0) + 15, w2c_i1);
-  w2c_j0 = w2c_l3;
-  w2c_i0 = (u32)(w2c_j0);
-  w2c_i1 = w2c_l10;
-  i32_store8(&instance->w2c_memory, (u64)(w2c_i0) + 13, w2c_i1);
-  w2c_j0 = w2c_l3;
-  w2c_i0 = (u32)(w2c_j0);
-  w2c_i1 = w2c_l9;
-  i32_store8(&instance->w2c_memory, (u64)(w2c_i0) + 12, w2c_i1);
-  w2c_j0 = w2c_l3;
-  w2c_i0 = (u32)(w2c_j0);
-  w2c_i1 = w2c_l8;
-  w2c_i2 = 10u;
-  w2c_i1 = w2c_i1 == w2c_i2;
-  i32_store8(&instance->w2c_memory, (u64)(w2c_i0) + 14, w2c_i1);
-  w2c_j0 = w2c_l2;
-  w2c_j1 = 416ull;
-  w2c_j0 += w2c_j1;
-  w2c_j1 = w2c_l3;
-  w2c_j2 = 12ull;
-  w2c_j1 += w2c_j2;
+  if (w2c_i0) {goto w2c_B17;}
+  w2c_i0 = 16777216u;
+  w2c_i1 = 0u;
   w2c_j2 = w2c_l2;
-  w2c_j3 = 64ull;
+  w2c_j3 = 320ull;
   w2c_j2 += w2c_j3;
   w2c_i2 = (u32)(w2c_j2);
   w2c_j2 = i64_load(&instance->w2c_memory, (u64)(w2c_i2));
-  w2c_j3 = w2c_p1;
-  w2c_j4 = 4611686018427387904ull;
-  w2c_j5 = w2c_p1;
-  w2c_j6 = 4611686018427387904ull;
-  w2c_i5 = w2c_j5 < w2c_j6;
-  w2c_j3 = w2c_i5 ? w2c_j3 : w2c_j4;
-  w2c_p1 = w2c_j3;
-  w2c_j4 = w2c_l4;
-  w2c_j5 = w2c_p1;
-  w2c_j6 = w2c_l4;
-  w2c_i5 = w2c_j5 > w2c_j6;
-  w2c_j3 = w2c_i5 ? w2c_j3 : w2c_j4;
-  w2c_tcp_driver__timers__Timers__follow(instance, w2c_j0, w2c_j1, w2c_j2, w2c_j3);
+  w2c_i2 = !(w2c_j2);
+  w2c_i0 = w2c_i2 ? w2c_i0 : w2c_i1;
+  w2c_l11 = w2c_i0;
+  w2c_B17:;
+  w2c_j0 = w2c_l2;
+  w2c_j1 = 64ull;
+  w2c_j0 += w2c_j1;
+  w2c_i0 = (u32)(w2c_j0);
+  w2c_j0 = i64_load(&instance->w2c_memory, (u64)(w2c_i0));
+  w2c_p1 = w2c_j0;
+  w2c_j0 = w2c_l3;
+  w2c_i0 = (u32)(w2c_j0);
+  w2c_i1 = w2c_l10;
+  w2c_i2 = 65536u;
+  w2c_i3 = 0u;
+  w2c_i4 = w2c_l8;
+  w2c_i5 = 10u;
+  w2c_i4 = w2c_i4 == w2c_i5;
+  w2c_i2 = w2c_i4 ? w2c_i2 : w2c_i3;
+  w2c_i1 |= w2c_i2;
+  w2c_i2 = w2c_l9;
+  w2c_i1 |= w2c_i2;
+  w2c_i2 = w2c_l11;
+  w2c_i1 |= w2c_i2;
+  i32_store(&instance->w2c_memory, (u64)(w2c_i0) + 12, w2c_i1);
+  w2c_j0 = w2c_p1;
+  w2c_j1 = w2c_l2;
+  w2c_j2 = 632ull;
+  w2c_j1 += w2c_j2;
+  w2c_i1 = (u32)(w2c_j1);
+  w2c_j1 = i64_load(&instance->w2c_memory, (u64)(w2c_i1));
+  w2c_i0 = w2c_j0 != w2c_j1;
+  if (w2c_i0) {goto w2c_B2;}
+  w2c_j0 = w2c_l2;
+  w2c_j1 = 584ull;
+  w2c_j0 += w2c_j1;
+  w2c_i0 = (u32)(w2c_j0);
+  w2c_i0 = i32_load8_u(&instance->w2c_memory, (u64)(w2c_i0));
+  w2c_i1 = 1u;
+  w2c_i0 = w2c_i0 != w2c_i1;
+  w2c_i1 = w2c_l10;
+  w2c_i0 = w2c_i0 == w2c_i1;
+  if (w2c_i0) {goto w2c_B2;}
+  w2c_j0 = w2c_l2;
+  w2c_j1 = 640ull;
+  w2c_j0 += w2c_j1;
+  w2c_i0 = (u32)(w2c_j0);
+  w2c_i0 = i32_load8_u(&instance->w2c_memory, (u64)(w2c_i0));
+  w2c_l12 = w2c_i0;
+  w2c_i1 = 1u;
+  w2c_i0 = w2c_i0 == w2c_i1;
+  if (w2c_i0) {goto w2c_B19;}
+  w2c_i0 = w2c_l10;
+  if (w2c_i0) {goto w2c_B19;}
+  w2c_j0 = w2c_l2;
+  w2c_j1 = 656ull;
+  w2c_j0 += w2c_j1;
+  w2c_i0 = (u32)(w2c_j0);
+  w2c_i0 = i32_load(&instance->w2c_memory, (u64)(w2c_i0));
+  if (w2c_i0) {goto w2c_B2;}
+  w2c_j0 = w2c_l2;
+  w2c_j1 = 660ull;
+  w2c_j0 += w2c_j1;
+  w2c_i0 = (u32)(w2c_j0);
+  w2c_i0 = i32_load8_u(&instance->w2c_memory, (u64)(w2c_i0));
+  w2c_i0 = !(w2c_i0);
+  if (w2c_i0) {goto w2c_B18;}
+  goto w2c_B2;
+  w2c_B19:;
+  w2c_i0 = w2c_l12;
+  w2c_i1 = 1u;
+  w2c_i0 = w2c_i0 != w2c_i1;
+  if (w2c_i0) {goto w2c_B2;}
+  w2c_i0 = w2c_l10;
+  w2c_i0 = !(w2c_i0);
+  if (w2c_i0) {goto w2c_B2;}
+  w2c_B18:;
+  w2c_i0 = w2c_l9;
+  w2c_i1 = 0u;
+  w2c_i0 = w2c_i0 != w2c_i1;
+  w2c_j1 = w2c_l2;
+  w2c_j2 = 600ull;
+  w2c_j1 += w2c_j2;
+  w2c_i1 = (u32)(w2c_j1);
+  w2c_i1 = i32_load8_u(&instance->w2c_memory, (u64)(w2c_i1));
+  w2c_i2 = 1u;
+  w2c_i1 = w2c_i1 != w2c_i2;
+  w2c_i0 = w2c_i0 == w2c_i1;
+  if (w2c_i0) {goto w2c_B2;}
+  w2c_i0 = w2c_l8;
+  w2c_i1 = 10u;
+  w2c_i0 = w2c_i0 == w2c_i1;
+  w2c_j1 = w2c_l2;
+  w2c_j2 = 616ull;
+  w2c_j1 += w2c_j2;
+  w2c_i1 = (u32)(w2c_j1);
+  w2c_i1 = i32_load8_u(&instance->w2c_memory, (u64)(w2c_i1));
+  w2c_i2 = 1u;
+  w2c_i1 = w2c_i1 != w2c_i2;
+  w2c_i0 = w2c_i0 == w2c_i1;
+  if (w2c_i0) {goto w2c_B2;}
+  w2c_i0 = w2c_l11;
+  w2c_i1 = 0u;
+  w2c_i0 = w2c_i0 != w2c_i1;
+  w2c_j1 = w2c_l2;
+  w2c_j2 = 680ull;
+  w2c_j1 += w2c_j2;
+  w2c_i1 = (u32)(w2c_j1);
+  w2c_i1 = i32_load8_u(&instance->w2c_memory, (u64)(w2c_i1));
+  w2c_i2 = 1u;
+  w2c_i1 = w2c_i1 != w2c_i2;
+  w2c_i0 = w2c_i0 == w2c_i1;
+  if (w2c_i0) {goto w2c_B2;}
+  w2c_j0 = w2c_l2;
+  w2c_j1 = 704ull;
+  w2c_j0 += w2c_j1;
+  w2c_i0 = (u32)(w2c_j0);
+  w2c_j1 = w2c_l4;
+  i64_store(&instance->w2c_memory, (u64)(w2c_i0), w2c_j1);
+  goto w2c_B1;
+  w2c_B3:;
+  UNREACHABLE;
+  w2c_B2:;
+  w2c_j0 = w2c_l5;
+  w2c_j1 = w2c_l3;
+  w2c_j2 = 12ull;
+  w2c_j1 += w2c_j2;
+  w2c_j2 = w2c_p1;
+  w2c_j3 = w2c_l4;
+  w2c_tcp_driver__timers__Timers__start(instance, w2c_j0, w2c_j1, w2c_j2, w2c_j3);
+  w2c_B1:;
   w2c_j0 = w2c_p0;
   w2c_i0 = (u32)(w2c_j0);
   w2c_j1 = w2c_l2;
@@ -45539,16 +46701,12 @@ static u32 w2c_rattle__export_tcp_c_connection_close(Machine * instance, u64 w2c
   w2c_i0 = (u32)(w2c_j0);
   w2c_j1 = 8521743234667672684ull;
   i64_store(&instance->w2c_memory, (u64)(w2c_i0), w2c_j1);
-  w2c_B1:;
+  w2c_B0:;
   w2c_j0 = w2c_l3;
   w2c_j1 = 16ull;
   w2c_j0 += w2c_j1;
   instance->w2c___stack_pointer = w2c_j0;
   w2c_i0 = w2c_l7;
-  goto w2c_Bfunc;
-  w2c_B0:;
-  UNREACHABLE;
-  w2c_Bfunc:;
   return w2c_i0;
 }
 
@@ -45653,10 +46811,10 @@ static u32 w2c_tcp_c_connection_consume(Machine * instance, u64 w2c_p0, u64 w2c_
 }
 
 static u32 w2c_rattle__export_tcp_c_connection_consume(Machine * instance, u64 w2c_p0, u64 w2c_p1, u64 w2c_p2, u64 w2c_p3) {
-  u32 w2c_l10 = 0, w2c_l11 = 0, w2c_l12 = 0, w2c_l13 = 0, w2c_l14 = 0, w2c_l15 = 0;
-  u64 w2c_l4 = 0, w2c_l5 = 0, w2c_l6 = 0, w2c_l7 = 0, w2c_l8 = 0, w2c_l9 = 0;
+  u32 w2c_l11 = 0, w2c_l12 = 0, w2c_l13 = 0, w2c_l14 = 0, w2c_l15 = 0, w2c_l16 = 0, w2c_l17 = 0;
+  u64 w2c_l4 = 0, w2c_l5 = 0, w2c_l6 = 0, w2c_l7 = 0, w2c_l8 = 0, w2c_l9 = 0, w2c_l10 = 0;
   u32 w2c_i0, w2c_i1, w2c_i2, w2c_i3, w2c_i4, w2c_i5;
-  u64 w2c_j0, w2c_j1, w2c_j2, w2c_j3, w2c_j4, w2c_j5, w2c_j6;
+  u64 w2c_j0, w2c_j1, w2c_j2, w2c_j3, w2c_j4, w2c_j5;
   w2c_j0 = instance->w2c___stack_pointer;
   w2c_j1 = 16ull;
   w2c_j0 -= w2c_j1;
@@ -45666,7 +46824,7 @@ static u32 w2c_rattle__export_tcp_c_connection_consume(Machine * instance, u64 w
   w2c_l5 = w2c_j0;
   w2c_j1 = 16ull;
   w2c_i0 = (u64)((s64)w2c_j0 < (s64)w2c_j1);
-  if (w2c_i0) {goto w2c_B0;}
+  if (w2c_i0) {goto w2c_B3;}
   w2c_j0 = 0ull;
   w2c_l6 = w2c_j0;
   w2c_j0 = w2c_p3;
@@ -45690,52 +46848,65 @@ static u32 w2c_rattle__export_tcp_c_connection_consume(Machine * instance, u64 w
   w2c_j1 = 0ull;
   i64_store(&instance->w2c_memory, (u64)(w2c_i0) + 8, w2c_j1);
   w2c_i0 = 31u;
-  w2c_l10 = w2c_i0;
+  w2c_l11 = w2c_i0;
   w2c_j0 = w2c_l7;
   w2c_j1 = 8521743234667672684ull;
   w2c_i0 = w2c_j0 != w2c_j1;
-  if (w2c_i0) {goto w2c_B1;}
+  if (w2c_i0) {goto w2c_B0;}
+  w2c_j0 = w2c_p1;
+  w2c_j1 = 4611686018427387904ull;
+  w2c_j2 = w2c_p1;
+  w2c_j3 = 4611686018427387904ull;
+  w2c_i2 = w2c_j2 < w2c_j3;
+  w2c_j0 = w2c_i2 ? w2c_j0 : w2c_j1;
+  w2c_p1 = w2c_j0;
+  w2c_j0 = w2c_l4;
+  w2c_j1 = 704ull;
+  w2c_j0 += w2c_j1;
+  w2c_i0 = (u32)(w2c_j0);
+  w2c_j0 = i64_load(&instance->w2c_memory, (u64)(w2c_i0));
+  w2c_l7 = w2c_j0;
   w2c_j0 = w2c_l4;
   w2c_j1 = 48ull;
   w2c_j0 += w2c_j1;
   w2c_i0 = (u32)(w2c_j0);
   w2c_i0 = i32_load8_u(&instance->w2c_memory, (u64)(w2c_i0));
-  w2c_l10 = w2c_i0;
-  w2c_i0 = 14u;
   w2c_l11 = w2c_i0;
-  w2c_i0 = 0u;
+  w2c_i0 = 14u;
   w2c_l12 = w2c_i0;
+  w2c_i0 = 0u;
+  w2c_l13 = w2c_i0;
   w2c_j0 = w2c_l4;
   w2c_j1 = 49ull;
   w2c_j0 += w2c_j1;
   w2c_i0 = (u32)(w2c_j0);
   w2c_i0 = i32_load8_u(&instance->w2c_memory, (u64)(w2c_i0));
-  w2c_l13 = w2c_i0;
+  w2c_l14 = w2c_i0;
   w2c_i1 = 254u;
   w2c_i0 &= w2c_i1;
   w2c_i1 = 2u;
   w2c_i0 = w2c_i0 == w2c_i1;
-  if (w2c_i0) {goto w2c_B2;}
+  if (w2c_i0) {goto w2c_B4;}
   w2c_i0 = 11u;
-  w2c_l11 = w2c_i0;
-  w2c_i0 = w2c_l10;
-  w2c_i1 = w2c_l13;
+  w2c_l12 = w2c_i0;
+  w2c_i0 = w2c_l11;
+  w2c_i1 = w2c_l14;
   w2c_i0 |= w2c_i1;
   w2c_i0 = !(w2c_i0);
-  if (w2c_i0) {goto w2c_B2;}
+  if (w2c_i0) {goto w2c_B4;}
   w2c_j0 = w2c_l4;
   w2c_j1 = 320ull;
   w2c_j0 += w2c_j1;
   w2c_l8 = w2c_j0;
   w2c_i0 = (u32)(w2c_j0);
   w2c_j0 = i64_load(&instance->w2c_memory, (u64)(w2c_i0));
-  w2c_l7 = w2c_j0;
+  w2c_l9 = w2c_j0;
   w2c_j0 = w2c_l4;
   w2c_j1 = 312ull;
   w2c_j0 += w2c_j1;
   w2c_l6 = w2c_j0;
   w2c_i0 = 0u;
-  w2c_l14 = w2c_i0;
+  w2c_l13 = w2c_i0;
   w2c_j0 = w2c_l4;
   w2c_j1 = 60ull;
   w2c_j0 += w2c_j1;
@@ -45744,7 +46915,7 @@ static u32 w2c_rattle__export_tcp_c_connection_consume(Machine * instance, u64 w
   w2c_l15 = w2c_i0;
   w2c_i1 = 1u;
   w2c_i0 = w2c_i0 != w2c_i1;
-  if (w2c_i0) {goto w2c_B3;}
+  if (w2c_i0) {goto w2c_B5;}
   w2c_j0 = w2c_l4;
   w2c_j1 = 33ull;
   w2c_j0 += w2c_j1;
@@ -45761,29 +46932,29 @@ static u32 w2c_rattle__export_tcp_c_connection_consume(Machine * instance, u64 w
   w2c_i0 = w2c_i2 ? w2c_i0 : w2c_i1;
   w2c_i1 = 255u;
   w2c_i0 &= w2c_i1;
-  w2c_l14 = w2c_i0;
-  w2c_B3:;
+  w2c_l13 = w2c_i0;
+  w2c_B5:;
   w2c_j0 = w2c_l6;
   w2c_i0 = (u32)(w2c_j0);
   w2c_i0 = i32_load(&instance->w2c_memory, (u64)(w2c_i0));
-  w2c_l12 = w2c_i0;
+  w2c_l14 = w2c_i0;
   w2c_j0 = w2c_l8;
   w2c_i0 = (u32)(w2c_j0);
-  w2c_j1 = w2c_l7;
-  w2c_j2 = w2c_l7;
+  w2c_j1 = w2c_l9;
+  w2c_j2 = w2c_l9;
   w2c_j3 = w2c_p2;
-  w2c_j4 = w2c_l7;
+  w2c_j4 = w2c_l9;
   w2c_j5 = w2c_p2;
   w2c_i4 = w2c_j4 < w2c_j5;
   w2c_j2 = w2c_i4 ? w2c_j2 : w2c_j3;
   w2c_l6 = w2c_j2;
   w2c_j1 -= w2c_j2;
-  w2c_l9 = w2c_j1;
+  w2c_l10 = w2c_j1;
   i64_store(&instance->w2c_memory, (u64)(w2c_i0), w2c_j1);
-  w2c_j0 = w2c_l7;
+  w2c_j0 = w2c_l9;
   w2c_j1 = w2c_p2;
   w2c_i0 = w2c_j0 > w2c_j1;
-  if (w2c_i0) {goto w2c_B5;}
+  if (w2c_i0) {goto w2c_B7;}
   w2c_j0 = w2c_l4;
   w2c_j1 = 344ull;
   w2c_j0 += w2c_j1;
@@ -45791,15 +46962,15 @@ static u32 w2c_rattle__export_tcp_c_connection_consume(Machine * instance, u64 w
   w2c_j0 = i64_load(&instance->w2c_memory, (u64)(w2c_i0));
   w2c_j1 = 0ull;
   w2c_i0 = w2c_j0 != w2c_j1;
-  if (w2c_i0) {goto w2c_B5;}
+  if (w2c_i0) {goto w2c_B7;}
   w2c_j0 = w2c_l4;
   w2c_j1 = 316ull;
   w2c_j0 += w2c_j1;
   w2c_i0 = (u32)(w2c_j0);
   w2c_i1 = 0u;
   i32_store(&instance->w2c_memory, (u64)(w2c_i0), w2c_i1);
-  goto w2c_B4;
-  w2c_B5:;
+  goto w2c_B6;
+  w2c_B7:;
   w2c_j0 = w2c_l4;
   w2c_j1 = 316ull;
   w2c_j0 += w2c_j1;
@@ -45808,15 +46979,15 @@ static u32 w2c_rattle__export_tcp_c_connection_consume(Machine * instance, u64 w
   w2c_j1 = w2c_p2;
   w2c_i1 = (u32)(w2c_j1);
   w2c_i1 = i32_load(&instance->w2c_memory, (u64)(w2c_i1));
-  w2c_l13 = w2c_i1;
+  w2c_l16 = w2c_i1;
   w2c_i2 = 0u;
-  w2c_i3 = w2c_l12;
-  w2c_i4 = w2c_l13;
+  w2c_i3 = w2c_l14;
+  w2c_i4 = w2c_l16;
   w2c_i3 -= w2c_i4;
-  w2c_l13 = w2c_i3;
+  w2c_l16 = w2c_i3;
   w2c_i2 -= w2c_i3;
   w2c_j3 = w2c_l6;
-  w2c_i4 = w2c_l13;
+  w2c_i4 = w2c_l16;
   w2c_j4 = (u64)(w2c_i4);
   w2c_i3 = w2c_j3 < w2c_j4;
   w2c_i1 = w2c_i3 ? w2c_i1 : w2c_i2;
@@ -45824,29 +46995,29 @@ static u32 w2c_rattle__export_tcp_c_connection_consume(Machine * instance, u64 w
   w2c_i2 = (u32)(w2c_j2);
   w2c_i1 += w2c_i2;
   i32_store(&instance->w2c_memory, (u64)(w2c_i0), w2c_i1);
-  w2c_B4:;
+  w2c_B6:;
   w2c_i0 = 0u;
-  w2c_l13 = w2c_i0;
-  w2c_i0 = w2c_l10;
+  w2c_l16 = w2c_i0;
+  w2c_i0 = w2c_l11;
   w2c_i1 = 4294967292u;
   w2c_i0 += w2c_i1;
   w2c_i1 = 255u;
   w2c_i0 &= w2c_i1;
   w2c_i1 = 2u;
   w2c_i0 = w2c_i0 > w2c_i1;
-  if (w2c_i0) {goto w2c_B6;}
-  w2c_i0 = w2c_l12;
-  w2c_j1 = w2c_l7;
+  if (w2c_i0) {goto w2c_B8;}
+  w2c_i0 = w2c_l14;
+  w2c_j1 = w2c_l9;
   w2c_i1 = (u32)(w2c_j1);
   w2c_i0 -= w2c_i1;
-  w2c_i1 = w2c_l14;
+  w2c_i1 = w2c_l13;
   w2c_i0 >>= (w2c_i1 & 31);
-  if (w2c_i0) {goto w2c_B6;}
+  if (w2c_i0) {goto w2c_B8;}
   w2c_i0 = 0u;
   w2c_l13 = w2c_i0;
   w2c_i0 = w2c_l15;
   w2c_i0 = !(w2c_i0);
-  if (w2c_i0) {goto w2c_B7;}
+  if (w2c_i0) {goto w2c_B9;}
   w2c_j0 = w2c_l4;
   w2c_j1 = 33ull;
   w2c_j0 += w2c_j1;
@@ -45864,57 +47035,57 @@ static u32 w2c_rattle__export_tcp_c_connection_consume(Machine * instance, u64 w
   w2c_i1 = 255u;
   w2c_i0 &= w2c_i1;
   w2c_l13 = w2c_i0;
-  w2c_B7:;
-  w2c_i0 = w2c_l12;
-  w2c_j1 = w2c_l9;
+  w2c_B9:;
+  w2c_i0 = w2c_l14;
+  w2c_j1 = w2c_l10;
   w2c_i1 = (u32)(w2c_j1);
   w2c_i0 -= w2c_i1;
   w2c_i1 = w2c_l13;
   w2c_i0 >>= (w2c_i1 & 31);
   w2c_i1 = 0u;
   w2c_i0 = w2c_i0 != w2c_i1;
-  w2c_l13 = w2c_i0;
-  w2c_B6:;
+  w2c_l16 = w2c_i0;
+  w2c_B8:;
   w2c_i0 = 1u;
-  w2c_l12 = w2c_i0;
+  w2c_l13 = w2c_i0;
   w2c_j0 = w2c_l4;
   w2c_j1 = 385ull;
   w2c_j0 += w2c_j1;
-  w2c_l7 = w2c_j0;
+  w2c_p2 = w2c_j0;
   w2c_i0 = (u32)(w2c_j0);
-  w2c_j1 = w2c_l7;
+  w2c_j1 = w2c_p2;
   w2c_i1 = (u32)(w2c_j1);
   w2c_i1 = i32_load8_u(&instance->w2c_memory, (u64)(w2c_i1));
-  w2c_i2 = w2c_l13;
+  w2c_i2 = w2c_l16;
   w2c_i1 |= w2c_i2;
   w2c_i2 = 1u;
   w2c_i1 &= w2c_i2;
   i32_store8(&instance->w2c_memory, (u64)(w2c_i0), w2c_i1);
-  w2c_B2:;
-  w2c_j0 = w2c_l4;
-  w2c_j1 = 704ull;
-  w2c_j0 += w2c_j1;
-  w2c_l7 = w2c_j0;
+  w2c_B4:;
+  w2c_j0 = w2c_p1;
+  w2c_j1 = w2c_l7;
+  w2c_i0 = w2c_j0 > w2c_j1;
+  w2c_l16 = w2c_i0;
   w2c_i0 = 1u;
-  w2c_l13 = w2c_i0;
-  w2c_i0 = w2c_l10;
+  w2c_l14 = w2c_i0;
+  w2c_i0 = w2c_l11;
   w2c_i1 = 254u;
   w2c_i0 &= w2c_i1;
   w2c_i1 = 2u;
   w2c_i0 = w2c_i0 == w2c_i1;
-  if (w2c_i0) {goto w2c_B8;}
+  if (w2c_i0) {goto w2c_B10;}
   w2c_i0 = 1u;
-  w2c_l13 = w2c_i0;
+  w2c_l14 = w2c_i0;
   w2c_i0 = 1u;
-  w2c_i1 = w2c_l10;
+  w2c_i1 = w2c_l11;
   w2c_i0 <<= (w2c_i1 & 31);
   w2c_i1 = 944u;
   w2c_i0 &= w2c_i1;
-  if (w2c_i0) {goto w2c_B9;}
+  if (w2c_i0) {goto w2c_B11;}
   w2c_i0 = 0u;
-  w2c_l13 = w2c_i0;
-  goto w2c_B8;
-  w2c_B9:;
+  w2c_l14 = w2c_i0;
+  goto w2c_B10;
+  w2c_B11:;
   w2c_j0 = w2c_l4;
   w2c_j1 = 64ull;
   w2c_j0 += w2c_j1;
@@ -45926,27 +47097,27 @@ static u32 w2c_rattle__export_tcp_c_connection_consume(Machine * instance, u64 w
   w2c_j1 += w2c_j2;
   w2c_i1 = (u32)(w2c_j1);
   w2c_j1 = i64_load(&instance->w2c_memory, (u64)(w2c_i1));
-  w2c_l8 = w2c_j1;
+  w2c_l9 = w2c_j1;
   w2c_i0 = w2c_j0 < w2c_j1;
-  if (w2c_i0) {goto w2c_B8;}
-  w2c_i0 = w2c_l10;
+  if (w2c_i0) {goto w2c_B10;}
+  w2c_i0 = w2c_l11;
   w2c_i1 = 6u;
   w2c_i0 = w2c_i0 != w2c_i1;
-  if (w2c_i0) {goto w2c_B10;}
+  if (w2c_i0) {goto w2c_B12;}
   w2c_i0 = 0u;
-  w2c_l13 = w2c_i0;
-  goto w2c_B8;
-  w2c_B10:;
+  w2c_l14 = w2c_i0;
+  goto w2c_B10;
+  w2c_B12:;
   w2c_j0 = w2c_p2;
-  w2c_j1 = w2c_l8;
+  w2c_j1 = w2c_l9;
   w2c_i0 = w2c_j0 == w2c_j1;
-  if (w2c_i0) {goto w2c_B11;}
+  if (w2c_i0) {goto w2c_B13;}
   w2c_i0 = 0u;
-  w2c_l13 = w2c_i0;
-  goto w2c_B8;
-  w2c_B11:;
+  w2c_l14 = w2c_i0;
+  goto w2c_B10;
+  w2c_B13:;
   w2c_i0 = 0u;
-  w2c_l13 = w2c_i0;
+  w2c_l14 = w2c_i0;
   w2c_j0 = w2c_l4;
   w2c_j1 = 104ull;
   w2c_j0 += w2c_j1;
@@ -45962,98 +47133,193 @@ static u32 w2c_rattle__export_tcp_c_connection_consume(Machine * instance, u64 w
   w2c_j2 ^= w2c_j3;
   w2c_j3 = w2c_p2;
   w2c_j2 += w2c_j3;
-  w2c_l8 = w2c_j2;
-  w2c_j3 = w2c_l8;
+  w2c_l9 = w2c_j2;
+  w2c_j3 = w2c_l9;
   w2c_j4 = w2c_p2;
   w2c_i3 = w2c_j3 > w2c_j4;
   w2c_j1 = w2c_i3 ? w2c_j1 : w2c_j2;
   w2c_i0 = w2c_j0 <= w2c_j1;
-  if (w2c_i0) {goto w2c_B8;}
+  if (w2c_i0) {goto w2c_B10;}
   w2c_j0 = w2c_l4;
   w2c_j1 = 224ull;
   w2c_j0 += w2c_j1;
   w2c_i0 = (u32)(w2c_j0);
   w2c_i0 = i32_load(&instance->w2c_memory, (u64)(w2c_i0));
   w2c_i0 = !(w2c_i0);
-  w2c_l13 = w2c_i0;
-  w2c_B8:;
-  w2c_j0 = w2c_l7;
-  w2c_i0 = (u32)(w2c_j0);
-  w2c_j0 = i64_load(&instance->w2c_memory, (u64)(w2c_i0));
+  w2c_l14 = w2c_i0;
+  w2c_B10:;
+  w2c_j0 = w2c_p1;
+  w2c_j1 = w2c_l7;
+  w2c_i2 = w2c_l16;
+  w2c_j0 = w2c_i2 ? w2c_j0 : w2c_j1;
   w2c_l7 = w2c_j0;
-  w2c_i0 = 0u;
-  w2c_l15 = w2c_i0;
-  w2c_i0 = 1u;
-  w2c_i1 = w2c_l10;
-  w2c_i0 <<= (w2c_i1 & 31);
-  w2c_i1 = 1103u;
-  w2c_i0 &= w2c_i1;
-  if (w2c_i0) {goto w2c_B12;}
-  w2c_j0 = w2c_l4;
-  w2c_j1 = 160ull;
-  w2c_j0 += w2c_j1;
-  w2c_i0 = (u32)(w2c_j0);
-  w2c_j0 = i64_load(&instance->w2c_memory, (u64)(w2c_i0));
-  w2c_j1 = 0ull;
-  w2c_i0 = w2c_j0 != w2c_j1;
-  w2c_l15 = w2c_i0;
-  w2c_B12:;
-  w2c_i0 = 0u;
-  w2c_l14 = w2c_i0;
-  w2c_i0 = w2c_l10;
-  w2c_i1 = 6u;
-  w2c_i0 = w2c_i0 != w2c_i1;
-  if (w2c_i0) {goto w2c_B13;}
-  w2c_j0 = w2c_l4;
-  w2c_j1 = 320ull;
-  w2c_j0 += w2c_j1;
-  w2c_i0 = (u32)(w2c_j0);
-  w2c_j0 = i64_load(&instance->w2c_memory, (u64)(w2c_i0));
-  w2c_i0 = !(w2c_j0);
-  w2c_l14 = w2c_i0;
-  w2c_B13:;
-  w2c_j0 = w2c_l5;
-  w2c_i0 = (u32)(w2c_j0);
-  w2c_i1 = w2c_l14;
-  i32_store8(&instance->w2c_memory, (u64)(w2c_i0) + 15, w2c_i1);
-  w2c_j0 = w2c_l5;
-  w2c_i0 = (u32)(w2c_j0);
-  w2c_i1 = w2c_l15;
-  i32_store8(&instance->w2c_memory, (u64)(w2c_i0) + 13, w2c_i1);
-  w2c_j0 = w2c_l5;
-  w2c_i0 = (u32)(w2c_j0);
-  w2c_i1 = w2c_l13;
-  i32_store8(&instance->w2c_memory, (u64)(w2c_i0) + 12, w2c_i1);
-  w2c_j0 = w2c_l5;
-  w2c_i0 = (u32)(w2c_j0);
-  w2c_i1 = w2c_l10;
-  w2c_i2 = 10u;
-  w2c_i1 = w2c_i1 == w2c_i2;
-  i32_store8(&instance->w2c_memory, (u64)(w2c_i0) + 14, w2c_i1);
   w2c_j0 = w2c_l4;
   w2c_j1 = 416ull;
   w2c_j0 += w2c_j1;
-  w2c_j1 = w2c_l5;
-  w2c_j2 = 12ull;
-  w2c_j1 += w2c_j2;
+  w2c_p2 = w2c_j0;
+  w2c_i0 = 0u;
+  w2c_l16 = w2c_i0;
+  w2c_i0 = 1u;
+  w2c_i1 = w2c_l11;
+  w2c_i0 <<= (w2c_i1 & 31);
+  w2c_i1 = 1103u;
+  w2c_i0 &= w2c_i1;
+  if (w2c_i0) {goto w2c_B14;}
+  w2c_i0 = 0u;
+  w2c_i1 = 256u;
   w2c_j2 = w2c_l4;
-  w2c_j3 = 64ull;
+  w2c_j3 = 160ull;
   w2c_j2 += w2c_j3;
   w2c_i2 = (u32)(w2c_j2);
   w2c_j2 = i64_load(&instance->w2c_memory, (u64)(w2c_i2));
-  w2c_j3 = w2c_p1;
-  w2c_j4 = 4611686018427387904ull;
-  w2c_j5 = w2c_p1;
-  w2c_j6 = 4611686018427387904ull;
-  w2c_i5 = w2c_j5 < w2c_j6;
-  w2c_j3 = w2c_i5 ? w2c_j3 : w2c_j4;
-  w2c_p1 = w2c_j3;
-  w2c_j4 = w2c_l7;
-  w2c_j5 = w2c_p1;
-  w2c_j6 = w2c_l7;
-  w2c_i5 = w2c_j5 > w2c_j6;
-  w2c_j3 = w2c_i5 ? w2c_j3 : w2c_j4;
-  w2c_tcp_driver__timers__Timers__follow(instance, w2c_j0, w2c_j1, w2c_j2, w2c_j3);
+  w2c_i2 = !(w2c_j2);
+  w2c_i0 = w2c_i2 ? w2c_i0 : w2c_i1;
+  w2c_l16 = w2c_i0;
+  w2c_B14:;
+  w2c_i0 = 0u;
+  w2c_l15 = w2c_i0;
+  w2c_i0 = w2c_l11;
+  w2c_i1 = 6u;
+  w2c_i0 = w2c_i0 != w2c_i1;
+  if (w2c_i0) {goto w2c_B15;}
+  w2c_i0 = 16777216u;
+  w2c_i1 = 0u;
+  w2c_j2 = w2c_l4;
+  w2c_j3 = 320ull;
+  w2c_j2 += w2c_j3;
+  w2c_i2 = (u32)(w2c_j2);
+  w2c_j2 = i64_load(&instance->w2c_memory, (u64)(w2c_i2));
+  w2c_i2 = !(w2c_j2);
+  w2c_i0 = w2c_i2 ? w2c_i0 : w2c_i1;
+  w2c_l15 = w2c_i0;
+  w2c_B15:;
+  w2c_j0 = w2c_l4;
+  w2c_j1 = 64ull;
+  w2c_j0 += w2c_j1;
+  w2c_i0 = (u32)(w2c_j0);
+  w2c_j0 = i64_load(&instance->w2c_memory, (u64)(w2c_i0));
+  w2c_p1 = w2c_j0;
+  w2c_j0 = w2c_l5;
+  w2c_i0 = (u32)(w2c_j0);
+  w2c_i1 = w2c_l14;
+  w2c_i2 = 65536u;
+  w2c_i3 = 0u;
+  w2c_i4 = w2c_l11;
+  w2c_i5 = 10u;
+  w2c_i4 = w2c_i4 == w2c_i5;
+  w2c_i2 = w2c_i4 ? w2c_i2 : w2c_i3;
+  w2c_i1 |= w2c_i2;
+  w2c_i2 = w2c_l16;
+  w2c_i1 |= w2c_i2;
+  w2c_i2 = w2c_l15;
+  w2c_i1 |= w2c_i2;
+  i32_store(&instance->w2c_memory, (u64)(w2c_i0) + 12, w2c_i1);
+  w2c_j0 = w2c_p1;
+  w2c_j1 = w2c_l4;
+  w2c_j2 = 632ull;
+  w2c_j1 += w2c_j2;
+  w2c_i1 = (u32)(w2c_j1);
+  w2c_j1 = i64_load(&instance->w2c_memory, (u64)(w2c_i1));
+  w2c_i0 = w2c_j0 != w2c_j1;
+  if (w2c_i0) {goto w2c_B2;}
+  w2c_j0 = w2c_l4;
+  w2c_j1 = 584ull;
+  w2c_j0 += w2c_j1;
+  w2c_i0 = (u32)(w2c_j0);
+  w2c_i0 = i32_load8_u(&instance->w2c_memory, (u64)(w2c_i0));
+  w2c_i1 = 1u;
+  w2c_i0 = w2c_i0 != w2c_i1;
+  w2c_i1 = w2c_l14;
+  w2c_i0 = w2c_i0 == w2c_i1;
+  if (w2c_i0) {goto w2c_B2;}
+  w2c_j0 = w2c_l4;
+  w2c_j1 = 640ull;
+  w2c_j0 += w2c_j1;
+  w2c_i0 = (u32)(w2c_j0);
+  w2c_i0 = i32_load8_u(&instance->w2c_memory, (u64)(w2c_i0));
+  w2c_l17 = w2c_i0;
+  w2c_i1 = 1u;
+  w2c_i0 = w2c_i0 == w2c_i1;
+  if (w2c_i0) {goto w2c_B17;}
+  w2c_i0 = w2c_l14;
+  if (w2c_i0) {goto w2c_B17;}
+  w2c_j0 = w2c_l4;
+  w2c_j1 = 656ull;
+  w2c_j0 += w2c_j1;
+  w2c_i0 = (u32)(w2c_j0);
+  w2c_i0 = i32_load(&instance->w2c_memory, (u64)(w2c_i0));
+  if (w2c_i0) {goto w2c_B2;}
+  w2c_j0 = w2c_l4;
+  w2c_j1 = 660ull;
+  w2c_j0 += w2c_j1;
+  w2c_i0 = (u32)(w2c_j0);
+  w2c_i0 = i32_load8_u(&instance->w2c_memory, (u64)(w2c_i0));
+  w2c_i0 = !(w2c_i0);
+  if (w2c_i0) {goto w2c_B16;}
+  goto w2c_B2;
+  w2c_B17:;
+  w2c_i0 = w2c_l17;
+  w2c_i1 = 1u;
+  w2c_i0 = w2c_i0 != w2c_i1;
+  if (w2c_i0) {goto w2c_B2;}
+  w2c_i0 = w2c_l14;
+  w2c_i0 = !(w2c_i0);
+  if (w2c_i0) {goto w2c_B2;}
+  w2c_B16:;
+  w2c_i0 = w2c_l16;
+  w2c_i1 = 0u;
+  w2c_i0 = w2c_i0 != w2c_i1;
+  w2c_j1 = w2c_l4;
+  w2c_j2 = 600ull;
+  w2c_j1 += w2c_j2;
+  w2c_i1 = (u32)(w2c_j1);
+  w2c_i1 = i32_load8_u(&instance->w2c_memory, (u64)(w2c_i1));
+  w2c_i2 = 1u;
+  w2c_i1 = w2c_i1 != w2c_i2;
+  w2c_i0 = w2c_i0 == w2c_i1;
+  if (w2c_i0) {goto w2c_B2;}
+  w2c_i0 = w2c_l11;
+  w2c_i1 = 10u;
+  w2c_i0 = w2c_i0 == w2c_i1;
+  w2c_j1 = w2c_l4;
+  w2c_j2 = 616ull;
+  w2c_j1 += w2c_j2;
+  w2c_i1 = (u32)(w2c_j1);
+  w2c_i1 = i32_load8_u(&instance->w2c_memory, (u64)(w2c_i1));
+  w2c_i2 = 1u;
+  w2c_i1 = w2c_i1 != w2c_i2;
+  w2c_i0 = w2c_i0 == w2c_i1;
+  if (w2c_i0) {goto w2c_B2;}
+  w2c_i0 = w2c_l15;
+  w2c_i1 = 0u;
+  w2c_i0 = w2c_i0 != w2c_i1;
+  w2c_j1 = w2c_l4;
+  w2c_j2 = 680ull;
+  w2c_j1 += w2c_j2;
+  w2c_i1 = (u32)(w2c_j1);
+  w2c_i1 = i32_load8_u(&instance->w2c_memory, (u64)(w2c_i1));
+  w2c_i2 = 1u;
+  w2c_i1 = w2c_i1 != w2c_i2;
+  w2c_i0 = w2c_i0 == w2c_i1;
+  if (w2c_i0) {goto w2c_B2;}
+  w2c_j0 = w2c_l4;
+  w2c_j1 = 704ull;
+  w2c_j0 += w2c_j1;
+  w2c_i0 = (u32)(w2c_j0);
+  w2c_j1 = w2c_l7;
+  i64_store(&instance->w2c_memory, (u64)(w2c_i0), w2c_j1);
+  goto w2c_B1;
+  w2c_B3:;
+  UNREACHABLE;
+  w2c_B2:;
+  w2c_j0 = w2c_p2;
+  w2c_j1 = w2c_l5;
+  w2c_j2 = 12ull;
+  w2c_j1 += w2c_j2;
+  w2c_j2 = w2c_p1;
+  w2c_j3 = w2c_l7;
+  w2c_tcp_driver__timers__Timers__start(instance, w2c_j0, w2c_j1, w2c_j2, w2c_j3);
+  w2c_B1:;
   w2c_j0 = w2c_p0;
   w2c_i0 = (u32)(w2c_j0);
   w2c_j1 = w2c_l4;
@@ -46066,24 +47332,20 @@ static u32 w2c_rattle__export_tcp_c_connection_consume(Machine * instance, u64 w
   w2c_i0 = (u32)(w2c_j0);
   w2c_j1 = w2c_l6;
   w2c_j2 = 0ull;
-  w2c_i3 = w2c_l12;
+  w2c_i3 = w2c_l13;
   w2c_j1 = w2c_i3 ? w2c_j1 : w2c_j2;
   i64_store(&instance->w2c_memory, (u64)(w2c_i0), w2c_j1);
   w2c_i0 = 0u;
-  w2c_i1 = w2c_l11;
-  w2c_i2 = w2c_l12;
+  w2c_i1 = w2c_l12;
+  w2c_i2 = w2c_l13;
   w2c_i0 = w2c_i2 ? w2c_i0 : w2c_i1;
-  w2c_l10 = w2c_i0;
-  w2c_B1:;
+  w2c_l11 = w2c_i0;
+  w2c_B0:;
   w2c_j0 = w2c_l5;
   w2c_j1 = 16ull;
   w2c_j0 += w2c_j1;
   instance->w2c___stack_pointer = w2c_j0;
-  w2c_i0 = w2c_l10;
-  goto w2c_Bfunc;
-  w2c_B0:;
-  UNREACHABLE;
-  w2c_Bfunc:;
+  w2c_i0 = w2c_l11;
   return w2c_i0;
 }
 
@@ -46122,7 +47384,7 @@ static u32 w2c_rattle__export_tcp_c_connection_emit(Machine * instance, u64 w2c_
   u32 w2c_i0, w2c_i1, w2c_i2, w2c_i3, w2c_i4, w2c_i5, w2c_i6;
   u64 w2c_j0, w2c_j1, w2c_j2, w2c_j3, w2c_j4, w2c_j5;
   w2c_j0 = instance->w2c___stack_pointer;
-  w2c_j1 = 80ull;
+  w2c_j1 = 64ull;
   w2c_j0 -= w2c_j1;
   w2c_l6 = w2c_j0;
   instance->w2c___stack_pointer = w2c_j0;
@@ -46185,12 +47447,6 @@ static u32 w2c_rattle__export_tcp_c_connection_emit(Machine * instance, u64 w2c_
   w2c_l21 = w2c_i0;
   goto w2c_B0;
   w2c_B8:;
-  w2c_i0 = 0u;
-  w2c_l22 = w2c_i0;
-  w2c_j0 = w2c_l7;
-  w2c_i0 = (u32)(w2c_j0);
-  w2c_i1 = 0u;
-  i32_store(&instance->w2c_memory, (u64)(w2c_i0) + 12, w2c_i1);
   w2c_j0 = w2c_p1;
   w2c_j1 = 4611686018427387904ull;
   w2c_j2 = w2c_p1;
@@ -46215,7 +47471,7 @@ static u32 w2c_rattle__export_tcp_c_connection_emit(Machine * instance, u64 w2c_
   w2c_l10 = w2c_j0;
   w2c_i0 = (u32)(w2c_j0);
   w2c_i0 = i32_load8_u(&instance->w2c_memory, (u64)(w2c_i0));
-  w2c_l23 = w2c_i0;
+  w2c_l22 = w2c_i0;
   w2c_i1 = 1u;
   w2c_i0 = w2c_i0 == w2c_i1;
   if (w2c_i0) {goto w2c_B10;}
@@ -46228,19 +47484,19 @@ static u32 w2c_rattle__export_tcp_c_connection_emit(Machine * instance, u64 w2c_
   w2c_j0 = w2c_l7;
   w2c_i0 = (u32)(w2c_j0);
   w2c_j1 = 0ull;
-  i64_store(&instance->w2c_memory, (u64)(w2c_i0) + 64, w2c_j1);
-  w2c_j0 = w2c_l7;
-  w2c_i0 = (u32)(w2c_j0);
-  w2c_j1 = 0ull;
-  i64_store(&instance->w2c_memory, (u64)(w2c_i0) + 56, w2c_j1);
-  w2c_j0 = w2c_l7;
-  w2c_i0 = (u32)(w2c_j0);
-  w2c_j1 = 0ull;
   i64_store(&instance->w2c_memory, (u64)(w2c_i0) + 48, w2c_j1);
   w2c_j0 = w2c_l7;
   w2c_i0 = (u32)(w2c_j0);
   w2c_j1 = 0ull;
   i64_store(&instance->w2c_memory, (u64)(w2c_i0) + 40, w2c_j1);
+  w2c_j0 = w2c_l7;
+  w2c_i0 = (u32)(w2c_j0);
+  w2c_j1 = 0ull;
+  i64_store(&instance->w2c_memory, (u64)(w2c_i0) + 32, w2c_j1);
+  w2c_j0 = w2c_l7;
+  w2c_i0 = (u32)(w2c_j0);
+  w2c_j1 = 0ull;
+  i64_store(&instance->w2c_memory, (u64)(w2c_i0) + 24, w2c_j1);
   w2c_i0 = 1u;
   w2c_j1 = w2c_l6;
   w2c_j2 = 48ull;
@@ -46260,13 +47516,13 @@ static u32 w2c_rattle__export_tcp_c_connection_emit(Machine * instance, u64 w2c_
   w2c_j0 += w2c_j1;
   w2c_i0 = (u32)(w2c_j0);
   w2c_i0 = i32_load16_u(&instance->w2c_memory, (u64)(w2c_i0));
-  w2c_l24 = w2c_i0;
+  w2c_l23 = w2c_i0;
   w2c_j0 = w2c_l6;
   w2c_j1 = 12ull;
   w2c_j0 += w2c_j1;
   w2c_i0 = (u32)(w2c_j0);
   w2c_i0 = i32_load16_u(&instance->w2c_memory, (u64)(w2c_i0));
-  w2c_l25 = w2c_i0;
+  w2c_l24 = w2c_i0;
   w2c_i0 = 0u;
   w2c_l21 = w2c_i0;
   w2c_j0 = w2c_l6;
@@ -46300,30 +47556,30 @@ static u32 w2c_rattle__export_tcp_c_connection_emit(Machine * instance, u64 w2c_
   w2c_l21 = w2c_i0;
   w2c_B11:;
   w2c_j0 = w2c_l7;
-  w2c_j1 = 40ull;
+  w2c_j1 = 24ull;
   w2c_j0 += w2c_j1;
   w2c_j1 = w2c_l8;
   w2c_i2 = 0u;
-  w2c_i3 = w2c_l24;
+  w2c_i3 = w2c_l23;
   w2c_i4 = 65535u;
   w2c_i3 &= w2c_i4;
-  w2c_l24 = w2c_i3;
-  w2c_i4 = w2c_l25;
+  w2c_l23 = w2c_i3;
+  w2c_i4 = w2c_l24;
   w2c_i5 = 65535u;
   w2c_i4 &= w2c_i5;
-  w2c_l25 = w2c_i4;
-  w2c_i5 = w2c_l24;
-  w2c_i6 = w2c_l25;
+  w2c_l24 = w2c_i4;
+  w2c_i5 = w2c_l23;
+  w2c_i6 = w2c_l24;
   w2c_i5 = w2c_i5 < w2c_i6;
   w2c_i3 = w2c_i5 ? w2c_i3 : w2c_i4;
-  w2c_l24 = w2c_i3;
+  w2c_l23 = w2c_i3;
   w2c_i4 = w2c_l21;
   w2c_i5 = 65535u;
   w2c_i4 &= w2c_i5;
   w2c_i3 -= w2c_i4;
   w2c_l21 = w2c_i3;
   w2c_i4 = w2c_l21;
-  w2c_i5 = w2c_l24;
+  w2c_i5 = w2c_l23;
   w2c_i4 = w2c_i4 > w2c_i5;
   w2c_i2 = w2c_i4 ? w2c_i2 : w2c_i3;
   w2c_j3 = w2c_l6;
@@ -46339,7 +47595,7 @@ static u32 w2c_rattle__export_tcp_c_connection_emit(Machine * instance, u64 w2c_
   w2c_tcp_halves__sender__Sender__due(instance, w2c_j0, w2c_j1, w2c_i2, w2c_i3, w2c_i4);
   w2c_j0 = w2c_l7;
   w2c_i0 = (u32)(w2c_j0);
-  w2c_i0 = i32_load8_u(&instance->w2c_memory, (u64)(w2c_i0) + 40u);
+  w2c_i0 = i32_load8_u(&instance->w2c_memory, (u64)(w2c_i0) + 24u);
   w2c_i1 = 1u;
   w2c_i0 = w2c_i0 != w2c_i1;
   if (w2c_i0) {goto w2c_B9;}
@@ -46348,13 +47604,13 @@ static u32 w2c_rattle__export_tcp_c_connection_emit(Machine * instance, u64 w2c_
   w2c_j0 = 0ull;
   w2c_j1 = w2c_l7;
   w2c_i1 = (u32)(w2c_j1);
-  w2c_j1 = i64_load(&instance->w2c_memory, (u64)(w2c_i1) + 64u);
+  w2c_j1 = i64_load(&instance->w2c_memory, (u64)(w2c_i1) + 48u);
   w2c_l11 = w2c_j1;
   w2c_j2 = 1ull;
   w2c_j3 = w2c_l7;
   w2c_i3 = (u32)(w2c_j3);
-  w2c_i3 = i32_load8_u(&instance->w2c_memory, (u64)(w2c_i3) + 48u);
-  w2c_l22 = w2c_i3;
+  w2c_i3 = i32_load8_u(&instance->w2c_memory, (u64)(w2c_i3) + 32u);
+  w2c_l23 = w2c_i3;
   w2c_i4 = 2u;
   w2c_i3 = w2c_i3 < w2c_i4;
   w2c_j1 = w2c_i3 ? w2c_j1 : w2c_j2;
@@ -46363,7 +47619,7 @@ static u32 w2c_rattle__export_tcp_c_connection_emit(Machine * instance, u64 w2c_
   w2c_j3 = w2c_p1;
   w2c_j4 = w2c_l7;
   w2c_i4 = (u32)(w2c_j4);
-  w2c_j4 = i64_load(&instance->w2c_memory, (u64)(w2c_i4) + 56u);
+  w2c_j4 = i64_load(&instance->w2c_memory, (u64)(w2c_i4) + 40u);
   w2c_p4 = w2c_j4;
   w2c_j3 += w2c_j4;
   w2c_i2 = w2c_j2 > w2c_j3;
@@ -46386,7 +47642,7 @@ static u32 w2c_rattle__export_tcp_c_connection_emit(Machine * instance, u64 w2c_
   w2c_l8 = w2c_j0;
   goto w2c_B5;
   w2c_B10:;
-  w2c_i0 = w2c_l23;
+  w2c_i0 = w2c_l22;
   w2c_i1 = 1u;
   w2c_i0 = w2c_i0 != w2c_i1;
   w2c_l21 = w2c_i0;
@@ -46400,6 +47656,8 @@ static u32 w2c_rattle__export_tcp_c_connection_emit(Machine * instance, u64 w2c_
   w2c_p1 = w2c_j0;
   w2c_j0 = 0ull;
   w2c_p4 = w2c_j0;
+  w2c_i0 = 0u;
+  w2c_l23 = w2c_i0;
   w2c_j0 = 0ull;
   w2c_l11 = w2c_j0;
   w2c_j0 = 0ull;
@@ -46440,6 +47698,8 @@ static u32 w2c_rattle__export_tcp_c_connection_emit(Machine * instance, u64 w2c_
   w2c_i2 = w2c_j2 > w2c_j3;
   w2c_j0 = w2c_i2 ? w2c_j0 : w2c_j1;
   w2c_l13 = w2c_j0;
+  w2c_i0 = 0u;
+  w2c_l23 = w2c_i0;
   w2c_i0 = 3u;
   w2c_l21 = w2c_i0;
   w2c_j0 = 0ull;
@@ -46479,7 +47739,7 @@ static u32 w2c_rattle__export_tcp_c_connection_emit(Machine * instance, u64 w2c_
   w2c_i0 = w2c_j0 < w2c_j1;
   if (w2c_i0) {goto w2c_B19;}
   w2c_B20:;
-  w2c_i0 = w2c_l23;
+  w2c_i0 = w2c_l22;
   w2c_i1 = 1u;
   w2c_i0 = w2c_i0 == w2c_i1;
   if (w2c_i0) {goto w2c_B21;}
@@ -46511,19 +47771,19 @@ static u32 w2c_rattle__export_tcp_c_connection_emit(Machine * instance, u64 w2c_
   if (w2c_i0) {goto w2c_B18;}
   w2c_B21:;
   w2c_i0 = 0u;
-  w2c_l25 = w2c_i0;
+  w2c_l24 = w2c_i0;
   w2c_j0 = w2c_l7;
   w2c_i0 = (u32)(w2c_j0);
   w2c_i1 = 0u;
-  i32_store(&instance->w2c_memory, (u64)(w2c_i0) + 32, w2c_i1);
+  i32_store(&instance->w2c_memory, (u64)(w2c_i0) + 16, w2c_i1);
   w2c_j0 = w2c_l7;
   w2c_i0 = (u32)(w2c_j0);
   w2c_j1 = 0ull;
-  i64_store(&instance->w2c_memory, (u64)(w2c_i0) + 24, w2c_j1);
+  i64_store(&instance->w2c_memory, (u64)(w2c_i0) + 8, w2c_j1);
   w2c_j0 = w2c_l7;
   w2c_i0 = (u32)(w2c_j0);
   w2c_j1 = 0ull;
-  i64_store(&instance->w2c_memory, (u64)(w2c_i0) + 16, w2c_j1);
+  i64_store(&instance->w2c_memory, (u64)(w2c_i0), w2c_j1);
   w2c_i0 = w2c_l21;
   switch (w2c_i0) {
     case 0: goto w2c_B16;
@@ -46533,7 +47793,7 @@ static u32 w2c_rattle__export_tcp_c_connection_emit(Machine * instance, u64 w2c_
     default: goto w2c_B16;
   }
   w2c_B19:;
-  w2c_i0 = w2c_l23;
+  w2c_i0 = w2c_l22;
   w2c_i1 = 1u;
   w2c_i0 = w2c_i0 == w2c_i1;
   if (w2c_i0) {goto w2c_B4;}
@@ -46552,21 +47812,21 @@ static u32 w2c_rattle__export_tcp_c_connection_emit(Machine * instance, u64 w2c_
   if (w2c_i0) {goto w2c_B4;}
   w2c_B18:;
   w2c_i0 = 0u;
-  w2c_l22 = w2c_i0;
+  w2c_l23 = w2c_i0;
   w2c_j0 = w2c_l7;
   w2c_i0 = (u32)(w2c_j0);
   w2c_i1 = 0u;
-  i32_store(&instance->w2c_memory, (u64)(w2c_i0) + 32, w2c_i1);
+  i32_store(&instance->w2c_memory, (u64)(w2c_i0) + 16, w2c_i1);
   w2c_j0 = 0ull;
   w2c_p4 = w2c_j0;
   w2c_j0 = w2c_l7;
   w2c_i0 = (u32)(w2c_j0);
   w2c_j1 = 0ull;
-  i64_store(&instance->w2c_memory, (u64)(w2c_i0) + 24, w2c_j1);
+  i64_store(&instance->w2c_memory, (u64)(w2c_i0) + 8, w2c_j1);
   w2c_j0 = w2c_l7;
   w2c_i0 = (u32)(w2c_j0);
   w2c_j1 = 0ull;
-  i64_store(&instance->w2c_memory, (u64)(w2c_i0) + 16, w2c_j1);
+  i64_store(&instance->w2c_memory, (u64)(w2c_i0), w2c_j1);
   w2c_i0 = 3u;
   w2c_l21 = w2c_i0;
   w2c_j0 = 0ull;
@@ -46575,21 +47835,21 @@ static u32 w2c_rattle__export_tcp_c_connection_emit(Machine * instance, u64 w2c_
   w2c_j0 = w2c_l7;
   w2c_i0 = (u32)(w2c_j0);
   w2c_j1 = w2c_l11;
-  i64_store(&instance->w2c_memory, (u64)(w2c_i0) + 64, w2c_j1);
+  i64_store(&instance->w2c_memory, (u64)(w2c_i0) + 48, w2c_j1);
   w2c_j0 = w2c_l7;
   w2c_i0 = (u32)(w2c_j0);
   w2c_j1 = w2c_p4;
-  i64_store(&instance->w2c_memory, (u64)(w2c_i0) + 56, w2c_j1);
+  i64_store(&instance->w2c_memory, (u64)(w2c_i0) + 40, w2c_j1);
   w2c_j0 = w2c_l7;
   w2c_i0 = (u32)(w2c_j0);
-  w2c_i1 = w2c_l22;
+  w2c_i1 = w2c_l23;
   w2c_j1 = (u64)(w2c_i1);
-  i64_store(&instance->w2c_memory, (u64)(w2c_i0) + 48, w2c_j1);
+  i64_store(&instance->w2c_memory, (u64)(w2c_i0) + 32, w2c_j1);
   w2c_j0 = w2c_l7;
   w2c_i0 = (u32)(w2c_j0);
   w2c_i1 = w2c_l21;
   w2c_j1 = (u64)(w2c_i1);
-  i64_store(&instance->w2c_memory, (u64)(w2c_i0) + 40, w2c_j1);
+  i64_store(&instance->w2c_memory, (u64)(w2c_i0) + 24, w2c_j1);
   w2c_j0 = w2c_l6;
   w2c_j1 = 62ull;
   w2c_j0 += w2c_j1;
@@ -46609,7 +47869,7 @@ static u32 w2c_rattle__export_tcp_c_connection_emit(Machine * instance, u64 w2c_
   if (w2c_i0) {goto w2c_B15;}
   w2c_j0 = w2c_l6;
   w2c_j1 = w2c_l7;
-  w2c_j2 = 40ull;
+  w2c_j2 = 24ull;
   w2c_j1 += w2c_j2;
   w2c_i2 = 0u;
   w2c_j3 = w2c_l14;
@@ -46617,7 +47877,7 @@ static u32 w2c_rattle__export_tcp_c_connection_emit(Machine * instance, u64 w2c_
   w2c_p1 = w2c_j0;
   goto w2c_B3;
   w2c_B16:;
-  w2c_i0 = w2c_l23;
+  w2c_i0 = w2c_l22;
   w2c_i1 = 1u;
   w2c_i0 = w2c_i0 != w2c_i1;
   if (w2c_i0) {goto w2c_B22;}
@@ -46628,7 +47888,7 @@ static u32 w2c_rattle__export_tcp_c_connection_emit(Machine * instance, u64 w2c_
   w2c_j1 += w2c_j2;
   w2c_i1 = (u32)(w2c_j1);
   w2c_i1 = i32_load16_u(&instance->w2c_memory, (u64)(w2c_i1));
-  i32_store16(&instance->w2c_memory, (u64)(w2c_i0) + 20, w2c_i1);
+  i32_store16(&instance->w2c_memory, (u64)(w2c_i0) + 4, w2c_i1);
   w2c_j0 = w2c_l7;
   w2c_i0 = (u32)(w2c_j0);
   w2c_j1 = w2c_l6;
@@ -46636,7 +47896,7 @@ static u32 w2c_rattle__export_tcp_c_connection_emit(Machine * instance, u64 w2c_
   w2c_j1 += w2c_j2;
   w2c_i1 = (u32)(w2c_j1);
   w2c_i1 = i32_load(&instance->w2c_memory, (u64)(w2c_i1));
-  i32_store(&instance->w2c_memory, (u64)(w2c_i0) + 16, w2c_i1);
+  i32_store(&instance->w2c_memory, (u64)(w2c_i0), w2c_i1);
   w2c_j0 = w2c_l7;
   w2c_i0 = (u32)(w2c_j0);
   w2c_j1 = w2c_l6;
@@ -46644,7 +47904,7 @@ static u32 w2c_rattle__export_tcp_c_connection_emit(Machine * instance, u64 w2c_
   w2c_j1 += w2c_j2;
   w2c_i1 = (u32)(w2c_j1);
   w2c_i1 = i32_load(&instance->w2c_memory, (u64)(w2c_i1));
-  i32_store(&instance->w2c_memory, (u64)(w2c_i0) + 24, w2c_i1);
+  i32_store(&instance->w2c_memory, (u64)(w2c_i0) + 8, w2c_i1);
   w2c_j0 = w2c_l7;
   w2c_i0 = (u32)(w2c_j0);
   w2c_j1 = w2c_l6;
@@ -46652,7 +47912,7 @@ static u32 w2c_rattle__export_tcp_c_connection_emit(Machine * instance, u64 w2c_
   w2c_j1 += w2c_j2;
   w2c_i1 = (u32)(w2c_j1);
   w2c_i1 = i32_load8_u(&instance->w2c_memory, (u64)(w2c_i1));
-  i32_store(&instance->w2c_memory, (u64)(w2c_i0) + 28, w2c_i1);
+  i32_store(&instance->w2c_memory, (u64)(w2c_i0) + 12, w2c_i1);
   w2c_j0 = w2c_l7;
   w2c_i0 = (u32)(w2c_j0);
   w2c_j1 = w2c_l6;
@@ -46660,11 +47920,9 @@ static u32 w2c_rattle__export_tcp_c_connection_emit(Machine * instance, u64 w2c_
   w2c_j1 += w2c_j2;
   w2c_i1 = (u32)(w2c_j1);
   w2c_i1 = i32_load(&instance->w2c_memory, (u64)(w2c_i1));
-  i32_store(&instance->w2c_memory, (u64)(w2c_i0) + 32, w2c_i1);
+  i32_store(&instance->w2c_memory, (u64)(w2c_i0) + 16, w2c_i1);
   w2c_j0 = w2c_l6;
   w2c_j1 = w2c_l7;
-  w2c_j2 = 16ull;
-  w2c_j1 += w2c_j2;
   w2c_i2 = 0u;
   w2c_j3 = w2c_l14;
   w2c_j0 = w2c_tcp_conn__endpoint__Endpoint__write_reset(instance, w2c_j0, w2c_j1, w2c_i2, w2c_j3);
@@ -46674,19 +47932,19 @@ static u32 w2c_rattle__export_tcp_c_connection_emit(Machine * instance, u64 w2c_
   w2c_j0 = w2c_l7;
   w2c_i0 = (u32)(w2c_j0);
   w2c_j1 = 0ull;
-  i64_store(&instance->w2c_memory, (u64)(w2c_i0) + 48, w2c_j1);
+  i64_store(&instance->w2c_memory, (u64)(w2c_i0) + 32, w2c_j1);
   w2c_j0 = w2c_l7;
   w2c_i0 = (u32)(w2c_j0);
   w2c_j1 = 3ull;
+  i64_store(&instance->w2c_memory, (u64)(w2c_i0) + 24, w2c_j1);
+  w2c_j0 = w2c_l7;
+  w2c_i0 = (u32)(w2c_j0);
+  w2c_j1 = 0ull;
   i64_store(&instance->w2c_memory, (u64)(w2c_i0) + 40, w2c_j1);
   w2c_j0 = w2c_l7;
   w2c_i0 = (u32)(w2c_j0);
   w2c_j1 = 0ull;
-  i64_store(&instance->w2c_memory, (u64)(w2c_i0) + 56, w2c_j1);
-  w2c_j0 = w2c_l7;
-  w2c_i0 = (u32)(w2c_j0);
-  w2c_j1 = 0ull;
-  i64_store(&instance->w2c_memory, (u64)(w2c_i0) + 64, w2c_j1);
+  i64_store(&instance->w2c_memory, (u64)(w2c_i0) + 48, w2c_j1);
   w2c_j0 = w2c_l6;
   w2c_j1 = 62ull;
   w2c_j0 += w2c_j1;
@@ -46736,7 +47994,7 @@ static u32 w2c_rattle__export_tcp_c_connection_emit(Machine * instance, u64 w2c_
   w2c_j0 += w2c_j1;
   w2c_i0 = (u32)(w2c_j0);
   w2c_i0 = i32_load16_u(&instance->w2c_memory, (u64)(w2c_i0));
-  w2c_l22 = w2c_i0;
+  w2c_l23 = w2c_i0;
   w2c_j0 = w2c_l6;
   w2c_j1 = 4ull;
   w2c_j0 += w2c_j1;
@@ -46780,7 +48038,7 @@ static u32 w2c_rattle__export_tcp_c_connection_emit(Machine * instance, u64 w2c_
   w2c_j0 = w2c_l6;
   w2c_i0 = (u32)(w2c_j0);
   w2c_i0 = i32_load(&instance->w2c_memory, (u64)(w2c_i0));
-  w2c_l23 = w2c_i0;
+  w2c_l22 = w2c_i0;
   w2c_j0 = w2c_l14;
   w2c_j1 = 4ull;
   w2c_j0 += w2c_j1;
@@ -46832,10 +48090,10 @@ static u32 w2c_rattle__export_tcp_c_connection_emit(Machine * instance, u64 w2c_
   w2c_j1 = 2ull;
   w2c_j0 += w2c_j1;
   w2c_i0 = (u32)(w2c_j0);
-  w2c_i1 = w2c_l22;
+  w2c_i1 = w2c_l23;
   w2c_i2 = 8u;
   w2c_i1 <<= (w2c_i2 & 31);
-  w2c_i2 = w2c_l22;
+  w2c_i2 = w2c_l23;
   w2c_i3 = 65280u;
   w2c_i2 &= w2c_i3;
   w2c_i3 = 8u;
@@ -46909,7 +48167,7 @@ static u32 w2c_rattle__export_tcp_c_connection_emit(Machine * instance, u64 w2c_
   w2c_i3 &= w2c_i4;
   w2c_i2 += w2c_i3;
   w2c_i1 += w2c_i2;
-  w2c_i2 = w2c_l22;
+  w2c_i2 = w2c_l23;
   w2c_i3 = 65535u;
   w2c_i2 &= w2c_i3;
   w2c_j3 = w2c_l14;
@@ -46917,10 +48175,10 @@ static u32 w2c_rattle__export_tcp_c_connection_emit(Machine * instance, u64 w2c_
   w2c_j3 += w2c_j4;
   w2c_i3 = (u32)(w2c_j3);
   w2c_i3 = i32_load16_u(&instance->w2c_memory, (u64)(w2c_i3));
-  w2c_l22 = w2c_i3;
+  w2c_l23 = w2c_i3;
   w2c_i4 = 8u;
   w2c_i3 <<= (w2c_i4 & 31);
-  w2c_i4 = w2c_l22;
+  w2c_i4 = w2c_l23;
   w2c_i5 = 8u;
   w2c_i4 >>= (w2c_i5 & 31);
   w2c_i3 |= w2c_i4;
@@ -46932,10 +48190,10 @@ static u32 w2c_rattle__export_tcp_c_connection_emit(Machine * instance, u64 w2c_
   w2c_j3 += w2c_j4;
   w2c_i3 = (u32)(w2c_j3);
   w2c_i3 = i32_load16_u(&instance->w2c_memory, (u64)(w2c_i3));
-  w2c_l22 = w2c_i3;
+  w2c_l23 = w2c_i3;
   w2c_i4 = 8u;
   w2c_i3 <<= (w2c_i4 & 31);
-  w2c_i4 = w2c_l22;
+  w2c_i4 = w2c_l23;
   w2c_i5 = 8u;
   w2c_i4 >>= (w2c_i5 & 31);
   w2c_i3 |= w2c_i4;
@@ -46945,10 +48203,10 @@ static u32 w2c_rattle__export_tcp_c_connection_emit(Machine * instance, u64 w2c_
   w2c_i3 += w2c_i4;
   w2c_i2 += w2c_i3;
   w2c_i1 += w2c_i2;
-  w2c_i2 = w2c_l23;
+  w2c_i2 = w2c_l22;
   w2c_i3 = 24u;
   w2c_i2 >>= (w2c_i3 & 31);
-  w2c_i3 = w2c_l23;
+  w2c_i3 = w2c_l22;
   w2c_i4 = 8u;
   w2c_i3 >>= (w2c_i4 & 31);
   w2c_i4 = 65280u;
@@ -46958,10 +48216,10 @@ static u32 w2c_rattle__export_tcp_c_connection_emit(Machine * instance, u64 w2c_
   w2c_i4 = 24u;
   w2c_i3 >>= (w2c_i4 & 31);
   w2c_i2 += w2c_i3;
-  w2c_i3 = w2c_l23;
+  w2c_i3 = w2c_l22;
   w2c_i4 = 8u;
   w2c_i3 <<= (w2c_i4 & 31);
-  w2c_i4 = w2c_l23;
+  w2c_i4 = w2c_l22;
   w2c_i5 = 65280u;
   w2c_i4 &= w2c_i5;
   w2c_i5 = 8u;
@@ -46996,10 +48254,10 @@ static u32 w2c_rattle__export_tcp_c_connection_emit(Machine * instance, u64 w2c_
   w2c_l21 = w2c_i1;
   w2c_i2 = 4294967295u;
   w2c_i1 ^= w2c_i2;
-  w2c_l23 = w2c_i1;
+  w2c_l22 = w2c_i1;
   w2c_i2 = 8u;
   w2c_i1 <<= (w2c_i2 & 31);
-  w2c_i2 = w2c_l23;
+  w2c_i2 = w2c_l22;
   w2c_i3 = 65280u;
   w2c_i2 &= w2c_i3;
   w2c_i3 = 8u;
@@ -47040,8 +48298,8 @@ static u32 w2c_rattle__export_tcp_c_connection_emit(Machine * instance, u64 w2c_
   w2c_i0 = (u32)(w2c_j0);
   w2c_l27 = w2c_i0;
   w2c_i0 = 16u;
-  w2c_l23 = w2c_i0;
-  w2c_i0 = w2c_l22;
+  w2c_l22 = w2c_i0;
+  w2c_i0 = w2c_l23;
   w2c_i1 = 1u;
   w2c_i0 = w2c_i0 > w2c_i1;
   if (w2c_i0) {goto w2c_B27;}
@@ -47074,14 +48332,14 @@ static u32 w2c_rattle__export_tcp_c_connection_emit(Machine * instance, u64 w2c_
   w2c_j3 = i64_load(&instance->w2c_memory, (u64)(w2c_i3));
   w2c_i2 = w2c_j2 == w2c_j3;
   w2c_i0 = w2c_i2 ? w2c_i0 : w2c_i1;
-  w2c_l23 = w2c_i0;
+  w2c_l22 = w2c_i0;
   w2c_B27:;
   w2c_i0 = w2c_l24;
   w2c_i1 = w2c_l27;
   w2c_i0 += w2c_i1;
   w2c_l24 = w2c_i0;
-  w2c_i0 = w2c_l23;
-  w2c_i1 = w2c_l22;
+  w2c_i0 = w2c_l22;
+  w2c_i1 = w2c_l23;
   w2c_i2 = 254u;
   w2c_i1 &= w2c_i2;
   w2c_i2 = 2u;
@@ -47102,7 +48360,7 @@ static u32 w2c_rattle__export_tcp_c_connection_emit(Machine * instance, u64 w2c_
   w2c_i0 = i32_load(&instance->w2c_memory, (u64)(w2c_i0));
   w2c_l27 = w2c_i0;
   w2c_i0 = 0u;
-  w2c_l23 = w2c_i0;
+  w2c_l22 = w2c_i0;
   w2c_j0 = w2c_l6;
   w2c_j1 = 60ull;
   w2c_j0 += w2c_j1;
@@ -47127,7 +48385,7 @@ static u32 w2c_rattle__export_tcp_c_connection_emit(Machine * instance, u64 w2c_
   w2c_i0 = w2c_i2 ? w2c_i0 : w2c_i1;
   w2c_i1 = 255u;
   w2c_i0 &= w2c_i1;
-  w2c_l23 = w2c_i0;
+  w2c_l22 = w2c_i0;
   w2c_B28:;
   w2c_j0 = w2c_l6;
   w2c_j1 = 244ull;
@@ -47145,9 +48403,9 @@ static u32 w2c_rattle__export_tcp_c_connection_emit(Machine * instance, u64 w2c_
   w2c_j1 = w2c_l8;
   w2c_i1 = (u32)(w2c_j1);
   w2c_i0 -= w2c_i1;
-  w2c_i1 = w2c_l23;
+  w2c_i1 = w2c_l22;
   w2c_i0 >>= (w2c_i1 & 31);
-  w2c_l23 = w2c_i0;
+  w2c_l22 = w2c_i0;
   w2c_i1 = 65535u;
   w2c_i0 = w2c_i0 < w2c_i1;
   w2c_l26 = w2c_i0;
@@ -47189,14 +48447,14 @@ static u32 w2c_rattle__export_tcp_c_connection_emit(Machine * instance, u64 w2c_
   w2c_i0 = (u32)(w2c_j0);
   w2c_i0 = i32_load16_u(&instance->w2c_memory, (u64)(w2c_i0));
   w2c_l28 = w2c_i0;
-  w2c_i0 = w2c_l23;
+  w2c_i0 = w2c_l22;
   w2c_i1 = 65535u;
   w2c_i2 = w2c_l26;
   w2c_i0 = w2c_i2 ? w2c_i0 : w2c_i1;
   w2c_l26 = w2c_i0;
   w2c_j0 = w2c_l11;
   w2c_j1 = 0ull;
-  w2c_i2 = w2c_l22;
+  w2c_i2 = w2c_l23;
   w2c_i3 = 255u;
   w2c_i2 &= w2c_i3;
   w2c_i3 = 2u;
@@ -47214,7 +48472,7 @@ static u32 w2c_rattle__export_tcp_c_connection_emit(Machine * instance, u64 w2c_
   if (w2c_i0) {goto w2c_B30;}
   w2c_j0 = w2c_l16;
   w2c_i0 = !(w2c_j0);
-  w2c_l23 = w2c_i0;
+  w2c_l22 = w2c_i0;
   if (w2c_i0) {goto w2c_B30;}
   w2c_j0 = 0ull;
   w2c_p2 = w2c_j0;
@@ -47245,7 +48503,7 @@ static u32 w2c_rattle__export_tcp_c_connection_emit(Machine * instance, u64 w2c_
   w2c_i0 = !(w2c_i0);
   if (w2c_i0) {goto w2c_B32;}
   w2c_j0 = w2c_l7;
-  w2c_j1 = 72ull;
+  w2c_j1 = 56ull;
   w2c_j0 += w2c_j1;
   w2c_l19 = w2c_j0;
   w2c_p1 = w2c_j0;
@@ -47281,7 +48539,7 @@ static u32 w2c_rattle__export_tcp_c_connection_emit(Machine * instance, u64 w2c_
   w2c_l19 = w2c_j0;
   w2c_j0 = w2c_l10;
   w2c_j1 = w2c_l7;
-  w2c_j2 = 72ull;
+  w2c_j2 = 56ull;
   w2c_j1 += w2c_j2;
   w2c_j2 = w2c_p1;
   w2c_j3 = w2c_l13;
@@ -47425,7 +48683,7 @@ static u32 w2c_rattle__export_tcp_c_connection_emit(Machine * instance, u64 w2c_
     goto w2c_B30;
   UNREACHABLE;
   w2c_B34:;
-  w2c_i0 = w2c_l23;
+  w2c_i0 = w2c_l22;
   if (w2c_i0) {goto w2c_B30;}
   w2c_j0 = w2c_l12;
   w2c_i0 = (u32)(w2c_j0);
@@ -47455,7 +48713,7 @@ static u32 w2c_rattle__export_tcp_c_connection_emit(Machine * instance, u64 w2c_
   w2c_i0 = i32_load(&instance->w2c_memory, (u64)(w2c_i0));
   w2c_l31 = w2c_i0;
   w2c_i0 = 0u;
-  w2c_l23 = w2c_i0;
+  w2c_l22 = w2c_i0;
   w2c_j0 = w2c_l14;
   w2c_j1 = 16ull;
   w2c_j0 += w2c_j1;
@@ -47623,7 +48881,7 @@ static u32 w2c_rattle__export_tcp_c_connection_emit(Machine * instance, u64 w2c_
   w2c_i0 = 0u;
   w2c_l40 = w2c_i0;
   w2c_i0 = 0u;
-  w2c_l23 = w2c_i0;
+  w2c_l22 = w2c_i0;
   w2c_i0 = 0u;
   w2c_l32 = w2c_i0;
   w2c_i0 = 0u;
@@ -47697,7 +48955,7 @@ static u32 w2c_rattle__export_tcp_c_connection_emit(Machine * instance, u64 w2c_
   w2c_j0 = w2c_l14;
   w2c_i0 = (u32)(w2c_j0);
   w2c_i0 = get16(near0 + 0);
-  w2c_l23 = w2c_i0;
+  w2c_l22 = w2c_i0;
   w2c_i1 = 8u;
   w2c_i0 >>= (w2c_i1 & 31);
   w2c_l24 = w2c_i0;
@@ -47736,10 +48994,10 @@ static u32 w2c_rattle__export_tcp_c_connection_emit(Machine * instance, u64 w2c_
     w2c_i1 = (u32)(w2c_j1);
     w2c_i1 = get16(near1 + 0);
     w2c_l44 = w2c_i1;
-    w2c_i2 = w2c_l23;
+    w2c_i2 = w2c_l22;
     w2c_i1 += w2c_i2;
     w2c_i0 += w2c_i1;
-    w2c_l23 = w2c_i0;
+    w2c_l22 = w2c_i0;
     w2c_j0 = w2c_l8;
     w2c_j1 = 20ull;
     w2c_j0 += w2c_j1;
@@ -47916,7 +49174,7 @@ static u32 w2c_rattle__export_tcp_c_connection_emit(Machine * instance, u64 w2c_
     w2c_i0 = w2c_j0 > w2c_j1;
     if (w2c_i0) {goto w2c_L44;}
   w2c_B40:;
-  w2c_i0 = w2c_l23;
+  w2c_i0 = w2c_l22;
   w2c_i1 = w2c_l24;
   w2c_i2 = 8u;
   w2c_i1 <<= (w2c_i2 & 31);
@@ -48029,7 +49287,7 @@ static u32 w2c_rattle__export_tcp_c_connection_emit(Machine * instance, u64 w2c_
   w2c_i0 += w2c_i1;
   w2c_l28 = w2c_i0;
   w2c_i0 = 0u;
-  w2c_l23 = w2c_i0;
+  w2c_l22 = w2c_i0;
   w2c_j0 = w2c_p3;
   w2c_j1 = 8ull;
   w2c_i0 = w2c_j0 >= w2c_j1;
@@ -48129,25 +49387,25 @@ static u32 w2c_rattle__export_tcp_c_connection_emit(Machine * instance, u64 w2c_
   w2c_j0 = w2c_l8;
   w2c_i0 = (u32)(w2c_j0);
   w2c_i0 = i32_load(&instance->w2c_memory, (u64)(w2c_i0));
-  w2c_l23 = w2c_i0;
+  w2c_l22 = w2c_i0;
   w2c_i1 = 16711935u;
   w2c_i0 &= w2c_i1;
   w2c_i1 = 8u;
   w2c_i0 = I32_ROTR(w2c_i0, w2c_i1);
-  w2c_i1 = w2c_l23;
+  w2c_i1 = w2c_l22;
   w2c_i2 = 24u;
   w2c_i1 = I32_ROTR(w2c_i1, w2c_i2);
   w2c_i2 = 16711935u;
   w2c_i1 &= w2c_i2;
   w2c_i0 |= w2c_i1;
-  w2c_l23 = w2c_i0;
+  w2c_l22 = w2c_i0;
   w2c_i1 = 16u;
   w2c_i0 >>= (w2c_i1 & 31);
-  w2c_i1 = w2c_l23;
+  w2c_i1 = w2c_l22;
   w2c_i2 = 65535u;
   w2c_i1 &= w2c_i2;
   w2c_i0 += w2c_i1;
-  w2c_l23 = w2c_i0;
+  w2c_l22 = w2c_i0;
   w2c_j0 = w2c_p3;
   w2c_j1 = 18446744073709551612ull;
   w2c_j0 += w2c_j1;
@@ -48193,11 +49451,11 @@ static u32 w2c_rattle__export_tcp_c_connection_emit(Machine * instance, u64 w2c_
   w2c_i0 = w2c_l26;
   w2c_i1 = w2c_l25;
   w2c_i0 += w2c_i1;
-  w2c_i1 = w2c_l23;
+  w2c_i1 = w2c_l22;
   w2c_i0 += w2c_i1;
   w2c_i1 = w2c_l24;
   w2c_i0 += w2c_i1;
-  w2c_l23 = w2c_i0;
+  w2c_l22 = w2c_i0;
   w2c_j0 = w2c_p3;
   w2c_j1 = 1ull;
   w2c_i0 = w2c_j0 != w2c_j1;
@@ -48207,15 +49465,15 @@ static u32 w2c_rattle__export_tcp_c_connection_emit(Machine * instance, u64 w2c_
   w2c_i0 = i32_load8_u(&instance->w2c_memory, (u64)(w2c_i0));
   w2c_i1 = 8u;
   w2c_i0 <<= (w2c_i1 & 31);
-  w2c_i1 = w2c_l23;
+  w2c_i1 = w2c_l22;
   w2c_i0 += w2c_i1;
-  w2c_l23 = w2c_i0;
+  w2c_l22 = w2c_i0;
   goto w2c_B38;
   w2c_B39:;
   w2c_j0 = w2c_l14;
   w2c_j1 = w2c_p1;
   w2c_i0 = w2c_tcp_numbers__sums__long_sum(instance, w2c_j0, w2c_j1);
-  w2c_l23 = w2c_i0;
+  w2c_l22 = w2c_i0;
   w2c_B38:;
   w2c_j0 = w2c_l14;
   w2c_j1 = 16ull;
@@ -48267,13 +49525,13 @@ static u32 w2c_rattle__export_tcp_c_connection_emit(Machine * instance, u64 w2c_
   w2c_i3 = 65535u;
   w2c_i2 &= w2c_i3;
   w2c_i1 += w2c_i2;
-  w2c_i2 = w2c_l23;
+  w2c_i2 = w2c_l22;
   w2c_i1 += w2c_i2;
   w2c_i2 = 65541u;
   w2c_i1 += w2c_i2;
   w2c_i2 = 65535u;
   w2c_i1 = REM_U(w2c_i1, w2c_i2);
-  w2c_l23 = w2c_i1;
+  w2c_l22 = w2c_i1;
   w2c_i2 = 4294967295u;
   w2c_i1 ^= w2c_i2;
   w2c_l24 = w2c_i1;
@@ -48286,14 +49544,14 @@ static u32 w2c_rattle__export_tcp_c_connection_emit(Machine * instance, u64 w2c_
   w2c_i2 >>= (w2c_i3 & 31);
   w2c_i1 |= w2c_i2;
   w2c_i2 = 0u;
-  w2c_i3 = w2c_l23;
+  w2c_i3 = w2c_l22;
   w2c_i1 = w2c_i3 ? w2c_i1 : w2c_i2;
   i32_store16(&instance->w2c_memory, (u64)(w2c_i0), w2c_i1);
   goto w2c_B3;
   w2c_B14:;
   w2c_j0 = w2c_l6;
   w2c_j1 = w2c_l7;
-  w2c_j2 = 40ull;
+  w2c_j2 = 24ull;
   w2c_j1 += w2c_j2;
   w2c_i2 = 0u;
   w2c_j3 = w2c_l14;
@@ -48307,7 +49565,7 @@ static u32 w2c_rattle__export_tcp_c_connection_emit(Machine * instance, u64 w2c_
   w2c_i1 = 0u;
   i32_store(&instance->w2c_memory, (u64)(w2c_i0), w2c_i1);
   w2c_j0 = 0ull;
-  w2c_l8 = w2c_j0;
+  w2c_p3 = w2c_j0;
   w2c_j0 = w2c_l6;
   w2c_j1 = 400ull;
   w2c_j0 += w2c_j1;
@@ -48315,7 +49573,7 @@ static u32 w2c_rattle__export_tcp_c_connection_emit(Machine * instance, u64 w2c_
   w2c_j1 = 0ull;
   i64_store(&instance->w2c_memory, (u64)(w2c_i0), w2c_j1);
   w2c_i0 = 1u;
-  w2c_l28 = w2c_i0;
+  w2c_l27 = w2c_i0;
   w2c_j0 = w2c_l6;
   w2c_j1 = 392ull;
   w2c_j2 = 52ull;
@@ -48330,7 +49588,7 @@ static u32 w2c_rattle__export_tcp_c_connection_emit(Machine * instance, u64 w2c_
   w2c_j0 += w2c_j1;
   w2c_i0 = (u32)(w2c_j0);
   w2c_i0 = i32_load(&instance->w2c_memory, (u64)(w2c_i0));
-  w2c_l24 = w2c_i0;
+  w2c_l25 = w2c_i0;
   w2c_j0 = w2c_l10;
   w2c_i0 = (u32)(w2c_j0);
   w2c_j1 = 0ull;
@@ -48355,18 +49613,18 @@ static u32 w2c_rattle__export_tcp_c_connection_emit(Machine * instance, u64 w2c_
   w2c_i1 = 0u;
   i32_store8(&instance->w2c_memory, (u64)(w2c_i0), w2c_i1);
   w2c_j0 = 1ull;
-  w2c_l8 = w2c_j0;
+  w2c_p3 = w2c_j0;
   w2c_j0 = w2c_l6;
   w2c_j1 = 72ull;
   w2c_j0 += w2c_j1;
-  w2c_p4 = w2c_j0;
+  w2c_l8 = w2c_j0;
   w2c_i0 = (u32)(w2c_j0);
-  w2c_j1 = w2c_p4;
+  w2c_j1 = w2c_l8;
   w2c_i1 = (u32)(w2c_j1);
   w2c_j1 = i64_load(&instance->w2c_memory, (u64)(w2c_i1));
-  w2c_p4 = w2c_j1;
+  w2c_l8 = w2c_j1;
   w2c_j2 = 1ull;
-  w2c_j3 = w2c_p4;
+  w2c_j3 = w2c_l8;
   w2c_j4 = 1ull;
   w2c_i3 = w2c_j3 > w2c_j4;
   w2c_j1 = w2c_i3 ? w2c_j1 : w2c_j2;
@@ -48374,11 +49632,11 @@ static u32 w2c_rattle__export_tcp_c_connection_emit(Machine * instance, u64 w2c_
   w2c_j0 = w2c_l6;
   w2c_j1 = 52ull;
   w2c_j0 += w2c_j1;
-  w2c_p4 = w2c_j0;
+  w2c_l8 = w2c_j0;
   w2c_j0 = w2c_l6;
   w2c_j1 = 385ull;
   w2c_j0 += w2c_j1;
-  w2c_p3 = w2c_j0;
+  w2c_p4 = w2c_j0;
   w2c_i0 = (u32)(w2c_j0);
   w2c_i0 = i32_load8_u(&instance->w2c_memory, (u64)(w2c_i0));
   w2c_i1 = 1u;
@@ -48391,15 +49649,15 @@ static u32 w2c_rattle__export_tcp_c_connection_emit(Machine * instance, u64 w2c_
   w2c_i0 = i32_load8_u(&instance->w2c_memory, (u64)(w2c_i0));
   w2c_i1 = 1u;
   w2c_i0 ^= w2c_i1;
-  w2c_l25 = w2c_i0;
+  w2c_l24 = w2c_i0;
   w2c_B50:;
-  w2c_j0 = w2c_p4;
+  w2c_j0 = w2c_l8;
   w2c_i0 = (u32)(w2c_j0);
   w2c_i0 = i32_load(&instance->w2c_memory, (u64)(w2c_i0));
-  w2c_l24 = w2c_i0;
-  w2c_j0 = w2c_p3;
+  w2c_l25 = w2c_i0;
+  w2c_j0 = w2c_p4;
   w2c_i0 = (u32)(w2c_j0);
-  w2c_i1 = w2c_l25;
+  w2c_i1 = w2c_l24;
   w2c_i2 = 1u;
   w2c_i1 &= w2c_i2;
   i32_store8(&instance->w2c_memory, (u64)(w2c_i0), w2c_i1);
@@ -48408,7 +49666,7 @@ static u32 w2c_rattle__export_tcp_c_connection_emit(Machine * instance, u64 w2c_
   goto w2c_B2;
   w2c_B4:;
   w2c_i0 = 0u;
-  w2c_l24 = w2c_i0;
+  w2c_l25 = w2c_i0;
   w2c_j0 = w2c_l6;
   w2c_j1 = 696ull;
   w2c_j0 += w2c_j1;
@@ -48416,13 +49674,13 @@ static u32 w2c_rattle__export_tcp_c_connection_emit(Machine * instance, u64 w2c_
   w2c_i1 = 0u;
   i32_store8(&instance->w2c_memory, (u64)(w2c_i0), w2c_i1);
   w2c_j0 = 0ull;
-  w2c_l8 = w2c_j0;
+  w2c_p3 = w2c_j0;
   w2c_j0 = 0ull;
   w2c_p4 = w2c_j0;
   w2c_j0 = 0ull;
   w2c_p1 = w2c_j0;
   w2c_i0 = 0u;
-  w2c_l28 = w2c_i0;
+  w2c_l27 = w2c_i0;
   goto w2c_B1;
   w2c_B3:;
   w2c_j0 = w2c_l6;
@@ -48430,7 +49688,7 @@ static u32 w2c_rattle__export_tcp_c_connection_emit(Machine * instance, u64 w2c_
   w2c_j0 += w2c_j1;
   w2c_i0 = (u32)(w2c_j0);
   w2c_i0 = i32_load(&instance->w2c_memory, (u64)(w2c_i0));
-  w2c_l24 = w2c_i0;
+  w2c_l25 = w2c_i0;
   w2c_i0 = w2c_l21;
   w2c_i1 = 3u;
   w2c_i0 = w2c_i0 != w2c_i1;
@@ -48448,35 +49706,35 @@ static u32 w2c_rattle__export_tcp_c_connection_emit(Machine * instance, u64 w2c_
   w2c_j0 = i64_load(&instance->w2c_memory, (u64)(w2c_i0));
   w2c_p4 = w2c_j0;
   w2c_i0 = 1u;
-  w2c_l28 = w2c_i0;
+  w2c_l27 = w2c_i0;
   w2c_j0 = 0ull;
-  w2c_l8 = w2c_j0;
+  w2c_p3 = w2c_j0;
   goto w2c_B1;
   w2c_B51:;
   w2c_j0 = w2c_l6;
   w2c_j1 = 72ull;
   w2c_j0 += w2c_j1;
-  w2c_l8 = w2c_j0;
+  w2c_p3 = w2c_j0;
   w2c_i0 = (u32)(w2c_j0);
   w2c_j1 = w2c_l11;
   w2c_j2 = 1ull;
-  w2c_i3 = w2c_l22;
+  w2c_i3 = w2c_l23;
   w2c_i4 = 2u;
   w2c_i3 = w2c_i3 < w2c_i4;
   w2c_j1 = w2c_i3 ? w2c_j1 : w2c_j2;
   w2c_j2 = w2c_p4;
   w2c_j1 += w2c_j2;
-  w2c_p3 = w2c_j1;
-  w2c_j2 = w2c_l8;
+  w2c_l8 = w2c_j1;
+  w2c_j2 = w2c_p3;
   w2c_i2 = (u32)(w2c_j2);
   w2c_j2 = i64_load(&instance->w2c_memory, (u64)(w2c_i2));
-  w2c_l8 = w2c_j2;
-  w2c_j3 = w2c_p3;
-  w2c_j4 = w2c_l8;
+  w2c_p3 = w2c_j2;
+  w2c_j3 = w2c_l8;
+  w2c_j4 = w2c_p3;
   w2c_i3 = w2c_j3 > w2c_j4;
   w2c_j1 = w2c_i3 ? w2c_j1 : w2c_j2;
   i64_store(&instance->w2c_memory, (u64)(w2c_i0), w2c_j1);
-  w2c_i0 = w2c_l22;
+  w2c_i0 = w2c_l23;
   w2c_i1 = 4294967293u;
   w2c_i0 += w2c_i1;
   w2c_i1 = 255u;
@@ -48496,7 +49754,7 @@ static u32 w2c_rattle__export_tcp_c_connection_emit(Machine * instance, u64 w2c_
   w2c_j1 = 208ull;
   w2c_j0 += w2c_j1;
   w2c_i0 = (u32)(w2c_j0);
-  w2c_j1 = w2c_p3;
+  w2c_j1 = w2c_l8;
   i64_store(&instance->w2c_memory, (u64)(w2c_i0), w2c_j1);
   w2c_B54:;
   w2c_j0 = w2c_l6;
@@ -48513,7 +49771,7 @@ static u32 w2c_rattle__export_tcp_c_connection_emit(Machine * instance, u64 w2c_
   w2c_i0 = (u32)(w2c_j0);
   w2c_i1 = 0u;
   i32_store8(&instance->w2c_memory, (u64)(w2c_i0), w2c_i1);
-  w2c_i0 = w2c_l22;
+  w2c_i0 = w2c_l23;
   w2c_i1 = 1u;
   w2c_i0 = w2c_i0 != w2c_i1;
   if (w2c_i0) {goto w2c_B52;}
@@ -48525,23 +49783,23 @@ static u32 w2c_rattle__export_tcp_c_connection_emit(Machine * instance, u64 w2c_
   i32_store8(&instance->w2c_memory, (u64)(w2c_i0), w2c_i1);
   w2c_B52:;
   w2c_j0 = 0ull;
-  w2c_l8 = w2c_j0;
+  w2c_p3 = w2c_j0;
   w2c_i0 = 1u;
-  w2c_l28 = w2c_i0;
-  w2c_j0 = w2c_p3;
+  w2c_l27 = w2c_i0;
+  w2c_j0 = w2c_l8;
   w2c_j1 = w2c_p4;
   w2c_i0 = w2c_j0 <= w2c_j1;
   if (w2c_i0) {goto w2c_B1;}
   w2c_j0 = 0ull;
-  w2c_j1 = w2c_p3;
+  w2c_j1 = w2c_l8;
   w2c_j2 = w2c_p4;
   w2c_j1 -= w2c_j2;
-  w2c_l8 = w2c_j1;
-  w2c_j2 = w2c_l8;
-  w2c_j3 = w2c_p3;
+  w2c_p3 = w2c_j1;
+  w2c_j2 = w2c_p3;
+  w2c_j3 = w2c_l8;
   w2c_i2 = w2c_j2 > w2c_j3;
   w2c_j0 = w2c_i2 ? w2c_j0 : w2c_j1;
-  w2c_l8 = w2c_j0;
+  w2c_p3 = w2c_j0;
   w2c_B2:;
   w2c_j0 = w2c_p4;
   w2c_j1 = w2c_l6;
@@ -48549,7 +49807,7 @@ static u32 w2c_rattle__export_tcp_c_connection_emit(Machine * instance, u64 w2c_
   w2c_j1 += w2c_j2;
   w2c_i1 = (u32)(w2c_j1);
   w2c_j1 = i64_load(&instance->w2c_memory, (u64)(w2c_i1));
-  w2c_p3 = w2c_j1;
+  w2c_l8 = w2c_j1;
   w2c_i0 = w2c_j0 >= w2c_j1;
   if (w2c_i0) {goto w2c_B56;}
   w2c_j0 = w2c_p4;
@@ -48636,7 +49894,7 @@ static u32 w2c_rattle__export_tcp_c_connection_emit(Machine * instance, u64 w2c_
   w2c_j0 += w2c_j1;
   w2c_i0 = (u32)(w2c_j0);
   w2c_j1 = w2c_p4;
-  w2c_j2 = w2c_l8;
+  w2c_j2 = w2c_p3;
   w2c_j1 += w2c_j2;
   i64_store(&instance->w2c_memory, (u64)(w2c_i0), w2c_j1);
   w2c_j0 = w2c_p2;
@@ -48649,17 +49907,17 @@ static u32 w2c_rattle__export_tcp_c_connection_emit(Machine * instance, u64 w2c_
   w2c_j0 += w2c_j1;
   w2c_i0 = (u32)(w2c_j0);
   w2c_j1 = w2c_p4;
-  w2c_j2 = w2c_l8;
+  w2c_j2 = w2c_p3;
   w2c_j1 += w2c_j2;
   w2c_p2 = w2c_j1;
-  w2c_j2 = w2c_p3;
+  w2c_j2 = w2c_l8;
   w2c_j3 = w2c_p2;
-  w2c_j4 = w2c_p3;
+  w2c_j4 = w2c_l8;
   w2c_i3 = w2c_j3 > w2c_j4;
   w2c_j1 = w2c_i3 ? w2c_j1 : w2c_j2;
   i64_store(&instance->w2c_memory, (u64)(w2c_i0), w2c_j1);
   w2c_i0 = 1u;
-  w2c_l28 = w2c_i0;
+  w2c_l27 = w2c_i0;
   w2c_B1:;
   w2c_i0 = 1u;
   w2c_l22 = w2c_i0;
@@ -48668,7 +49926,7 @@ static u32 w2c_rattle__export_tcp_c_connection_emit(Machine * instance, u64 w2c_
   w2c_j0 += w2c_j1;
   w2c_i0 = (u32)(w2c_j0);
   w2c_i0 = i32_load8_u(&instance->w2c_memory, (u64)(w2c_i0));
-  w2c_l23 = w2c_i0;
+  w2c_l21 = w2c_i0;
   w2c_i1 = 254u;
   w2c_i0 &= w2c_i1;
   w2c_i1 = 2u;
@@ -48677,7 +49935,7 @@ static u32 w2c_rattle__export_tcp_c_connection_emit(Machine * instance, u64 w2c_
   w2c_i0 = 1u;
   w2c_l22 = w2c_i0;
   w2c_i0 = 1u;
-  w2c_i1 = w2c_l23;
+  w2c_i1 = w2c_l21;
   w2c_i0 <<= (w2c_i1 & 31);
   w2c_i1 = 944u;
   w2c_i0 &= w2c_i1;
@@ -48691,7 +49949,7 @@ static u32 w2c_rattle__export_tcp_c_connection_emit(Machine * instance, u64 w2c_
   w2c_j0 += w2c_j1;
   w2c_i0 = (u32)(w2c_j0);
   w2c_j0 = i64_load(&instance->w2c_memory, (u64)(w2c_i0));
-  w2c_p3 = w2c_j0;
+  w2c_l8 = w2c_j0;
   w2c_j1 = w2c_l6;
   w2c_j2 = 72ull;
   w2c_j1 += w2c_j2;
@@ -48700,7 +49958,7 @@ static u32 w2c_rattle__export_tcp_c_connection_emit(Machine * instance, u64 w2c_
   w2c_p2 = w2c_j1;
   w2c_i0 = w2c_j0 < w2c_j1;
   if (w2c_i0) {goto w2c_B58;}
-  w2c_i0 = w2c_l23;
+  w2c_i0 = w2c_l21;
   w2c_i1 = 6u;
   w2c_i0 = w2c_i0 != w2c_i1;
   if (w2c_i0) {goto w2c_B60;}
@@ -48708,7 +49966,7 @@ static u32 w2c_rattle__export_tcp_c_connection_emit(Machine * instance, u64 w2c_
   w2c_l22 = w2c_i0;
   goto w2c_B58;
   w2c_B60:;
-  w2c_j0 = w2c_p3;
+  w2c_j0 = w2c_l8;
   w2c_j1 = w2c_p2;
   w2c_i0 = w2c_j0 == w2c_j1;
   if (w2c_i0) {goto w2c_B61;}
@@ -48731,11 +49989,11 @@ static u32 w2c_rattle__export_tcp_c_connection_emit(Machine * instance, u64 w2c_
   w2c_j2 = i64_load(&instance->w2c_memory, (u64)(w2c_i2));
   w2c_j3 = 18446744073709551615ull;
   w2c_j2 ^= w2c_j3;
-  w2c_j3 = w2c_p3;
+  w2c_j3 = w2c_l8;
   w2c_j2 += w2c_j3;
   w2c_p2 = w2c_j2;
   w2c_j3 = w2c_p2;
-  w2c_j4 = w2c_p3;
+  w2c_j4 = w2c_l8;
   w2c_i3 = w2c_j3 > w2c_j4;
   w2c_j1 = w2c_i3 ? w2c_j1 : w2c_j2;
   w2c_i0 = w2c_j0 <= w2c_j1;
@@ -48748,70 +50006,171 @@ static u32 w2c_rattle__export_tcp_c_connection_emit(Machine * instance, u64 w2c_
   w2c_i0 = !(w2c_i0);
   w2c_l22 = w2c_i0;
   w2c_B58:;
+  w2c_j0 = w2c_l6;
+  w2c_j1 = 416ull;
+  w2c_j0 += w2c_j1;
+  w2c_p2 = w2c_j0;
   w2c_i0 = 0u;
-  w2c_l27 = w2c_i0;
+  w2c_l23 = w2c_i0;
   w2c_i0 = 1u;
-  w2c_i1 = w2c_l23;
+  w2c_i1 = w2c_l21;
   w2c_i0 <<= (w2c_i1 & 31);
   w2c_i1 = 1103u;
   w2c_i0 &= w2c_i1;
   if (w2c_i0) {goto w2c_B62;}
-  w2c_j0 = w2c_l6;
-  w2c_j1 = 160ull;
-  w2c_j0 += w2c_j1;
-  w2c_i0 = (u32)(w2c_j0);
-  w2c_j0 = i64_load(&instance->w2c_memory, (u64)(w2c_i0));
-  w2c_j1 = 0ull;
-  w2c_i0 = w2c_j0 != w2c_j1;
-  w2c_l27 = w2c_i0;
-  w2c_B62:;
   w2c_i0 = 0u;
-  w2c_l21 = w2c_i0;
-  w2c_i0 = 0u;
-  w2c_l25 = w2c_i0;
-  w2c_i0 = w2c_l23;
-  w2c_i1 = 6u;
-  w2c_i0 = w2c_i0 != w2c_i1;
-  if (w2c_i0) {goto w2c_B63;}
-  w2c_j0 = w2c_l6;
-  w2c_j1 = 320ull;
-  w2c_j0 += w2c_j1;
-  w2c_i0 = (u32)(w2c_j0);
-  w2c_j0 = i64_load(&instance->w2c_memory, (u64)(w2c_i0));
-  w2c_i0 = !(w2c_j0);
-  w2c_l25 = w2c_i0;
-  w2c_B63:;
-  w2c_j0 = w2c_l7;
-  w2c_i0 = (u32)(w2c_j0);
-  w2c_i1 = w2c_l25;
-  i32_store8(&instance->w2c_memory, (u64)(w2c_i0) + 15, w2c_i1);
-  w2c_j0 = w2c_l7;
-  w2c_i0 = (u32)(w2c_j0);
-  w2c_i1 = w2c_l27;
-  i32_store8(&instance->w2c_memory, (u64)(w2c_i0) + 13, w2c_i1);
-  w2c_j0 = w2c_l7;
-  w2c_i0 = (u32)(w2c_j0);
-  w2c_i1 = w2c_l22;
-  i32_store8(&instance->w2c_memory, (u64)(w2c_i0) + 12, w2c_i1);
-  w2c_j0 = w2c_l7;
-  w2c_i0 = (u32)(w2c_j0);
-  w2c_i1 = w2c_l23;
-  w2c_i2 = 10u;
-  w2c_i1 = w2c_i1 == w2c_i2;
-  i32_store8(&instance->w2c_memory, (u64)(w2c_i0) + 14, w2c_i1);
-  w2c_j0 = w2c_l6;
-  w2c_j1 = 416ull;
-  w2c_j0 += w2c_j1;
-  w2c_j1 = w2c_l7;
-  w2c_j2 = 12ull;
-  w2c_j1 += w2c_j2;
+  w2c_i1 = 256u;
   w2c_j2 = w2c_l6;
-  w2c_j3 = 64ull;
+  w2c_j3 = 160ull;
   w2c_j2 += w2c_j3;
   w2c_i2 = (u32)(w2c_j2);
   w2c_j2 = i64_load(&instance->w2c_memory, (u64)(w2c_i2));
+  w2c_i2 = !(w2c_j2);
+  w2c_i0 = w2c_i2 ? w2c_i0 : w2c_i1;
+  w2c_l23 = w2c_i0;
+  w2c_B62:;
+  w2c_i0 = 0u;
+  w2c_l24 = w2c_i0;
+  w2c_i0 = w2c_l21;
+  w2c_i1 = 6u;
+  w2c_i0 = w2c_i0 != w2c_i1;
+  if (w2c_i0) {goto w2c_B63;}
+  w2c_i0 = 16777216u;
+  w2c_i1 = 0u;
+  w2c_j2 = w2c_l6;
+  w2c_j3 = 320ull;
+  w2c_j2 += w2c_j3;
+  w2c_i2 = (u32)(w2c_j2);
+  w2c_j2 = i64_load(&instance->w2c_memory, (u64)(w2c_i2));
+  w2c_i2 = !(w2c_j2);
+  w2c_i0 = w2c_i2 ? w2c_i0 : w2c_i1;
+  w2c_l24 = w2c_i0;
+  w2c_B63:;
+  w2c_j0 = w2c_l6;
+  w2c_j1 = 64ull;
+  w2c_j0 += w2c_j1;
+  w2c_i0 = (u32)(w2c_j0);
+  w2c_j0 = i64_load(&instance->w2c_memory, (u64)(w2c_i0));
+  w2c_l8 = w2c_j0;
+  w2c_j0 = w2c_l7;
+  w2c_i0 = (u32)(w2c_j0);
+  w2c_i1 = w2c_l22;
+  w2c_i2 = 65536u;
+  w2c_i3 = 0u;
+  w2c_i4 = w2c_l21;
+  w2c_i5 = 10u;
+  w2c_i4 = w2c_i4 == w2c_i5;
+  w2c_i2 = w2c_i4 ? w2c_i2 : w2c_i3;
+  w2c_i1 |= w2c_i2;
+  w2c_i2 = w2c_l23;
+  w2c_i1 |= w2c_i2;
+  w2c_i2 = w2c_l24;
+  w2c_i1 |= w2c_i2;
+  i32_store(&instance->w2c_memory, (u64)(w2c_i0) + 24, w2c_i1);
+  w2c_j0 = w2c_l8;
+  w2c_j1 = w2c_l6;
+  w2c_j2 = 632ull;
+  w2c_j1 += w2c_j2;
+  w2c_i1 = (u32)(w2c_j1);
+  w2c_j1 = i64_load(&instance->w2c_memory, (u64)(w2c_i1));
+  w2c_i0 = w2c_j0 != w2c_j1;
+  if (w2c_i0) {goto w2c_B65;}
+  w2c_j0 = w2c_l6;
+  w2c_j1 = 584ull;
+  w2c_j0 += w2c_j1;
+  w2c_i0 = (u32)(w2c_j0);
+  w2c_i0 = i32_load8_u(&instance->w2c_memory, (u64)(w2c_i0));
+  w2c_i1 = 1u;
+  w2c_i0 = w2c_i0 != w2c_i1;
+  w2c_i1 = w2c_l22;
+  w2c_i0 = w2c_i0 == w2c_i1;
+  if (w2c_i0) {goto w2c_B65;}
+  w2c_j0 = w2c_l6;
+  w2c_j1 = 640ull;
+  w2c_j0 += w2c_j1;
+  w2c_i0 = (u32)(w2c_j0);
+  w2c_i0 = i32_load8_u(&instance->w2c_memory, (u64)(w2c_i0));
+  w2c_l28 = w2c_i0;
+  w2c_i1 = 1u;
+  w2c_i0 = w2c_i0 == w2c_i1;
+  if (w2c_i0) {goto w2c_B67;}
+  w2c_i0 = w2c_l22;
+  if (w2c_i0) {goto w2c_B67;}
+  w2c_j0 = w2c_l6;
+  w2c_j1 = 656ull;
+  w2c_j0 += w2c_j1;
+  w2c_i0 = (u32)(w2c_j0);
+  w2c_i0 = i32_load(&instance->w2c_memory, (u64)(w2c_i0));
+  if (w2c_i0) {goto w2c_B65;}
+  w2c_j0 = w2c_l6;
+  w2c_j1 = 660ull;
+  w2c_j0 += w2c_j1;
+  w2c_i0 = (u32)(w2c_j0);
+  w2c_i0 = i32_load8_u(&instance->w2c_memory, (u64)(w2c_i0));
+  w2c_i0 = !(w2c_i0);
+  if (w2c_i0) {goto w2c_B66;}
+  goto w2c_B65;
+  w2c_B67:;
+  w2c_i0 = w2c_l28;
+  w2c_i1 = 1u;
+  w2c_i0 = w2c_i0 != w2c_i1;
+  if (w2c_i0) {goto w2c_B65;}
+  w2c_i0 = w2c_l22;
+  w2c_i0 = !(w2c_i0);
+  if (w2c_i0) {goto w2c_B65;}
+  w2c_B66:;
+  w2c_i0 = w2c_l23;
+  w2c_i1 = 0u;
+  w2c_i0 = w2c_i0 != w2c_i1;
+  w2c_j1 = w2c_l6;
+  w2c_j2 = 600ull;
+  w2c_j1 += w2c_j2;
+  w2c_i1 = (u32)(w2c_j1);
+  w2c_i1 = i32_load8_u(&instance->w2c_memory, (u64)(w2c_i1));
+  w2c_i2 = 1u;
+  w2c_i1 = w2c_i1 != w2c_i2;
+  w2c_i0 = w2c_i0 == w2c_i1;
+  if (w2c_i0) {goto w2c_B65;}
+  w2c_i0 = w2c_l21;
+  w2c_i1 = 10u;
+  w2c_i0 = w2c_i0 == w2c_i1;
+  w2c_j1 = w2c_l6;
+  w2c_j2 = 616ull;
+  w2c_j1 += w2c_j2;
+  w2c_i1 = (u32)(w2c_j1);
+  w2c_i1 = i32_load8_u(&instance->w2c_memory, (u64)(w2c_i1));
+  w2c_i2 = 1u;
+  w2c_i1 = w2c_i1 != w2c_i2;
+  w2c_i0 = w2c_i0 == w2c_i1;
+  if (w2c_i0) {goto w2c_B65;}
+  w2c_i0 = w2c_l24;
+  w2c_i1 = 0u;
+  w2c_i0 = w2c_i0 != w2c_i1;
+  w2c_j1 = w2c_l6;
+  w2c_j2 = 680ull;
+  w2c_j1 += w2c_j2;
+  w2c_i1 = (u32)(w2c_j1);
+  w2c_i1 = i32_load8_u(&instance->w2c_memory, (u64)(w2c_i1));
+  w2c_i2 = 1u;
+  w2c_i1 = w2c_i1 != w2c_i2;
+  w2c_i0 = w2c_i0 == w2c_i1;
+  if (w2c_i0) {goto w2c_B65;}
+  w2c_j0 = w2c_l6;
+  w2c_j1 = 704ull;
+  w2c_j0 += w2c_j1;
+  w2c_i0 = (u32)(w2c_j0);
+  w2c_j1 = w2c_l9;
+  i64_store(&instance->w2c_memory, (u64)(w2c_i0), w2c_j1);
+  goto w2c_B64;
+  w2c_B65:;
+  w2c_j0 = w2c_p2;
+  w2c_j1 = w2c_l7;
+  w2c_j2 = 24ull;
+  w2c_j1 += w2c_j2;
+  w2c_j2 = w2c_l8;
   w2c_j3 = w2c_l9;
-  w2c_tcp_driver__timers__Timers__follow(instance, w2c_j0, w2c_j1, w2c_j2, w2c_j3);
+  w2c_tcp_driver__timers__Timers__start(instance, w2c_j0, w2c_j1, w2c_j2, w2c_j3);
+  w2c_B64:;
   w2c_j0 = w2c_p0;
   w2c_i0 = (u32)(w2c_j0);
   w2c_j1 = w2c_l6;
@@ -48820,30 +50179,32 @@ static u32 w2c_rattle__export_tcp_c_connection_emit(Machine * instance, u64 w2c_
   w2c_i0 = (u32)(w2c_j0);
   w2c_j1 = 8521743234667672684ull;
   i64_store(&instance->w2c_memory, (u64)(w2c_i0), w2c_j1);
-  w2c_i0 = w2c_l28;
-  if (w2c_i0) {goto w2c_B64;}
+  w2c_i0 = 0u;
+  w2c_l21 = w2c_i0;
+  w2c_i0 = w2c_l27;
+  if (w2c_i0) {goto w2c_B68;}
   w2c_i0 = 53u;
   w2c_l21 = w2c_i0;
   w2c_i0 = 0u;
-  w2c_l24 = w2c_i0;
+  w2c_l25 = w2c_i0;
   w2c_j0 = 0ull;
   w2c_p1 = w2c_j0;
   w2c_j0 = 0ull;
   w2c_p4 = w2c_j0;
   w2c_j0 = 0ull;
-  w2c_l8 = w2c_j0;
-  w2c_B64:;
+  w2c_p3 = w2c_j0;
+  w2c_B68:;
   w2c_j0 = w2c_p5;
   w2c_i0 = (u32)(w2c_j0);
   w2c_i1 = 0u;
   i32_store(&instance->w2c_memory, (u64)(w2c_i0) + 28, w2c_i1);
   w2c_j0 = w2c_p5;
   w2c_i0 = (u32)(w2c_j0);
-  w2c_i1 = w2c_l24;
+  w2c_i1 = w2c_l25;
   i32_store(&instance->w2c_memory, (u64)(w2c_i0) + 24, w2c_i1);
   w2c_j0 = w2c_p5;
   w2c_i0 = (u32)(w2c_j0);
-  w2c_j1 = w2c_l8;
+  w2c_j1 = w2c_p3;
   i64_store(&instance->w2c_memory, (u64)(w2c_i0) + 16, w2c_j1);
   w2c_j0 = w2c_p5;
   w2c_i0 = (u32)(w2c_j0);
@@ -48855,7 +50216,7 @@ static u32 w2c_rattle__export_tcp_c_connection_emit(Machine * instance, u64 w2c_
   i64_store(&instance->w2c_memory, (u64)(w2c_i0), w2c_j1);
   w2c_B0:;
   w2c_j0 = w2c_l7;
-  w2c_j1 = 80ull;
+  w2c_j1 = 64ull;
   w2c_j0 += w2c_j1;
   instance->w2c___stack_pointer = w2c_j0;
   w2c_i0 = w2c_l21;
@@ -48980,6 +50341,128 @@ static u32 w2c_rattle__export_tcp_c_connection_listen(Machine * instance, u64 w2
   return w2c_i0;
 }
 
+static u32 w2c_tcp_c_connection_peer(Machine * instance, u64 w2c_p0, u64 w2c_p1, u64 w2c_p2) {
+  u32 w2c_l3 = 0;
+  u32 w2c_i0;
+  u64 w2c_j0, w2c_j1, w2c_j2;
+  w2c_i0 = w2c___rattle_enter(instance);
+  w2c_i0 = !(w2c_i0);
+  if (w2c_i0) {goto w2c_B0;}
+  w2c___rattle_trap(instance);
+  UNREACHABLE;
+  w2c_B0:;
+  w2c_j0 = w2c_p0;
+  w2c_j1 = w2c_p1;
+  w2c_j2 = w2c_p2;
+  w2c_i0 = w2c_rattle__export_tcp_c_connection_peer(instance, w2c_j0, w2c_j1, w2c_j2);
+  w2c_l3 = w2c_i0;
+  w2c___rattle_leave(instance);
+  w2c_i0 = w2c_l3;
+  return w2c_i0;
+}
+
+static u32 w2c_rattle__export_tcp_c_connection_peer(Machine * instance, u64 w2c_p0, u64 w2c_p1, u64 w2c_p2) {
+  u32 w2c_l5 = 0, w2c_l6 = 0;
+  u64 w2c_l3 = 0, w2c_l4 = 0;
+  u32 w2c_i0, w2c_i1;
+  u64 w2c_j0, w2c_j1;
+  w2c_j0 = instance->w2c___stack_pointer;
+  w2c_j1 = 16ull;
+  w2c_i0 = (u64)((s64)w2c_j0 < (s64)w2c_j1);
+  if (w2c_i0) {goto w2c_B1;}
+  w2c_j0 = w2c_p0;
+  w2c_i0 = (u32)(w2c_j0);
+  w2c_j0 = i64_load(&instance->w2c_memory, (u64)(w2c_i0));
+  w2c_l3 = w2c_j0;
+  w2c_j0 = w2c_p0;
+  w2c_i0 = (u32)(w2c_j0);
+  w2c_j1 = 0ull;
+  i64_store(&instance->w2c_memory, (u64)(w2c_i0), w2c_j1);
+  w2c_j0 = w2c_p0;
+  w2c_i0 = (u32)(w2c_j0);
+  w2c_j0 = i64_load(&instance->w2c_memory, (u64)(w2c_i0) + 8u);
+  w2c_l4 = w2c_j0;
+  w2c_j0 = w2c_p0;
+  w2c_i0 = (u32)(w2c_j0);
+  w2c_j1 = 0ull;
+  i64_store(&instance->w2c_memory, (u64)(w2c_i0) + 8, w2c_j1);
+  w2c_j0 = w2c_l3;
+  w2c_j1 = 8521743234667672684ull;
+  w2c_i0 = w2c_j0 != w2c_j1;
+  if (w2c_i0) {goto w2c_B2;}
+  w2c_j0 = w2c_l4;
+  w2c_j1 = 72ull;
+  w2c_j0 += w2c_j1;
+  w2c_i0 = (u32)(w2c_j0);
+  w2c_j0 = i64_load(&instance->w2c_memory, (u64)(w2c_i0));
+  w2c_j1 = 0ull;
+  w2c_i0 = w2c_j0 != w2c_j1;
+  if (w2c_i0) {goto w2c_B0;}
+  w2c_j0 = w2c_p0;
+  w2c_i0 = (u32)(w2c_j0);
+  w2c_j1 = w2c_l4;
+  i64_store(&instance->w2c_memory, (u64)(w2c_i0) + 8, w2c_j1);
+  w2c_j0 = w2c_p0;
+  w2c_i0 = (u32)(w2c_j0);
+  w2c_j1 = 8521743234667672684ull;
+  i64_store(&instance->w2c_memory, (u64)(w2c_i0), w2c_j1);
+  w2c_j0 = w2c_p1;
+  w2c_i0 = (u32)(w2c_j0);
+  w2c_i1 = 0u;
+  i32_store(&instance->w2c_memory, (u64)(w2c_i0), w2c_i1);
+  w2c_j0 = w2c_p2;
+  w2c_i0 = (u32)(w2c_j0);
+  w2c_i1 = 0u;
+  i32_store16(&instance->w2c_memory, (u64)(w2c_i0), w2c_i1);
+  w2c_i0 = 16u;
+  goto w2c_Bfunc;
+  w2c_B2:;
+  w2c_j0 = w2c_p1;
+  w2c_i0 = (u32)(w2c_j0);
+  w2c_i1 = 0u;
+  i32_store(&instance->w2c_memory, (u64)(w2c_i0), w2c_i1);
+  w2c_j0 = w2c_p2;
+  w2c_i0 = (u32)(w2c_j0);
+  w2c_i1 = 0u;
+  i32_store16(&instance->w2c_memory, (u64)(w2c_i0), w2c_i1);
+  w2c_i0 = 31u;
+  goto w2c_Bfunc;
+  w2c_B1:;
+  UNREACHABLE;
+  w2c_B0:;
+  w2c_j0 = w2c_l4;
+  w2c_j1 = 56ull;
+  w2c_j0 += w2c_j1;
+  w2c_i0 = (u32)(w2c_j0);
+  w2c_i0 = i32_load16_u(&instance->w2c_memory, (u64)(w2c_i0));
+  w2c_l5 = w2c_i0;
+  w2c_j0 = w2c_l4;
+  w2c_j1 = 52ull;
+  w2c_j0 += w2c_j1;
+  w2c_i0 = (u32)(w2c_j0);
+  w2c_i0 = i32_load(&instance->w2c_memory, (u64)(w2c_i0));
+  w2c_l6 = w2c_i0;
+  w2c_j0 = w2c_p0;
+  w2c_i0 = (u32)(w2c_j0);
+  w2c_j1 = w2c_l4;
+  i64_store(&instance->w2c_memory, (u64)(w2c_i0) + 8, w2c_j1);
+  w2c_j0 = w2c_p0;
+  w2c_i0 = (u32)(w2c_j0);
+  w2c_j1 = 8521743234667672684ull;
+  i64_store(&instance->w2c_memory, (u64)(w2c_i0), w2c_j1);
+  w2c_j0 = w2c_p1;
+  w2c_i0 = (u32)(w2c_j0);
+  w2c_i1 = w2c_l6;
+  i32_store(&instance->w2c_memory, (u64)(w2c_i0), w2c_i1);
+  w2c_j0 = w2c_p2;
+  w2c_i0 = (u32)(w2c_j0);
+  w2c_i1 = w2c_l5;
+  i32_store16(&instance->w2c_memory, (u64)(w2c_i0), w2c_i1);
+  w2c_i0 = 0u;
+  w2c_Bfunc:;
+  return w2c_i0;
+}
+
 static u32 w2c_tcp_c_connection_receive(Machine * instance, u64 w2c_p0, u64 w2c_p1, u64 w2c_p2, u64 w2c_p3, u64 w2c_p4) {
   u32 w2c_l5 = 0;
   u32 w2c_i0;
@@ -49004,10 +50487,10 @@ static u32 w2c_tcp_c_connection_receive(Machine * instance, u64 w2c_p0, u64 w2c_
 
 static u32 w2c_rattle__export_tcp_c_connection_receive(Machine * instance, u64 w2c_p0, u64 w2c_p1, u64 w2c_p2, u64 w2c_p3, u64 w2c_p4) {
   const u8 *near0;
-  u32 w2c_l8 = 0, w2c_l9 = 0, w2c_l10 = 0, w2c_l11 = 0, w2c_l12 = 0, w2c_l13 = 0, w2c_l14 = 0;
+  u32 w2c_l8 = 0, w2c_l9 = 0, w2c_l10 = 0, w2c_l11 = 0, w2c_l12 = 0, w2c_l13 = 0, w2c_l14 = 0, w2c_l15 = 0;
   u64 w2c_l5 = 0, w2c_l6 = 0, w2c_l7 = 0;
-  u32 w2c_i0, w2c_i1, w2c_i2, w2c_i3, w2c_i5;
-  u64 w2c_j0, w2c_j1, w2c_j2, w2c_j3, w2c_j4, w2c_j5, w2c_j6;
+  u32 w2c_i0, w2c_i1, w2c_i2, w2c_i3, w2c_i4, w2c_i5;
+  u64 w2c_j0, w2c_j1, w2c_j2, w2c_j3, w2c_j4, w2c_j5;
   w2c_j0 = instance->w2c___stack_pointer;
   w2c_j1 = 32ull;
   w2c_j0 -= w2c_j1;
@@ -49017,7 +50500,7 @@ static u32 w2c_rattle__export_tcp_c_connection_receive(Machine * instance, u64 w
   w2c_l5 = w2c_j0;
   w2c_j1 = 16ull;
   w2c_i0 = (u64)((s64)w2c_j0 < (s64)w2c_j1);
-  if (w2c_i0) {goto w2c_B2;}
+  if (w2c_i0) {goto w2c_B3;}
   w2c_j0 = w2c_p4;
   w2c_i0 = (u32)(w2c_j0);
   w2c_j1 = 0ull;
@@ -49075,8 +50558,18 @@ static u32 w2c_rattle__export_tcp_c_connection_receive(Machine * instance, u64 w
   w2c_j2 += w2c_j3;
   w2c_j3 = w2c_p3;
   w2c_tcp_conn__endpoint__Endpoint__receive(instance, w2c_j0, w2c_j1, w2c_j2, w2c_j3);
-  w2c_i0 = 1u;
+  w2c_j0 = w2c_p1;
+  w2c_j1 = 4611686018427387904ull;
+  w2c_j2 = w2c_p1;
+  w2c_j3 = 4611686018427387904ull;
+  w2c_i2 = w2c_j2 < w2c_j3;
+  w2c_j0 = w2c_i2 ? w2c_j0 : w2c_j1;
+  w2c_p2 = w2c_j0;
+  w2c_j1 = w2c_l6;
+  w2c_i0 = w2c_j0 > w2c_j1;
   w2c_l9 = w2c_i0;
+  w2c_i0 = 1u;
+  w2c_l10 = w2c_i0;
   w2c_j0 = w2c_l7;
   w2c_j1 = 48ull;
   w2c_j0 += w2c_j1;
@@ -49087,25 +50580,25 @@ static u32 w2c_rattle__export_tcp_c_connection_receive(Machine * instance, u64 w
   w2c_i0 &= w2c_i1;
   w2c_i1 = 2u;
   w2c_i0 = w2c_i0 == w2c_i1;
-  if (w2c_i0) {goto w2c_B3;}
+  if (w2c_i0) {goto w2c_B4;}
   w2c_i0 = 1u;
-  w2c_l9 = w2c_i0;
+  w2c_l10 = w2c_i0;
   w2c_i0 = 1u;
   w2c_i1 = w2c_l8;
   w2c_i0 <<= (w2c_i1 & 31);
   w2c_i1 = 944u;
   w2c_i0 &= w2c_i1;
-  if (w2c_i0) {goto w2c_B4;}
+  if (w2c_i0) {goto w2c_B5;}
   w2c_i0 = 0u;
-  w2c_l9 = w2c_i0;
-  goto w2c_B3;
-  w2c_B4:;
+  w2c_l10 = w2c_i0;
+  goto w2c_B4;
+  w2c_B5:;
   w2c_j0 = w2c_l7;
   w2c_j1 = 64ull;
   w2c_j0 += w2c_j1;
   w2c_i0 = (u32)(w2c_j0);
   w2c_j0 = i64_load(&instance->w2c_memory, (u64)(w2c_i0));
-  w2c_p2 = w2c_j0;
+  w2c_p1 = w2c_j0;
   w2c_j1 = w2c_l7;
   w2c_j2 = 72ull;
   w2c_j1 += w2c_j2;
@@ -49113,25 +50606,25 @@ static u32 w2c_rattle__export_tcp_c_connection_receive(Machine * instance, u64 w
   w2c_j1 = i64_load(&instance->w2c_memory, (u64)(w2c_i1));
   w2c_p3 = w2c_j1;
   w2c_i0 = w2c_j0 < w2c_j1;
-  if (w2c_i0) {goto w2c_B3;}
+  if (w2c_i0) {goto w2c_B4;}
   w2c_i0 = w2c_l8;
   w2c_i1 = 6u;
   w2c_i0 = w2c_i0 != w2c_i1;
-  if (w2c_i0) {goto w2c_B5;}
-  w2c_i0 = 0u;
-  w2c_l9 = w2c_i0;
-  goto w2c_B3;
-  w2c_B5:;
-  w2c_j0 = w2c_p2;
-  w2c_j1 = w2c_p3;
-  w2c_i0 = w2c_j0 == w2c_j1;
   if (w2c_i0) {goto w2c_B6;}
   w2c_i0 = 0u;
-  w2c_l9 = w2c_i0;
-  goto w2c_B3;
+  w2c_l10 = w2c_i0;
+  goto w2c_B4;
   w2c_B6:;
+  w2c_j0 = w2c_p1;
+  w2c_j1 = w2c_p3;
+  w2c_i0 = w2c_j0 == w2c_j1;
+  if (w2c_i0) {goto w2c_B7;}
   w2c_i0 = 0u;
-  w2c_l9 = w2c_i0;
+  w2c_l10 = w2c_i0;
+  goto w2c_B4;
+  w2c_B7:;
+  w2c_i0 = 0u;
+  w2c_l10 = w2c_i0;
   w2c_j0 = w2c_l7;
   w2c_j1 = 104ull;
   w2c_j0 += w2c_j1;
@@ -49145,23 +50638,32 @@ static u32 w2c_rattle__export_tcp_c_connection_receive(Machine * instance, u64 w
   w2c_j2 = i64_load(&instance->w2c_memory, (u64)(w2c_i2));
   w2c_j3 = 18446744073709551615ull;
   w2c_j2 ^= w2c_j3;
-  w2c_j3 = w2c_p2;
+  w2c_j3 = w2c_p1;
   w2c_j2 += w2c_j3;
   w2c_p3 = w2c_j2;
   w2c_j3 = w2c_p3;
-  w2c_j4 = w2c_p2;
+  w2c_j4 = w2c_p1;
   w2c_i3 = w2c_j3 > w2c_j4;
   w2c_j1 = w2c_i3 ? w2c_j1 : w2c_j2;
   w2c_i0 = w2c_j0 <= w2c_j1;
-  if (w2c_i0) {goto w2c_B3;}
+  if (w2c_i0) {goto w2c_B4;}
   w2c_j0 = w2c_l7;
   w2c_j1 = 224ull;
   w2c_j0 += w2c_j1;
   w2c_i0 = (u32)(w2c_j0);
   w2c_i0 = i32_load(&instance->w2c_memory, (u64)(w2c_i0));
   w2c_i0 = !(w2c_i0);
-  w2c_l9 = w2c_i0;
-  w2c_B3:;
+  w2c_l10 = w2c_i0;
+  w2c_B4:;
+  w2c_j0 = w2c_p2;
+  w2c_j1 = w2c_l6;
+  w2c_i2 = w2c_l9;
+  w2c_j0 = w2c_i2 ? w2c_j0 : w2c_j1;
+  w2c_p1 = w2c_j0;
+  w2c_j0 = w2c_l7;
+  w2c_j1 = 416ull;
+  w2c_j0 += w2c_j1;
+  w2c_l6 = w2c_j0;
   w2c_j0 = w2c_l5;
   w2c_i0 = (u32)(w2c_j0);
   near0 = read_place(&instance->w2c_memory, (u32)w2c_l5 + 8u, 24);
@@ -49170,88 +50672,178 @@ static u32 w2c_rattle__export_tcp_c_connection_receive(Machine * instance, u64 w
   w2c_j0 = w2c_l5;
   w2c_i0 = (u32)(w2c_j0);
   w2c_i0 = get8(near0 + 8);
-  w2c_l10 = w2c_i0;
-  w2c_j0 = w2c_l5;
-  w2c_i0 = (u32)(w2c_j0);
-  w2c_i0 = get8(near0 + 1);
   w2c_l11 = w2c_i0;
   w2c_j0 = w2c_l5;
   w2c_i0 = (u32)(w2c_j0);
-  w2c_i0 = get8(near0 + 0);
+  w2c_i0 = get8(near0 + 1);
   w2c_l12 = w2c_i0;
-  w2c_i0 = 0u;
+  w2c_j0 = w2c_l5;
+  w2c_i0 = (u32)(w2c_j0);
+  w2c_i0 = get8(near0 + 0);
   w2c_l13 = w2c_i0;
+  w2c_i0 = 0u;
+  w2c_l9 = w2c_i0;
   w2c_i0 = 1u;
   w2c_i1 = w2c_l8;
   w2c_i0 <<= (w2c_i1 & 31);
   w2c_i1 = 1103u;
   w2c_i0 &= w2c_i1;
-  if (w2c_i0) {goto w2c_B7;}
-  w2c_j0 = w2c_l7;
-  w2c_j1 = 160ull;
-  w2c_j0 += w2c_j1;
-  w2c_i0 = (u32)(w2c_j0);
-  w2c_j0 = i64_load(&instance->w2c_memory, (u64)(w2c_i0));
-  w2c_j1 = 0ull;
-  w2c_i0 = w2c_j0 != w2c_j1;
-  w2c_l13 = w2c_i0;
-  w2c_B7:;
+  if (w2c_i0) {goto w2c_B8;}
+  w2c_i0 = 0u;
+  w2c_i1 = 256u;
+  w2c_j2 = w2c_l7;
+  w2c_j3 = 160ull;
+  w2c_j2 += w2c_j3;
+  w2c_i2 = (u32)(w2c_j2);
+  w2c_j2 = i64_load(&instance->w2c_memory, (u64)(w2c_i2));
+  w2c_i2 = !(w2c_j2);
+  w2c_i0 = w2c_i2 ? w2c_i0 : w2c_i1;
+  w2c_l9 = w2c_i0;
+  w2c_B8:;
   w2c_i0 = 0u;
   w2c_l14 = w2c_i0;
   w2c_i0 = w2c_l8;
   w2c_i1 = 6u;
   w2c_i0 = w2c_i0 != w2c_i1;
-  if (w2c_i0) {goto w2c_B8;}
-  w2c_j0 = w2c_l7;
-  w2c_j1 = 320ull;
-  w2c_j0 += w2c_j1;
-  w2c_i0 = (u32)(w2c_j0);
-  w2c_j0 = i64_load(&instance->w2c_memory, (u64)(w2c_i0));
-  w2c_i0 = !(w2c_j0);
-  w2c_l14 = w2c_i0;
-  w2c_B8:;
-  w2c_j0 = w2c_l5;
-  w2c_i0 = (u32)(w2c_j0);
-  w2c_i1 = w2c_l14;
-  i32_store8(&instance->w2c_memory, (u64)(w2c_i0) + 11, w2c_i1);
-  w2c_j0 = w2c_l5;
-  w2c_i0 = (u32)(w2c_j0);
-  w2c_i1 = w2c_l13;
-  i32_store8(&instance->w2c_memory, (u64)(w2c_i0) + 9, w2c_i1);
-  w2c_j0 = w2c_l5;
-  w2c_i0 = (u32)(w2c_j0);
-  w2c_i1 = w2c_l9;
-  i32_store8(&instance->w2c_memory, (u64)(w2c_i0) + 8, w2c_i1);
-  w2c_j0 = w2c_l5;
-  w2c_i0 = (u32)(w2c_j0);
-  w2c_i1 = w2c_l8;
-  w2c_i2 = 10u;
-  w2c_i1 = w2c_i1 == w2c_i2;
-  i32_store8(&instance->w2c_memory, (u64)(w2c_i0) + 10, w2c_i1);
-  w2c_j0 = w2c_l7;
-  w2c_j1 = 416ull;
-  w2c_j0 += w2c_j1;
-  w2c_j1 = w2c_l5;
-  w2c_j2 = 8ull;
-  w2c_j1 += w2c_j2;
+  if (w2c_i0) {goto w2c_B9;}
+  w2c_i0 = 16777216u;
+  w2c_i1 = 0u;
   w2c_j2 = w2c_l7;
-  w2c_j3 = 64ull;
+  w2c_j3 = 320ull;
   w2c_j2 += w2c_j3;
   w2c_i2 = (u32)(w2c_j2);
   w2c_j2 = i64_load(&instance->w2c_memory, (u64)(w2c_i2));
+  w2c_i2 = !(w2c_j2);
+  w2c_i0 = w2c_i2 ? w2c_i0 : w2c_i1;
+  w2c_l14 = w2c_i0;
+  w2c_B9:;
+  w2c_j0 = w2c_l7;
+  w2c_j1 = 64ull;
+  w2c_j0 += w2c_j1;
+  w2c_i0 = (u32)(w2c_j0);
+  w2c_j0 = i64_load(&instance->w2c_memory, (u64)(w2c_i0));
+  w2c_p2 = w2c_j0;
+  w2c_j0 = w2c_l5;
+  w2c_i0 = (u32)(w2c_j0);
+  w2c_i1 = w2c_l10;
+  w2c_i2 = 65536u;
+  w2c_i3 = 0u;
+  w2c_i4 = w2c_l8;
+  w2c_i5 = 10u;
+  w2c_i4 = w2c_i4 == w2c_i5;
+  w2c_i2 = w2c_i4 ? w2c_i2 : w2c_i3;
+  w2c_i1 |= w2c_i2;
+  w2c_i2 = w2c_l9;
+  w2c_i1 |= w2c_i2;
+  w2c_i2 = w2c_l14;
+  w2c_i1 |= w2c_i2;
+  i32_store(&instance->w2c_memory, (u64)(w2c_i0) + 8, w2c_i1);
+  w2c_j0 = w2c_p2;
+  w2c_j1 = w2c_l7;
+  w2c_j2 = 632ull;
+  w2c_j1 += w2c_j2;
+  w2c_i1 = (u32)(w2c_j1);
+  w2c_j1 = i64_load(&instance->w2c_memory, (u64)(w2c_i1));
+  w2c_i0 = w2c_j0 != w2c_j1;
+  if (w2c_i0) {goto w2c_B2;}
+  w2c_j0 = w2c_l7;
+  w2c_j1 = 584ull;
+  w2c_j0 += w2c_j1;
+  w2c_i0 = (u32)(w2c_j0);
+  w2c_i0 = i32_load8_u(&instance->w2c_memory, (u64)(w2c_i0));
+  w2c_i1 = 1u;
+  w2c_i0 = w2c_i0 != w2c_i1;
+  w2c_i1 = w2c_l10;
+  w2c_i0 = w2c_i0 == w2c_i1;
+  if (w2c_i0) {goto w2c_B2;}
+  w2c_j0 = w2c_l7;
+  w2c_j1 = 640ull;
+  w2c_j0 += w2c_j1;
+  w2c_i0 = (u32)(w2c_j0);
+  w2c_i0 = i32_load8_u(&instance->w2c_memory, (u64)(w2c_i0));
+  w2c_l15 = w2c_i0;
+  w2c_i1 = 1u;
+  w2c_i0 = w2c_i0 == w2c_i1;
+  if (w2c_i0) {goto w2c_B11;}
+  w2c_i0 = w2c_l10;
+  if (w2c_i0) {goto w2c_B11;}
+  w2c_j0 = w2c_l7;
+  w2c_j1 = 656ull;
+  w2c_j0 += w2c_j1;
+  w2c_i0 = (u32)(w2c_j0);
+  w2c_i0 = i32_load(&instance->w2c_memory, (u64)(w2c_i0));
+  if (w2c_i0) {goto w2c_B2;}
+  w2c_j0 = w2c_l7;
+  w2c_j1 = 660ull;
+  w2c_j0 += w2c_j1;
+  w2c_i0 = (u32)(w2c_j0);
+  w2c_i0 = i32_load8_u(&instance->w2c_memory, (u64)(w2c_i0));
+  w2c_i0 = !(w2c_i0);
+  if (w2c_i0) {goto w2c_B10;}
+  goto w2c_B2;
+  w2c_B11:;
+  w2c_i0 = w2c_l15;
+  w2c_i1 = 1u;
+  w2c_i0 = w2c_i0 != w2c_i1;
+  if (w2c_i0) {goto w2c_B2;}
+  w2c_i0 = w2c_l10;
+  w2c_i0 = !(w2c_i0);
+  if (w2c_i0) {goto w2c_B2;}
+  w2c_B10:;
+  w2c_i0 = w2c_l9;
+  w2c_i1 = 0u;
+  w2c_i0 = w2c_i0 != w2c_i1;
+  w2c_j1 = w2c_l7;
+  w2c_j2 = 600ull;
+  w2c_j1 += w2c_j2;
+  w2c_i1 = (u32)(w2c_j1);
+  w2c_i1 = i32_load8_u(&instance->w2c_memory, (u64)(w2c_i1));
+  w2c_i2 = 1u;
+  w2c_i1 = w2c_i1 != w2c_i2;
+  w2c_i0 = w2c_i0 == w2c_i1;
+  if (w2c_i0) {goto w2c_B2;}
+  w2c_i0 = w2c_l8;
+  w2c_i1 = 10u;
+  w2c_i0 = w2c_i0 == w2c_i1;
+  w2c_j1 = w2c_l7;
+  w2c_j2 = 616ull;
+  w2c_j1 += w2c_j2;
+  w2c_i1 = (u32)(w2c_j1);
+  w2c_i1 = i32_load8_u(&instance->w2c_memory, (u64)(w2c_i1));
+  w2c_i2 = 1u;
+  w2c_i1 = w2c_i1 != w2c_i2;
+  w2c_i0 = w2c_i0 == w2c_i1;
+  if (w2c_i0) {goto w2c_B2;}
+  w2c_i0 = w2c_l14;
+  w2c_i1 = 0u;
+  w2c_i0 = w2c_i0 != w2c_i1;
+  w2c_j1 = w2c_l7;
+  w2c_j2 = 680ull;
+  w2c_j1 += w2c_j2;
+  w2c_i1 = (u32)(w2c_j1);
+  w2c_i1 = i32_load8_u(&instance->w2c_memory, (u64)(w2c_i1));
+  w2c_i2 = 1u;
+  w2c_i1 = w2c_i1 != w2c_i2;
+  w2c_i0 = w2c_i0 == w2c_i1;
+  if (w2c_i0) {goto w2c_B2;}
+  w2c_j0 = w2c_l7;
+  w2c_j1 = 704ull;
+  w2c_j0 += w2c_j1;
+  w2c_i0 = (u32)(w2c_j0);
+  w2c_j1 = w2c_p1;
+  i64_store(&instance->w2c_memory, (u64)(w2c_i0), w2c_j1);
+  goto w2c_B1;
+  w2c_B3:;
+  UNREACHABLE;
+  w2c_B2:;
+  w2c_j0 = w2c_l6;
+  w2c_j1 = w2c_l5;
+  w2c_j2 = 8ull;
+  w2c_j1 += w2c_j2;
+  w2c_j2 = w2c_p2;
   w2c_j3 = w2c_p1;
-  w2c_j4 = 4611686018427387904ull;
-  w2c_j5 = w2c_p1;
-  w2c_j6 = 4611686018427387904ull;
-  w2c_i5 = w2c_j5 < w2c_j6;
-  w2c_j3 = w2c_i5 ? w2c_j3 : w2c_j4;
-  w2c_p2 = w2c_j3;
-  w2c_j4 = w2c_l6;
-  w2c_j5 = w2c_p2;
-  w2c_j6 = w2c_l6;
-  w2c_i5 = w2c_j5 > w2c_j6;
-  w2c_j3 = w2c_i5 ? w2c_j3 : w2c_j4;
-  w2c_tcp_driver__timers__Timers__follow(instance, w2c_j0, w2c_j1, w2c_j2, w2c_j3);
+  w2c_tcp_driver__timers__Timers__start(instance, w2c_j0, w2c_j1, w2c_j2, w2c_j3);
+  w2c_B1:;
   w2c_j0 = w2c_p0;
   w2c_i0 = (u32)(w2c_j0);
   w2c_j1 = w2c_l7;
@@ -49260,14 +50852,14 @@ static u32 w2c_rattle__export_tcp_c_connection_receive(Machine * instance, u64 w
   w2c_i0 = (u32)(w2c_j0);
   w2c_j1 = 8521743234667672684ull;
   i64_store(&instance->w2c_memory, (u64)(w2c_i0), w2c_j1);
-  w2c_i0 = w2c_l12;
+  w2c_i0 = w2c_l13;
   w2c_i1 = 255u;
   w2c_i0 &= w2c_i1;
-  if (w2c_i0) {goto w2c_B9;}
-  w2c_i0 = w2c_l10;
+  if (w2c_i0) {goto w2c_B13;}
+  w2c_i0 = w2c_l11;
   w2c_i1 = 255u;
   w2c_i0 &= w2c_i1;
-  if (w2c_i0) {goto w2c_B1;}
+  if (w2c_i0) {goto w2c_B12;}
   w2c_j0 = w2c_p4;
   w2c_i0 = (u32)(w2c_j0);
   w2c_j1 = w2c_p3;
@@ -49275,28 +50867,26 @@ static u32 w2c_rattle__export_tcp_c_connection_receive(Machine * instance, u64 w
   w2c_i0 = 0u;
   w2c_l8 = w2c_i0;
   goto w2c_B0;
-  w2c_B9:;
+  w2c_B13:;
   w2c_j0 = w2c_p4;
   w2c_i0 = (u32)(w2c_j0);
   w2c_j1 = 0ull;
   i64_store(&instance->w2c_memory, (u64)(w2c_i0), w2c_j1);
-  w2c_i0 = w2c_l11;
+  w2c_i0 = w2c_l12;
   w2c_i1 = 11u;
   w2c_i0 += w2c_i1;
   w2c_i1 = 255u;
   w2c_i0 &= w2c_i1;
   w2c_l8 = w2c_i0;
   goto w2c_B0;
-  w2c_B2:;
-  UNREACHABLE;
-  w2c_B1:;
+  w2c_B12:;
   w2c_j0 = w2c_p4;
   w2c_i0 = (u32)(w2c_j0);
   w2c_j1 = 0ull;
   i64_store(&instance->w2c_memory, (u64)(w2c_i0), w2c_j1);
   w2c_i0 = 52u;
   w2c_i1 = 51u;
-  w2c_i2 = w2c_l10;
+  w2c_i2 = w2c_l11;
   w2c_i3 = 255u;
   w2c_i2 &= w2c_i3;
   w2c_i3 = 2u;
@@ -49306,6 +50896,469 @@ static u32 w2c_rattle__export_tcp_c_connection_receive(Machine * instance, u64 w
   w2c_B0:;
   w2c_j0 = w2c_l5;
   w2c_j1 = 32ull;
+  w2c_j0 += w2c_j1;
+  instance->w2c___stack_pointer = w2c_j0;
+  w2c_i0 = w2c_l8;
+  return w2c_i0;
+}
+
+static u32 w2c_tcp_c_connection_resend_first(Machine * instance, u64 w2c_p0, u64 w2c_p1) {
+  u32 w2c_l2 = 0;
+  u32 w2c_i0;
+  u64 w2c_j0, w2c_j1;
+  w2c_i0 = w2c___rattle_enter(instance);
+  w2c_i0 = !(w2c_i0);
+  if (w2c_i0) {goto w2c_B0;}
+  w2c___rattle_trap(instance);
+  UNREACHABLE;
+  w2c_B0:;
+  w2c_j0 = w2c_p0;
+  w2c_j1 = w2c_p1;
+  w2c_i0 = w2c_rattle__export_tcp_c_connection_resend_first(instance, w2c_j0, w2c_j1);
+  w2c_l2 = w2c_i0;
+  w2c___rattle_leave(instance);
+  w2c_i0 = w2c_l2;
+  return w2c_i0;
+}
+
+static u32 w2c_rattle__export_tcp_c_connection_resend_first(Machine * instance, u64 w2c_p0, u64 w2c_p1) {
+  u32 w2c_l8 = 0, w2c_l9 = 0, w2c_l10 = 0, w2c_l11 = 0, w2c_l12 = 0, w2c_l13 = 0;
+  u64 w2c_l2 = 0, w2c_l3 = 0, w2c_l4 = 0, w2c_l5 = 0, w2c_l6 = 0, w2c_l7 = 0;
+  u32 w2c_i0, w2c_i1, w2c_i2, w2c_i3, w2c_i4, w2c_i5, w2c_i6;
+  u64 w2c_j0, w2c_j1, w2c_j2, w2c_j3, w2c_j4;
+  w2c_j0 = instance->w2c___stack_pointer;
+  w2c_j1 = 16ull;
+  w2c_j0 -= w2c_j1;
+  w2c_l2 = w2c_j0;
+  instance->w2c___stack_pointer = w2c_j0;
+  w2c_j0 = w2c_l2;
+  w2c_l3 = w2c_j0;
+  w2c_j1 = 16ull;
+  w2c_i0 = (u64)((s64)w2c_j0 < (s64)w2c_j1);
+  if (w2c_i0) {goto w2c_B3;}
+  w2c_j0 = w2c_p0;
+  w2c_i0 = (u32)(w2c_j0);
+  w2c_j0 = i64_load(&instance->w2c_memory, (u64)(w2c_i0));
+  w2c_l4 = w2c_j0;
+  w2c_j0 = w2c_p0;
+  w2c_i0 = (u32)(w2c_j0);
+  w2c_j1 = 0ull;
+  i64_store(&instance->w2c_memory, (u64)(w2c_i0), w2c_j1);
+  w2c_j0 = w2c_p0;
+  w2c_i0 = (u32)(w2c_j0);
+  w2c_j0 = i64_load(&instance->w2c_memory, (u64)(w2c_i0) + 8u);
+  w2c_l2 = w2c_j0;
+  w2c_j0 = w2c_p0;
+  w2c_i0 = (u32)(w2c_j0);
+  w2c_j1 = 0ull;
+  i64_store(&instance->w2c_memory, (u64)(w2c_i0) + 8, w2c_j1);
+  w2c_i0 = 31u;
+  w2c_l8 = w2c_i0;
+  w2c_j0 = w2c_l4;
+  w2c_j1 = 8521743234667672684ull;
+  w2c_i0 = w2c_j0 != w2c_j1;
+  if (w2c_i0) {goto w2c_B0;}
+  w2c_j0 = w2c_p1;
+  w2c_j1 = 4611686018427387904ull;
+  w2c_j2 = w2c_p1;
+  w2c_j3 = 4611686018427387904ull;
+  w2c_i2 = w2c_j2 < w2c_j3;
+  w2c_j0 = w2c_i2 ? w2c_j0 : w2c_j1;
+  w2c_p1 = w2c_j0;
+  w2c_j1 = w2c_l2;
+  w2c_j2 = 704ull;
+  w2c_j1 += w2c_j2;
+  w2c_i1 = (u32)(w2c_j1);
+  w2c_j1 = i64_load(&instance->w2c_memory, (u64)(w2c_i1));
+  w2c_l4 = w2c_j1;
+  w2c_j2 = w2c_p1;
+  w2c_j3 = w2c_l4;
+  w2c_i2 = w2c_j2 > w2c_j3;
+  w2c_j0 = w2c_i2 ? w2c_j0 : w2c_j1;
+  w2c_l4 = w2c_j0;
+  w2c_j0 = w2c_l2;
+  w2c_j1 = 416ull;
+  w2c_j0 += w2c_j1;
+  w2c_l5 = w2c_j0;
+  w2c_i0 = 54u;
+  w2c_l8 = w2c_i0;
+  w2c_i0 = 1u;
+  w2c_l9 = w2c_i0;
+  w2c_i0 = 1u;
+  w2c_j1 = w2c_l2;
+  w2c_j2 = 48ull;
+  w2c_j1 += w2c_j2;
+  w2c_i1 = (u32)(w2c_j1);
+  w2c_i1 = i32_load8_u(&instance->w2c_memory, (u64)(w2c_i1));
+  w2c_l10 = w2c_i1;
+  w2c_i0 <<= (w2c_i1 & 31);
+  w2c_i1 = 1103u;
+  w2c_i0 &= w2c_i1;
+  if (w2c_i0) {goto w2c_B4;}
+  w2c_j0 = w2c_l2;
+  w2c_j1 = 64ull;
+  w2c_j0 += w2c_j1;
+  w2c_i0 = (u32)(w2c_j0);
+  w2c_j0 = i64_load(&instance->w2c_memory, (u64)(w2c_i0));
+  w2c_p1 = w2c_j0;
+  w2c_j1 = w2c_l2;
+  w2c_j2 = 72ull;
+  w2c_j1 += w2c_j2;
+  w2c_i1 = (u32)(w2c_j1);
+  w2c_j1 = i64_load(&instance->w2c_memory, (u64)(w2c_i1));
+  w2c_l6 = w2c_j1;
+  w2c_i0 = w2c_j0 >= w2c_j1;
+  if (w2c_i0) {goto w2c_B4;}
+  w2c_j0 = w2c_l2;
+  w2c_j1 = 58ull;
+  w2c_j0 += w2c_j1;
+  w2c_i0 = (u32)(w2c_j0);
+  w2c_i0 = i32_load16_u(&instance->w2c_memory, (u64)(w2c_i0));
+  w2c_l11 = w2c_i0;
+  w2c_j0 = w2c_l2;
+  w2c_j1 = 12ull;
+  w2c_j0 += w2c_j1;
+  w2c_i0 = (u32)(w2c_j0);
+  w2c_i0 = i32_load16_u(&instance->w2c_memory, (u64)(w2c_i0));
+  w2c_l12 = w2c_i0;
+  w2c_i0 = 0u;
+  w2c_l8 = w2c_i0;
+  w2c_i0 = 0u;
+  w2c_l13 = w2c_i0;
+  w2c_j0 = w2c_l2;
+  w2c_j1 = 62ull;
+  w2c_j0 += w2c_j1;
+  w2c_i0 = (u32)(w2c_j0);
+  w2c_i0 = i32_load8_u(&instance->w2c_memory, (u64)(w2c_i0));
+  w2c_i1 = 1u;
+  w2c_i0 = w2c_i0 != w2c_i1;
+  if (w2c_i0) {goto w2c_B5;}
+  w2c_i0 = 0u;
+  w2c_j1 = w2c_l2;
+  w2c_j2 = 344ull;
+  w2c_j1 += w2c_j2;
+  w2c_i1 = (u32)(w2c_j1);
+  w2c_j1 = i64_load(&instance->w2c_memory, (u64)(w2c_i1));
+  w2c_l7 = w2c_j1;
+  w2c_j2 = 4ull;
+  w2c_j3 = w2c_l7;
+  w2c_j4 = 4ull;
+  w2c_i3 = w2c_j3 < w2c_j4;
+  w2c_j1 = w2c_i3 ? w2c_j1 : w2c_j2;
+  w2c_i1 = (u32)(w2c_j1);
+  w2c_i2 = 3u;
+  w2c_i1 <<= (w2c_i2 & 31);
+  w2c_i2 = 4u;
+  w2c_i1 |= w2c_i2;
+  w2c_j2 = w2c_l7;
+  w2c_i2 = !(w2c_j2);
+  w2c_i0 = w2c_i2 ? w2c_i0 : w2c_i1;
+  w2c_l13 = w2c_i0;
+  w2c_B5:;
+  w2c_j0 = w2c_l2;
+  w2c_j1 = 208ull;
+  w2c_j0 += w2c_j1;
+  w2c_i0 = (u32)(w2c_j0);
+  w2c_j1 = w2c_p1;
+  i64_store(&instance->w2c_memory, (u64)(w2c_i0), w2c_j1);
+  w2c_j0 = w2c_l2;
+  w2c_j1 = 200ull;
+  w2c_j0 += w2c_j1;
+  w2c_i0 = (u32)(w2c_j0);
+  w2c_j1 = 1ull;
+  i64_store(&instance->w2c_memory, (u64)(w2c_i0), w2c_j1);
+  w2c_j0 = w2c_l2;
+  w2c_j1 = 216ull;
+  w2c_j0 += w2c_j1;
+  w2c_i0 = (u32)(w2c_j0);
+  w2c_j1 = w2c_p1;
+  w2c_i2 = 0u;
+  w2c_i3 = w2c_l11;
+  w2c_i4 = 65535u;
+  w2c_i3 &= w2c_i4;
+  w2c_l11 = w2c_i3;
+  w2c_i4 = w2c_l12;
+  w2c_i5 = 65535u;
+  w2c_i4 &= w2c_i5;
+  w2c_l12 = w2c_i4;
+  w2c_i5 = w2c_l11;
+  w2c_i6 = w2c_l12;
+  w2c_i5 = w2c_i5 < w2c_i6;
+  w2c_i3 = w2c_i5 ? w2c_i3 : w2c_i4;
+  w2c_l11 = w2c_i3;
+  w2c_i4 = w2c_l13;
+  w2c_i5 = 65535u;
+  w2c_i4 &= w2c_i5;
+  w2c_i3 -= w2c_i4;
+  w2c_l13 = w2c_i3;
+  w2c_i4 = w2c_l13;
+  w2c_i5 = w2c_l11;
+  w2c_i4 = w2c_i4 > w2c_i5;
+  w2c_i2 = w2c_i4 ? w2c_i2 : w2c_i3;
+  w2c_j2 = (u64)(w2c_i2);
+  w2c_j1 += w2c_j2;
+  w2c_p1 = w2c_j1;
+  w2c_j2 = w2c_l6;
+  w2c_j3 = w2c_p1;
+  w2c_j4 = w2c_l6;
+  w2c_i3 = w2c_j3 < w2c_j4;
+  w2c_j1 = w2c_i3 ? w2c_j1 : w2c_j2;
+  i64_store(&instance->w2c_memory, (u64)(w2c_i0), w2c_j1);
+  w2c_B4:;
+  w2c_i0 = w2c_l10;
+  w2c_i1 = 254u;
+  w2c_i0 &= w2c_i1;
+  w2c_i1 = 2u;
+  w2c_i0 = w2c_i0 == w2c_i1;
+  if (w2c_i0) {goto w2c_B6;}
+  w2c_i0 = 1u;
+  w2c_l9 = w2c_i0;
+  w2c_i0 = 1u;
+  w2c_i1 = w2c_l10;
+  w2c_i0 <<= (w2c_i1 & 31);
+  w2c_i1 = 944u;
+  w2c_i0 &= w2c_i1;
+  if (w2c_i0) {goto w2c_B7;}
+  w2c_i0 = 0u;
+  w2c_l9 = w2c_i0;
+  goto w2c_B6;
+  w2c_B7:;
+  w2c_j0 = w2c_l2;
+  w2c_j1 = 64ull;
+  w2c_j0 += w2c_j1;
+  w2c_i0 = (u32)(w2c_j0);
+  w2c_j0 = i64_load(&instance->w2c_memory, (u64)(w2c_i0));
+  w2c_p1 = w2c_j0;
+  w2c_j1 = w2c_l2;
+  w2c_j2 = 72ull;
+  w2c_j1 += w2c_j2;
+  w2c_i1 = (u32)(w2c_j1);
+  w2c_j1 = i64_load(&instance->w2c_memory, (u64)(w2c_i1));
+  w2c_l6 = w2c_j1;
+  w2c_i0 = w2c_j0 < w2c_j1;
+  if (w2c_i0) {goto w2c_B6;}
+  w2c_i0 = w2c_l10;
+  w2c_i1 = 6u;
+  w2c_i0 = w2c_i0 != w2c_i1;
+  if (w2c_i0) {goto w2c_B8;}
+  w2c_i0 = 0u;
+  w2c_l9 = w2c_i0;
+  goto w2c_B6;
+  w2c_B8:;
+  w2c_j0 = w2c_p1;
+  w2c_j1 = w2c_l6;
+  w2c_i0 = w2c_j0 == w2c_j1;
+  if (w2c_i0) {goto w2c_B9;}
+  w2c_i0 = 0u;
+  w2c_l9 = w2c_i0;
+  goto w2c_B6;
+  w2c_B9:;
+  w2c_i0 = 0u;
+  w2c_l9 = w2c_i0;
+  w2c_j0 = w2c_l2;
+  w2c_j1 = 104ull;
+  w2c_j0 += w2c_j1;
+  w2c_i0 = (u32)(w2c_j0);
+  w2c_j0 = i64_load(&instance->w2c_memory, (u64)(w2c_i0));
+  w2c_j1 = 0ull;
+  w2c_j2 = w2c_l2;
+  w2c_j3 = 80ull;
+  w2c_j2 += w2c_j3;
+  w2c_i2 = (u32)(w2c_j2);
+  w2c_j2 = i64_load(&instance->w2c_memory, (u64)(w2c_i2));
+  w2c_j3 = 18446744073709551615ull;
+  w2c_j2 ^= w2c_j3;
+  w2c_j3 = w2c_p1;
+  w2c_j2 += w2c_j3;
+  w2c_l6 = w2c_j2;
+  w2c_j3 = w2c_l6;
+  w2c_j4 = w2c_p1;
+  w2c_i3 = w2c_j3 > w2c_j4;
+  w2c_j1 = w2c_i3 ? w2c_j1 : w2c_j2;
+  w2c_i0 = w2c_j0 <= w2c_j1;
+  if (w2c_i0) {goto w2c_B6;}
+  w2c_j0 = w2c_l2;
+  w2c_j1 = 224ull;
+  w2c_j0 += w2c_j1;
+  w2c_i0 = (u32)(w2c_j0);
+  w2c_i0 = i32_load(&instance->w2c_memory, (u64)(w2c_i0));
+  w2c_i0 = !(w2c_i0);
+  w2c_l9 = w2c_i0;
+  w2c_B6:;
+  w2c_i0 = 0u;
+  w2c_l13 = w2c_i0;
+  w2c_i0 = 1u;
+  w2c_i1 = w2c_l10;
+  w2c_i0 <<= (w2c_i1 & 31);
+  w2c_i1 = 1103u;
+  w2c_i0 &= w2c_i1;
+  if (w2c_i0) {goto w2c_B10;}
+  w2c_i0 = 0u;
+  w2c_i1 = 256u;
+  w2c_j2 = w2c_l2;
+  w2c_j3 = 160ull;
+  w2c_j2 += w2c_j3;
+  w2c_i2 = (u32)(w2c_j2);
+  w2c_j2 = i64_load(&instance->w2c_memory, (u64)(w2c_i2));
+  w2c_i2 = !(w2c_j2);
+  w2c_i0 = w2c_i2 ? w2c_i0 : w2c_i1;
+  w2c_l13 = w2c_i0;
+  w2c_B10:;
+  w2c_i0 = 0u;
+  w2c_l11 = w2c_i0;
+  w2c_i0 = w2c_l10;
+  w2c_i1 = 6u;
+  w2c_i0 = w2c_i0 != w2c_i1;
+  if (w2c_i0) {goto w2c_B11;}
+  w2c_i0 = 16777216u;
+  w2c_i1 = 0u;
+  w2c_j2 = w2c_l2;
+  w2c_j3 = 320ull;
+  w2c_j2 += w2c_j3;
+  w2c_i2 = (u32)(w2c_j2);
+  w2c_j2 = i64_load(&instance->w2c_memory, (u64)(w2c_i2));
+  w2c_i2 = !(w2c_j2);
+  w2c_i0 = w2c_i2 ? w2c_i0 : w2c_i1;
+  w2c_l11 = w2c_i0;
+  w2c_B11:;
+  w2c_j0 = w2c_l2;
+  w2c_j1 = 64ull;
+  w2c_j0 += w2c_j1;
+  w2c_i0 = (u32)(w2c_j0);
+  w2c_j0 = i64_load(&instance->w2c_memory, (u64)(w2c_i0));
+  w2c_p1 = w2c_j0;
+  w2c_j0 = w2c_l3;
+  w2c_i0 = (u32)(w2c_j0);
+  w2c_i1 = w2c_l9;
+  w2c_i2 = 65536u;
+  w2c_i3 = 0u;
+  w2c_i4 = w2c_l10;
+  w2c_i5 = 10u;
+  w2c_i4 = w2c_i4 == w2c_i5;
+  w2c_i2 = w2c_i4 ? w2c_i2 : w2c_i3;
+  w2c_i1 |= w2c_i2;
+  w2c_i2 = w2c_l13;
+  w2c_i1 |= w2c_i2;
+  w2c_i2 = w2c_l11;
+  w2c_i1 |= w2c_i2;
+  i32_store(&instance->w2c_memory, (u64)(w2c_i0) + 12, w2c_i1);
+  w2c_j0 = w2c_p1;
+  w2c_j1 = w2c_l2;
+  w2c_j2 = 632ull;
+  w2c_j1 += w2c_j2;
+  w2c_i1 = (u32)(w2c_j1);
+  w2c_j1 = i64_load(&instance->w2c_memory, (u64)(w2c_i1));
+  w2c_i0 = w2c_j0 != w2c_j1;
+  if (w2c_i0) {goto w2c_B2;}
+  w2c_j0 = w2c_l2;
+  w2c_j1 = 584ull;
+  w2c_j0 += w2c_j1;
+  w2c_i0 = (u32)(w2c_j0);
+  w2c_i0 = i32_load8_u(&instance->w2c_memory, (u64)(w2c_i0));
+  w2c_i1 = 1u;
+  w2c_i0 = w2c_i0 != w2c_i1;
+  w2c_i1 = w2c_l9;
+  w2c_i0 = w2c_i0 == w2c_i1;
+  if (w2c_i0) {goto w2c_B2;}
+  w2c_j0 = w2c_l2;
+  w2c_j1 = 640ull;
+  w2c_j0 += w2c_j1;
+  w2c_i0 = (u32)(w2c_j0);
+  w2c_i0 = i32_load8_u(&instance->w2c_memory, (u64)(w2c_i0));
+  w2c_l12 = w2c_i0;
+  w2c_i1 = 1u;
+  w2c_i0 = w2c_i0 == w2c_i1;
+  if (w2c_i0) {goto w2c_B13;}
+  w2c_i0 = w2c_l9;
+  if (w2c_i0) {goto w2c_B13;}
+  w2c_j0 = w2c_l2;
+  w2c_j1 = 656ull;
+  w2c_j0 += w2c_j1;
+  w2c_i0 = (u32)(w2c_j0);
+  w2c_i0 = i32_load(&instance->w2c_memory, (u64)(w2c_i0));
+  if (w2c_i0) {goto w2c_B2;}
+  w2c_j0 = w2c_l2;
+  w2c_j1 = 660ull;
+  w2c_j0 += w2c_j1;
+  w2c_i0 = (u32)(w2c_j0);
+  w2c_i0 = i32_load8_u(&instance->w2c_memory, (u64)(w2c_i0));
+  w2c_i0 = !(w2c_i0);
+  if (w2c_i0) {goto w2c_B12;}
+  goto w2c_B2;
+  w2c_B13:;
+  w2c_i0 = w2c_l12;
+  w2c_i1 = 1u;
+  w2c_i0 = w2c_i0 != w2c_i1;
+  if (w2c_i0) {goto w2c_B2;}
+  w2c_i0 = w2c_l9;
+  w2c_i0 = !(w2c_i0);
+  if (w2c_i0) {goto w2c_B2;}
+  w2c_B12:;
+  w2c_i0 = w2c_l13;
+  w2c_i1 = 0u;
+  w2c_i0 = w2c_i0 != w2c_i1;
+  w2c_j1 = w2c_l2;
+  w2c_j2 = 600ull;
+  w2c_j1 += w2c_j2;
+  w2c_i1 = (u32)(w2c_j1);
+  w2c_i1 = i32_load8_u(&instance->w2c_memory, (u64)(w2c_i1));
+  w2c_i2 = 1u;
+  w2c_i1 = w2c_i1 != w2c_i2;
+  w2c_i0 = w2c_i0 == w2c_i1;
+  if (w2c_i0) {goto w2c_B2;}
+  w2c_i0 = w2c_l10;
+  w2c_i1 = 10u;
+  w2c_i0 = w2c_i0 == w2c_i1;
+  w2c_j1 = w2c_l2;
+  w2c_j2 = 616ull;
+  w2c_j1 += w2c_j2;
+  w2c_i1 = (u32)(w2c_j1);
+  w2c_i1 = i32_load8_u(&instance->w2c_memory, (u64)(w2c_i1));
+  w2c_i2 = 1u;
+  w2c_i1 = w2c_i1 != w2c_i2;
+  w2c_i0 = w2c_i0 == w2c_i1;
+  if (w2c_i0) {goto w2c_B2;}
+  w2c_i0 = w2c_l11;
+  w2c_i1 = 0u;
+  w2c_i0 = w2c_i0 != w2c_i1;
+  w2c_j1 = w2c_l2;
+  w2c_j2 = 680ull;
+  w2c_j1 += w2c_j2;
+  w2c_i1 = (u32)(w2c_j1);
+  w2c_i1 = i32_load8_u(&instance->w2c_memory, (u64)(w2c_i1));
+  w2c_i2 = 1u;
+  w2c_i1 = w2c_i1 != w2c_i2;
+  w2c_i0 = w2c_i0 == w2c_i1;
+  if (w2c_i0) {goto w2c_B2;}
+  w2c_j0 = w2c_l2;
+  w2c_j1 = 704ull;
+  w2c_j0 += w2c_j1;
+  w2c_i0 = (u32)(w2c_j0);
+  w2c_j1 = w2c_l4;
+  i64_store(&instance->w2c_memory, (u64)(w2c_i0), w2c_j1);
+  goto w2c_B1;
+  w2c_B3:;
+  UNREACHABLE;
+  w2c_B2:;
+  w2c_j0 = w2c_l5;
+  w2c_j1 = w2c_l3;
+  w2c_j2 = 12ull;
+  w2c_j1 += w2c_j2;
+  w2c_j2 = w2c_p1;
+  w2c_j3 = w2c_l4;
+  w2c_tcp_driver__timers__Timers__start(instance, w2c_j0, w2c_j1, w2c_j2, w2c_j3);
+  w2c_B1:;
+  w2c_j0 = w2c_p0;
+  w2c_i0 = (u32)(w2c_j0);
+  w2c_j1 = w2c_l2;
+  i64_store(&instance->w2c_memory, (u64)(w2c_i0) + 8, w2c_j1);
+  w2c_j0 = w2c_p0;
+  w2c_i0 = (u32)(w2c_j0);
+  w2c_j1 = 8521743234667672684ull;
+  i64_store(&instance->w2c_memory, (u64)(w2c_i0), w2c_j1);
+  w2c_B0:;
+  w2c_j0 = w2c_l3;
+  w2c_j1 = 16ull;
   w2c_j0 += w2c_j1;
   instance->w2c___stack_pointer = w2c_j0;
   w2c_i0 = w2c_l8;
@@ -49431,10 +51484,10 @@ static u32 w2c_tcp_c_connection_send(Machine * instance, u64 w2c_p0, u64 w2c_p1,
 }
 
 static u32 w2c_rattle__export_tcp_c_connection_send(Machine * instance, u64 w2c_p0, u64 w2c_p1, u64 w2c_p2, u64 w2c_p3, u64 w2c_p4) {
-  u32 w2c_l8 = 0, w2c_l9 = 0, w2c_l10 = 0, w2c_l11 = 0, w2c_l12 = 0, w2c_l13 = 0;
+  u32 w2c_l8 = 0, w2c_l9 = 0, w2c_l10 = 0, w2c_l11 = 0, w2c_l12 = 0, w2c_l13 = 0, w2c_l14 = 0;
   u64 w2c_l5 = 0, w2c_l6 = 0, w2c_l7 = 0;
   u32 w2c_i0, w2c_i1, w2c_i2, w2c_i3, w2c_i4, w2c_i5;
-  u64 w2c_j0, w2c_j1, w2c_j2, w2c_j3, w2c_j4, w2c_j5, w2c_j6;
+  u64 w2c_j0, w2c_j1, w2c_j2, w2c_j3, w2c_j4, w2c_j5;
   w2c_j0 = instance->w2c___stack_pointer;
   w2c_j1 = 16ull;
   w2c_j0 -= w2c_j1;
@@ -49444,7 +51497,7 @@ static u32 w2c_rattle__export_tcp_c_connection_send(Machine * instance, u64 w2c_
   w2c_l5 = w2c_j0;
   w2c_j1 = 16ull;
   w2c_i0 = (u64)((s64)w2c_j0 < (s64)w2c_j1);
-  if (w2c_i0) {goto w2c_B0;}
+  if (w2c_i0) {goto w2c_B3;}
   w2c_j0 = w2c_p4;
   w2c_i0 = (u32)(w2c_j0);
   w2c_j1 = 0ull;
@@ -49470,7 +51523,7 @@ static u32 w2c_rattle__export_tcp_c_connection_send(Machine * instance, u64 w2c_
   w2c_j0 = w2c_l6;
   w2c_j1 = 8521743234667672684ull;
   w2c_i0 = w2c_j0 != w2c_j1;
-  if (w2c_i0) {goto w2c_B1;}
+  if (w2c_i0) {goto w2c_B0;}
   w2c_j0 = w2c_l7;
   w2c_j1 = 704ull;
   w2c_j0 += w2c_j1;
@@ -49496,8 +51549,18 @@ static u32 w2c_rattle__export_tcp_c_connection_send(Machine * instance, u64 w2c_
   w2c_j2 += w2c_j3;
   w2c_j3 = w2c_p3;
   w2c_tcp_conn__endpoint__Endpoint__send(instance, w2c_j0, w2c_j1, w2c_j2, w2c_j3);
-  w2c_i0 = 1u;
+  w2c_j0 = w2c_p1;
+  w2c_j1 = 4611686018427387904ull;
+  w2c_j2 = w2c_p1;
+  w2c_j3 = 4611686018427387904ull;
+  w2c_i2 = w2c_j2 < w2c_j3;
+  w2c_j0 = w2c_i2 ? w2c_j0 : w2c_j1;
+  w2c_p2 = w2c_j0;
+  w2c_j1 = w2c_l6;
+  w2c_i0 = w2c_j0 > w2c_j1;
   w2c_l9 = w2c_i0;
+  w2c_i0 = 1u;
+  w2c_l10 = w2c_i0;
   w2c_j0 = w2c_l7;
   w2c_j1 = 48ull;
   w2c_j0 += w2c_j1;
@@ -49508,25 +51571,25 @@ static u32 w2c_rattle__export_tcp_c_connection_send(Machine * instance, u64 w2c_
   w2c_i0 &= w2c_i1;
   w2c_i1 = 2u;
   w2c_i0 = w2c_i0 == w2c_i1;
-  if (w2c_i0) {goto w2c_B2;}
+  if (w2c_i0) {goto w2c_B4;}
   w2c_i0 = 1u;
-  w2c_l9 = w2c_i0;
+  w2c_l10 = w2c_i0;
   w2c_i0 = 1u;
   w2c_i1 = w2c_l8;
   w2c_i0 <<= (w2c_i1 & 31);
   w2c_i1 = 944u;
   w2c_i0 &= w2c_i1;
-  if (w2c_i0) {goto w2c_B3;}
+  if (w2c_i0) {goto w2c_B5;}
   w2c_i0 = 0u;
-  w2c_l9 = w2c_i0;
-  goto w2c_B2;
-  w2c_B3:;
+  w2c_l10 = w2c_i0;
+  goto w2c_B4;
+  w2c_B5:;
   w2c_j0 = w2c_l7;
   w2c_j1 = 64ull;
   w2c_j0 += w2c_j1;
   w2c_i0 = (u32)(w2c_j0);
   w2c_j0 = i64_load(&instance->w2c_memory, (u64)(w2c_i0));
-  w2c_p2 = w2c_j0;
+  w2c_p1 = w2c_j0;
   w2c_j1 = w2c_l7;
   w2c_j2 = 72ull;
   w2c_j1 += w2c_j2;
@@ -49534,25 +51597,25 @@ static u32 w2c_rattle__export_tcp_c_connection_send(Machine * instance, u64 w2c_
   w2c_j1 = i64_load(&instance->w2c_memory, (u64)(w2c_i1));
   w2c_p3 = w2c_j1;
   w2c_i0 = w2c_j0 < w2c_j1;
-  if (w2c_i0) {goto w2c_B2;}
+  if (w2c_i0) {goto w2c_B4;}
   w2c_i0 = w2c_l8;
   w2c_i1 = 6u;
   w2c_i0 = w2c_i0 != w2c_i1;
-  if (w2c_i0) {goto w2c_B4;}
+  if (w2c_i0) {goto w2c_B6;}
   w2c_i0 = 0u;
-  w2c_l9 = w2c_i0;
-  goto w2c_B2;
-  w2c_B4:;
-  w2c_j0 = w2c_p2;
+  w2c_l10 = w2c_i0;
+  goto w2c_B4;
+  w2c_B6:;
+  w2c_j0 = w2c_p1;
   w2c_j1 = w2c_p3;
   w2c_i0 = w2c_j0 == w2c_j1;
-  if (w2c_i0) {goto w2c_B5;}
+  if (w2c_i0) {goto w2c_B7;}
   w2c_i0 = 0u;
-  w2c_l9 = w2c_i0;
-  goto w2c_B2;
-  w2c_B5:;
+  w2c_l10 = w2c_i0;
+  goto w2c_B4;
+  w2c_B7:;
   w2c_i0 = 0u;
-  w2c_l9 = w2c_i0;
+  w2c_l10 = w2c_i0;
   w2c_j0 = w2c_l7;
   w2c_j1 = 104ull;
   w2c_j0 += w2c_j1;
@@ -49566,106 +51629,205 @@ static u32 w2c_rattle__export_tcp_c_connection_send(Machine * instance, u64 w2c_
   w2c_j2 = i64_load(&instance->w2c_memory, (u64)(w2c_i2));
   w2c_j3 = 18446744073709551615ull;
   w2c_j2 ^= w2c_j3;
-  w2c_j3 = w2c_p2;
+  w2c_j3 = w2c_p1;
   w2c_j2 += w2c_j3;
   w2c_p3 = w2c_j2;
   w2c_j3 = w2c_p3;
-  w2c_j4 = w2c_p2;
+  w2c_j4 = w2c_p1;
   w2c_i3 = w2c_j3 > w2c_j4;
   w2c_j1 = w2c_i3 ? w2c_j1 : w2c_j2;
   w2c_i0 = w2c_j0 <= w2c_j1;
-  if (w2c_i0) {goto w2c_B2;}
+  if (w2c_i0) {goto w2c_B4;}
   w2c_j0 = w2c_l7;
   w2c_j1 = 224ull;
   w2c_j0 += w2c_j1;
   w2c_i0 = (u32)(w2c_j0);
   w2c_i0 = i32_load(&instance->w2c_memory, (u64)(w2c_i0));
   w2c_i0 = !(w2c_i0);
-  w2c_l9 = w2c_i0;
-  w2c_B2:;
+  w2c_l10 = w2c_i0;
+  w2c_B4:;
+  w2c_j0 = w2c_p2;
+  w2c_j1 = w2c_l6;
+  w2c_i2 = w2c_l9;
+  w2c_j0 = w2c_i2 ? w2c_j0 : w2c_j1;
+  w2c_p1 = w2c_j0;
+  w2c_j0 = w2c_l7;
+  w2c_j1 = 416ull;
+  w2c_j0 += w2c_j1;
+  w2c_p3 = w2c_j0;
   w2c_j0 = w2c_l5;
   w2c_i0 = (u32)(w2c_j0);
   w2c_j0 = i64_load(&instance->w2c_memory, (u64)(w2c_i0) + 8u);
-  w2c_p2 = w2c_j0;
+  w2c_l6 = w2c_j0;
   w2c_j0 = w2c_l5;
   w2c_i0 = (u32)(w2c_j0);
   w2c_i0 = i32_load8_u(&instance->w2c_memory, (u64)(w2c_i0) + 1u);
-  w2c_l10 = w2c_i0;
+  w2c_l11 = w2c_i0;
   w2c_j0 = w2c_l5;
   w2c_i0 = (u32)(w2c_j0);
   w2c_i0 = i32_load8_u(&instance->w2c_memory, (u64)(w2c_i0));
-  w2c_l11 = w2c_i0;
-  w2c_i0 = 0u;
   w2c_l12 = w2c_i0;
+  w2c_i0 = 0u;
+  w2c_l9 = w2c_i0;
   w2c_i0 = 1u;
   w2c_i1 = w2c_l8;
   w2c_i0 <<= (w2c_i1 & 31);
   w2c_i1 = 1103u;
   w2c_i0 &= w2c_i1;
-  if (w2c_i0) {goto w2c_B6;}
-  w2c_j0 = w2c_l7;
-  w2c_j1 = 160ull;
-  w2c_j0 += w2c_j1;
-  w2c_i0 = (u32)(w2c_j0);
-  w2c_j0 = i64_load(&instance->w2c_memory, (u64)(w2c_i0));
-  w2c_j1 = 0ull;
-  w2c_i0 = w2c_j0 != w2c_j1;
-  w2c_l12 = w2c_i0;
-  w2c_B6:;
+  if (w2c_i0) {goto w2c_B8;}
+  w2c_i0 = 0u;
+  w2c_i1 = 256u;
+  w2c_j2 = w2c_l7;
+  w2c_j3 = 160ull;
+  w2c_j2 += w2c_j3;
+  w2c_i2 = (u32)(w2c_j2);
+  w2c_j2 = i64_load(&instance->w2c_memory, (u64)(w2c_i2));
+  w2c_i2 = !(w2c_j2);
+  w2c_i0 = w2c_i2 ? w2c_i0 : w2c_i1;
+  w2c_l9 = w2c_i0;
+  w2c_B8:;
   w2c_i0 = 0u;
   w2c_l13 = w2c_i0;
   w2c_i0 = w2c_l8;
   w2c_i1 = 6u;
   w2c_i0 = w2c_i0 != w2c_i1;
-  if (w2c_i0) {goto w2c_B7;}
-  w2c_j0 = w2c_l7;
-  w2c_j1 = 320ull;
-  w2c_j0 += w2c_j1;
-  w2c_i0 = (u32)(w2c_j0);
-  w2c_j0 = i64_load(&instance->w2c_memory, (u64)(w2c_i0));
-  w2c_i0 = !(w2c_j0);
-  w2c_l13 = w2c_i0;
-  w2c_B7:;
-  w2c_j0 = w2c_l5;
-  w2c_i0 = (u32)(w2c_j0);
-  w2c_i1 = w2c_l13;
-  i32_store8(&instance->w2c_memory, (u64)(w2c_i0) + 3, w2c_i1);
-  w2c_j0 = w2c_l5;
-  w2c_i0 = (u32)(w2c_j0);
-  w2c_i1 = w2c_l12;
-  i32_store8(&instance->w2c_memory, (u64)(w2c_i0) + 1, w2c_i1);
-  w2c_j0 = w2c_l5;
-  w2c_i0 = (u32)(w2c_j0);
-  w2c_i1 = w2c_l9;
-  i32_store8(&instance->w2c_memory, (u64)(w2c_i0), w2c_i1);
-  w2c_j0 = w2c_l5;
-  w2c_i0 = (u32)(w2c_j0);
-  w2c_i1 = w2c_l8;
-  w2c_i2 = 10u;
-  w2c_i1 = w2c_i1 == w2c_i2;
-  i32_store8(&instance->w2c_memory, (u64)(w2c_i0) + 2, w2c_i1);
-  w2c_j0 = w2c_l7;
-  w2c_j1 = 416ull;
-  w2c_j0 += w2c_j1;
-  w2c_j1 = w2c_l5;
+  if (w2c_i0) {goto w2c_B9;}
+  w2c_i0 = 16777216u;
+  w2c_i1 = 0u;
   w2c_j2 = w2c_l7;
-  w2c_j3 = 64ull;
+  w2c_j3 = 320ull;
   w2c_j2 += w2c_j3;
   w2c_i2 = (u32)(w2c_j2);
   w2c_j2 = i64_load(&instance->w2c_memory, (u64)(w2c_i2));
+  w2c_i2 = !(w2c_j2);
+  w2c_i0 = w2c_i2 ? w2c_i0 : w2c_i1;
+  w2c_l13 = w2c_i0;
+  w2c_B9:;
+  w2c_j0 = w2c_l7;
+  w2c_j1 = 64ull;
+  w2c_j0 += w2c_j1;
+  w2c_i0 = (u32)(w2c_j0);
+  w2c_j0 = i64_load(&instance->w2c_memory, (u64)(w2c_i0));
+  w2c_p2 = w2c_j0;
+  w2c_j0 = w2c_l5;
+  w2c_i0 = (u32)(w2c_j0);
+  w2c_i1 = w2c_l10;
+  w2c_i2 = 65536u;
+  w2c_i3 = 0u;
+  w2c_i4 = w2c_l8;
+  w2c_i5 = 10u;
+  w2c_i4 = w2c_i4 == w2c_i5;
+  w2c_i2 = w2c_i4 ? w2c_i2 : w2c_i3;
+  w2c_i1 |= w2c_i2;
+  w2c_i2 = w2c_l9;
+  w2c_i1 |= w2c_i2;
+  w2c_i2 = w2c_l13;
+  w2c_i1 |= w2c_i2;
+  i32_store(&instance->w2c_memory, (u64)(w2c_i0), w2c_i1);
+  w2c_j0 = w2c_p2;
+  w2c_j1 = w2c_l7;
+  w2c_j2 = 632ull;
+  w2c_j1 += w2c_j2;
+  w2c_i1 = (u32)(w2c_j1);
+  w2c_j1 = i64_load(&instance->w2c_memory, (u64)(w2c_i1));
+  w2c_i0 = w2c_j0 != w2c_j1;
+  if (w2c_i0) {goto w2c_B2;}
+  w2c_j0 = w2c_l7;
+  w2c_j1 = 584ull;
+  w2c_j0 += w2c_j1;
+  w2c_i0 = (u32)(w2c_j0);
+  w2c_i0 = i32_load8_u(&instance->w2c_memory, (u64)(w2c_i0));
+  w2c_i1 = 1u;
+  w2c_i0 = w2c_i0 != w2c_i1;
+  w2c_i1 = w2c_l10;
+  w2c_i0 = w2c_i0 == w2c_i1;
+  if (w2c_i0) {goto w2c_B2;}
+  w2c_j0 = w2c_l7;
+  w2c_j1 = 640ull;
+  w2c_j0 += w2c_j1;
+  w2c_i0 = (u32)(w2c_j0);
+  w2c_i0 = i32_load8_u(&instance->w2c_memory, (u64)(w2c_i0));
+  w2c_l14 = w2c_i0;
+  w2c_i1 = 1u;
+  w2c_i0 = w2c_i0 == w2c_i1;
+  if (w2c_i0) {goto w2c_B11;}
+  w2c_i0 = w2c_l10;
+  if (w2c_i0) {goto w2c_B11;}
+  w2c_j0 = w2c_l7;
+  w2c_j1 = 656ull;
+  w2c_j0 += w2c_j1;
+  w2c_i0 = (u32)(w2c_j0);
+  w2c_i0 = i32_load(&instance->w2c_memory, (u64)(w2c_i0));
+  if (w2c_i0) {goto w2c_B2;}
+  w2c_j0 = w2c_l7;
+  w2c_j1 = 660ull;
+  w2c_j0 += w2c_j1;
+  w2c_i0 = (u32)(w2c_j0);
+  w2c_i0 = i32_load8_u(&instance->w2c_memory, (u64)(w2c_i0));
+  w2c_i0 = !(w2c_i0);
+  if (w2c_i0) {goto w2c_B10;}
+  goto w2c_B2;
+  w2c_B11:;
+  w2c_i0 = w2c_l14;
+  w2c_i1 = 1u;
+  w2c_i0 = w2c_i0 != w2c_i1;
+  if (w2c_i0) {goto w2c_B2;}
+  w2c_i0 = w2c_l10;
+  w2c_i0 = !(w2c_i0);
+  if (w2c_i0) {goto w2c_B2;}
+  w2c_B10:;
+  w2c_i0 = w2c_l9;
+  w2c_i1 = 0u;
+  w2c_i0 = w2c_i0 != w2c_i1;
+  w2c_j1 = w2c_l7;
+  w2c_j2 = 600ull;
+  w2c_j1 += w2c_j2;
+  w2c_i1 = (u32)(w2c_j1);
+  w2c_i1 = i32_load8_u(&instance->w2c_memory, (u64)(w2c_i1));
+  w2c_i2 = 1u;
+  w2c_i1 = w2c_i1 != w2c_i2;
+  w2c_i0 = w2c_i0 == w2c_i1;
+  if (w2c_i0) {goto w2c_B2;}
+  w2c_i0 = w2c_l8;
+  w2c_i1 = 10u;
+  w2c_i0 = w2c_i0 == w2c_i1;
+  w2c_j1 = w2c_l7;
+  w2c_j2 = 616ull;
+  w2c_j1 += w2c_j2;
+  w2c_i1 = (u32)(w2c_j1);
+  w2c_i1 = i32_load8_u(&instance->w2c_memory, (u64)(w2c_i1));
+  w2c_i2 = 1u;
+  w2c_i1 = w2c_i1 != w2c_i2;
+  w2c_i0 = w2c_i0 == w2c_i1;
+  if (w2c_i0) {goto w2c_B2;}
+  w2c_i0 = w2c_l13;
+  w2c_i1 = 0u;
+  w2c_i0 = w2c_i0 != w2c_i1;
+  w2c_j1 = w2c_l7;
+  w2c_j2 = 680ull;
+  w2c_j1 += w2c_j2;
+  w2c_i1 = (u32)(w2c_j1);
+  w2c_i1 = i32_load8_u(&instance->w2c_memory, (u64)(w2c_i1));
+  w2c_i2 = 1u;
+  w2c_i1 = w2c_i1 != w2c_i2;
+  w2c_i0 = w2c_i0 == w2c_i1;
+  if (w2c_i0) {goto w2c_B2;}
+  w2c_j0 = w2c_l7;
+  w2c_j1 = 704ull;
+  w2c_j0 += w2c_j1;
+  w2c_i0 = (u32)(w2c_j0);
+  w2c_j1 = w2c_p1;
+  i64_store(&instance->w2c_memory, (u64)(w2c_i0), w2c_j1);
+  goto w2c_B1;
+  w2c_B3:;
+  UNREACHABLE;
+  w2c_B2:;
+  w2c_j0 = w2c_p3;
+  w2c_j1 = w2c_l5;
+  w2c_j2 = w2c_p2;
   w2c_j3 = w2c_p1;
-  w2c_j4 = 4611686018427387904ull;
-  w2c_j5 = w2c_p1;
-  w2c_j6 = 4611686018427387904ull;
-  w2c_i5 = w2c_j5 < w2c_j6;
-  w2c_j3 = w2c_i5 ? w2c_j3 : w2c_j4;
-  w2c_p1 = w2c_j3;
-  w2c_j4 = w2c_l6;
-  w2c_j5 = w2c_p1;
-  w2c_j6 = w2c_l6;
-  w2c_i5 = w2c_j5 > w2c_j6;
-  w2c_j3 = w2c_i5 ? w2c_j3 : w2c_j4;
-  w2c_tcp_driver__timers__Timers__follow(instance, w2c_j0, w2c_j1, w2c_j2, w2c_j3);
+  w2c_tcp_driver__timers__Timers__start(instance, w2c_j0, w2c_j1, w2c_j2, w2c_j3);
+  w2c_B1:;
   w2c_j0 = w2c_p0;
   w2c_i0 = (u32)(w2c_j0);
   w2c_j1 = w2c_l7;
@@ -49677,14 +51839,14 @@ static u32 w2c_rattle__export_tcp_c_connection_send(Machine * instance, u64 w2c_
   w2c_j0 = w2c_p4;
   w2c_i0 = (u32)(w2c_j0);
   w2c_j1 = 0ull;
-  w2c_j2 = w2c_p2;
-  w2c_i3 = w2c_l11;
+  w2c_j2 = w2c_l6;
+  w2c_i3 = w2c_l12;
   w2c_i4 = 255u;
   w2c_i3 &= w2c_i4;
   w2c_l8 = w2c_i3;
   w2c_j1 = w2c_i3 ? w2c_j1 : w2c_j2;
   i64_store(&instance->w2c_memory, (u64)(w2c_i0), w2c_j1);
-  w2c_i0 = w2c_l10;
+  w2c_i0 = w2c_l11;
   w2c_i1 = 11u;
   w2c_i0 += w2c_i1;
   w2c_i1 = 0u;
@@ -49693,12 +51855,96 @@ static u32 w2c_rattle__export_tcp_c_connection_send(Machine * instance, u64 w2c_
   w2c_i1 = 255u;
   w2c_i0 &= w2c_i1;
   w2c_l8 = w2c_i0;
-  w2c_B1:;
+  w2c_B0:;
   w2c_j0 = w2c_l5;
   w2c_j1 = 16ull;
   w2c_j0 += w2c_j1;
   instance->w2c___stack_pointer = w2c_j0;
   w2c_i0 = w2c_l8;
+  return w2c_i0;
+}
+
+static u32 w2c_tcp_c_connection_set_user_timeout(Machine * instance, u64 w2c_p0, u64 w2c_p1) {
+  u32 w2c_l2 = 0;
+  u32 w2c_i0;
+  u64 w2c_j0, w2c_j1;
+  w2c_i0 = w2c___rattle_enter(instance);
+  w2c_i0 = !(w2c_i0);
+  if (w2c_i0) {goto w2c_B0;}
+  w2c___rattle_trap(instance);
+  UNREACHABLE;
+  w2c_B0:;
+  w2c_j0 = w2c_p0;
+  w2c_j1 = w2c_p1;
+  w2c_i0 = w2c_rattle__export_tcp_c_connection_set_user_timeout(instance, w2c_j0, w2c_j1);
+  w2c_l2 = w2c_i0;
+  w2c___rattle_leave(instance);
+  w2c_i0 = w2c_l2;
+  return w2c_i0;
+}
+
+static u32 w2c_rattle__export_tcp_c_connection_set_user_timeout(Machine * instance, u64 w2c_p0, u64 w2c_p1) {
+  u32 w2c_l4 = 0;
+  u64 w2c_l2 = 0, w2c_l3 = 0;
+  u32 w2c_i0, w2c_i1, w2c_i3;
+  u64 w2c_j0, w2c_j1, w2c_j2, w2c_j3, w2c_j4;
+  w2c_j0 = instance->w2c___stack_pointer;
+  w2c_j1 = 16ull;
+  w2c_i0 = (u64)((s64)w2c_j0 < (s64)w2c_j1);
+  if (w2c_i0) {goto w2c_B0;}
+  w2c_j0 = w2c_p0;
+  w2c_i0 = (u32)(w2c_j0);
+  w2c_j0 = i64_load(&instance->w2c_memory, (u64)(w2c_i0));
+  w2c_l2 = w2c_j0;
+  w2c_j0 = w2c_p0;
+  w2c_i0 = (u32)(w2c_j0);
+  w2c_j1 = 0ull;
+  i64_store(&instance->w2c_memory, (u64)(w2c_i0), w2c_j1);
+  w2c_j0 = w2c_p0;
+  w2c_i0 = (u32)(w2c_j0);
+  w2c_j0 = i64_load(&instance->w2c_memory, (u64)(w2c_i0) + 8u);
+  w2c_l3 = w2c_j0;
+  w2c_j0 = w2c_p0;
+  w2c_i0 = (u32)(w2c_j0);
+  w2c_j1 = 0ull;
+  i64_store(&instance->w2c_memory, (u64)(w2c_i0) + 8, w2c_j1);
+  w2c_i0 = 31u;
+  w2c_l4 = w2c_i0;
+  w2c_j0 = w2c_l2;
+  w2c_j1 = 8521743234667672684ull;
+  w2c_i0 = w2c_j0 != w2c_j1;
+  if (w2c_i0) {goto w2c_B1;}
+  w2c_j0 = w2c_l3;
+  w2c_j1 = 456ull;
+  w2c_j0 += w2c_j1;
+  w2c_i0 = (u32)(w2c_j0);
+  w2c_j1 = w2c_p1;
+  w2c_j2 = 0ull;
+  w2c_j3 = w2c_p1;
+  w2c_j4 = 18446744073709551615ull;
+  w2c_i3 = w2c_j3 != w2c_j4;
+  w2c_l4 = w2c_i3;
+  w2c_j1 = w2c_i3 ? w2c_j1 : w2c_j2;
+  i64_store(&instance->w2c_memory, (u64)(w2c_i0), w2c_j1);
+  w2c_j0 = w2c_l3;
+  w2c_j1 = 448ull;
+  w2c_j0 += w2c_j1;
+  w2c_i0 = (u32)(w2c_j0);
+  w2c_i1 = w2c_l4;
+  w2c_j1 = (u64)(w2c_i1);
+  i64_store(&instance->w2c_memory, (u64)(w2c_i0), w2c_j1);
+  w2c_j0 = w2c_p0;
+  w2c_i0 = (u32)(w2c_j0);
+  w2c_j1 = w2c_l3;
+  i64_store(&instance->w2c_memory, (u64)(w2c_i0) + 8, w2c_j1);
+  w2c_j0 = w2c_p0;
+  w2c_i0 = (u32)(w2c_j0);
+  w2c_j1 = 8521743234667672684ull;
+  i64_store(&instance->w2c_memory, (u64)(w2c_i0), w2c_j1);
+  w2c_i0 = 0u;
+  w2c_l4 = w2c_i0;
+  w2c_B1:;
+  w2c_i0 = w2c_l4;
   goto w2c_Bfunc;
   w2c_B0:;
   UNREACHABLE;
@@ -56736,15 +58982,7 @@ static u32 w2c_rattle__export_tcp_c_peer(Machine * instance, u64 w2c_p0, u64 w2c
   w2c_j0 = instance->w2c___stack_pointer;
   w2c_j1 = 16ull;
   w2c_i0 = (u64)((s64)w2c_j0 < (s64)w2c_j1);
-  if (w2c_i0) {goto w2c_B2;}
-  w2c_j0 = w2c_p1;
-  w2c_i0 = (u32)(w2c_j0);
-  w2c_i1 = 0u;
-  i32_store(&instance->w2c_memory, (u64)(w2c_i0), w2c_i1);
-  w2c_j0 = w2c_p2;
-  w2c_i0 = (u32)(w2c_j0);
-  w2c_i1 = 0u;
-  i32_store16(&instance->w2c_memory, (u64)(w2c_i0), w2c_i1);
+  if (w2c_i0) {goto w2c_B1;}
   w2c_j0 = w2c_p0;
   w2c_i0 = (u32)(w2c_j0);
   w2c_j0 = i64_load(&instance->w2c_memory, (u64)(w2c_i0));
@@ -56761,19 +58999,50 @@ static u32 w2c_rattle__export_tcp_c_peer(Machine * instance, u64 w2c_p0, u64 w2c
   w2c_i0 = (u32)(w2c_j0);
   w2c_j1 = 0ull;
   i64_store(&instance->w2c_memory, (u64)(w2c_i0) + 8, w2c_j1);
-  w2c_i0 = 31u;
-  w2c_l5 = w2c_i0;
   w2c_j0 = w2c_l3;
   w2c_j1 = 8377628046591816812ull;
   w2c_i0 = w2c_j0 != w2c_j1;
-  if (w2c_i0) {goto w2c_B0;}
+  if (w2c_i0) {goto w2c_B2;}
   w2c_j0 = w2c_l4;
   w2c_j1 = 72ull;
   w2c_j0 += w2c_j1;
   w2c_i0 = (u32)(w2c_j0);
   w2c_j0 = i64_load(&instance->w2c_memory, (u64)(w2c_i0));
-  w2c_i0 = !(w2c_j0);
-  if (w2c_i0) {goto w2c_B1;}
+  w2c_j1 = 0ull;
+  w2c_i0 = w2c_j0 != w2c_j1;
+  if (w2c_i0) {goto w2c_B0;}
+  w2c_j0 = w2c_p0;
+  w2c_i0 = (u32)(w2c_j0);
+  w2c_j1 = w2c_l4;
+  i64_store(&instance->w2c_memory, (u64)(w2c_i0) + 8, w2c_j1);
+  w2c_j0 = w2c_p0;
+  w2c_i0 = (u32)(w2c_j0);
+  w2c_j1 = 8377628046591816812ull;
+  i64_store(&instance->w2c_memory, (u64)(w2c_i0), w2c_j1);
+  w2c_j0 = w2c_p1;
+  w2c_i0 = (u32)(w2c_j0);
+  w2c_i1 = 0u;
+  i32_store(&instance->w2c_memory, (u64)(w2c_i0), w2c_i1);
+  w2c_j0 = w2c_p2;
+  w2c_i0 = (u32)(w2c_j0);
+  w2c_i1 = 0u;
+  i32_store16(&instance->w2c_memory, (u64)(w2c_i0), w2c_i1);
+  w2c_i0 = 16u;
+  goto w2c_Bfunc;
+  w2c_B2:;
+  w2c_j0 = w2c_p1;
+  w2c_i0 = (u32)(w2c_j0);
+  w2c_i1 = 0u;
+  i32_store(&instance->w2c_memory, (u64)(w2c_i0), w2c_i1);
+  w2c_j0 = w2c_p2;
+  w2c_i0 = (u32)(w2c_j0);
+  w2c_i1 = 0u;
+  i32_store16(&instance->w2c_memory, (u64)(w2c_i0), w2c_i1);
+  w2c_i0 = 31u;
+  goto w2c_Bfunc;
+  w2c_B1:;
+  UNREACHABLE;
+  w2c_B0:;
   w2c_j0 = w2c_l4;
   w2c_j1 = 56ull;
   w2c_j0 += w2c_j1;
@@ -56803,22 +59072,6 @@ static u32 w2c_rattle__export_tcp_c_peer(Machine * instance, u64 w2c_p0, u64 w2c
   w2c_i1 = w2c_l5;
   i32_store16(&instance->w2c_memory, (u64)(w2c_i0), w2c_i1);
   w2c_i0 = 0u;
-  goto w2c_Bfunc;
-  w2c_B2:;
-  UNREACHABLE;
-  w2c_B1:;
-  w2c_j0 = w2c_p0;
-  w2c_i0 = (u32)(w2c_j0);
-  w2c_j1 = w2c_l4;
-  i64_store(&instance->w2c_memory, (u64)(w2c_i0) + 8, w2c_j1);
-  w2c_j0 = w2c_p0;
-  w2c_i0 = (u32)(w2c_j0);
-  w2c_j1 = 8377628046591816812ull;
-  i64_store(&instance->w2c_memory, (u64)(w2c_i0), w2c_j1);
-  w2c_i0 = 16u;
-  w2c_l5 = w2c_i0;
-  w2c_B0:;
-  w2c_i0 = w2c_l5;
   w2c_Bfunc:;
   return w2c_i0;
 }
@@ -61906,17 +64159,20 @@ static u32 w2c_tcp_c_connection_poll_at(Machine * instance, u64 w2c_p0, u64 w2c_
 }
 
 static u32 w2c_rattle__export_tcp_c_connection_poll_at(Machine * instance, u64 w2c_p0, u64 w2c_p1) {
-  u32 w2c_l9 = 0, w2c_l10 = 0, w2c_l11 = 0, w2c_l12 = 0, w2c_l13 = 0, w2c_l14 = 0;
-  u64 w2c_l2 = 0, w2c_l3 = 0, w2c_l4 = 0, w2c_l5 = 0, w2c_l6 = 0, w2c_l7 = 0, w2c_l8 = 0;
-  u32 w2c_i0, w2c_i1, w2c_i2, w2c_i3, w2c_i4, w2c_i5, w2c_i6, w2c_i7;
-  u64 w2c_j0, w2c_j1, w2c_j2, w2c_j3, w2c_j4, w2c_j5, w2c_j6, w2c_j7, 
-      w2c_j8;
+  u32 w2c_l5 = 0;
+  u64 w2c_l2 = 0, w2c_l3 = 0, w2c_l4 = 0;
+  u32 w2c_i0, w2c_i3, w2c_i4;
+  u64 w2c_j0, w2c_j1, w2c_j2;
   w2c_j0 = instance->w2c___stack_pointer;
+  w2c_j1 = 16ull;
+  w2c_j0 -= w2c_j1;
+  w2c_l2 = w2c_j0;
+  instance->w2c___stack_pointer = w2c_j0;
+  w2c_j0 = w2c_l2;
+  w2c_l2 = w2c_j0;
   w2c_j1 = 16ull;
   w2c_i0 = (u64)((s64)w2c_j0 < (s64)w2c_j1);
   if (w2c_i0) {goto w2c_B0;}
-  w2c_j0 = 0ull;
-  w2c_l2 = w2c_j0;
   w2c_j0 = w2c_p1;
   w2c_i0 = (u32)(w2c_j0);
   w2c_j1 = 0ull;
@@ -61938,139 +64194,24 @@ static u32 w2c_rattle__export_tcp_c_connection_poll_at(Machine * instance, u64 w
   w2c_j1 = 0ull;
   i64_store(&instance->w2c_memory, (u64)(w2c_i0) + 8, w2c_j1);
   w2c_i0 = 31u;
-  w2c_l9 = w2c_i0;
+  w2c_l5 = w2c_i0;
   w2c_j0 = w2c_l3;
   w2c_j1 = 8521743234667672684ull;
   w2c_i0 = w2c_j0 != w2c_j1;
   if (w2c_i0) {goto w2c_B1;}
-  w2c_i0 = 1u;
-  w2c_l10 = w2c_i0;
-  w2c_j0 = w2c_l4;
-  w2c_j1 = 424ull;
-  w2c_j0 += w2c_j1;
-  w2c_i0 = (u32)(w2c_j0);
-  w2c_i0 = i32_load(&instance->w2c_memory, (u64)(w2c_i0));
-  w2c_j1 = w2c_l4;
-  w2c_j2 = 656ull;
-  w2c_j1 += w2c_j2;
-  w2c_i1 = (u32)(w2c_j1);
-  w2c_i1 = i32_load(&instance->w2c_memory, (u64)(w2c_i1));
-  w2c_i0 = w2c_i0 > w2c_i1;
-  if (w2c_i0) {goto w2c_B2;}
-  w2c_j0 = 0ull;
+  w2c_j0 = w2c_l2;
   w2c_j1 = w2c_l4;
   w2c_j2 = 416ull;
   w2c_j1 += w2c_j2;
-  w2c_l2 = w2c_j1;
-  w2c_j2 = 24ull;
-  w2c_j3 = 40ull;
-  w2c_j4 = w2c_l4;
-  w2c_j5 = 632ull;
-  w2c_j4 += w2c_j5;
-  w2c_i4 = (u32)(w2c_j4);
-  w2c_j4 = i64_load(&instance->w2c_memory, (u64)(w2c_i4));
-  w2c_i4 = !(w2c_j4);
-  w2c_l9 = w2c_i4;
-  w2c_j2 = w2c_i4 ? w2c_j2 : w2c_j3;
-  w2c_j1 += w2c_j2;
-  w2c_i1 = (u32)(w2c_j1);
-  w2c_j1 = i64_load(&instance->w2c_memory, (u64)(w2c_i1));
-  w2c_l3 = w2c_j1;
-  w2c_j2 = 4611686018427387904ull;
-  w2c_j3 = w2c_l3;
-  w2c_j4 = 4611686018427387904ull;
-  w2c_i3 = w2c_j3 < w2c_j4;
-  w2c_j1 = w2c_i3 ? w2c_j1 : w2c_j2;
-  w2c_j2 = w2c_l4;
-  w2c_j3 = 648ull;
-  w2c_j2 += w2c_j3;
-  w2c_i2 = (u32)(w2c_j2);
-  w2c_j2 = i64_load(&instance->w2c_memory, (u64)(w2c_i2));
-  w2c_j1 += w2c_j2;
-  w2c_j2 = w2c_l4;
-  w2c_j3 = 640ull;
-  w2c_j2 += w2c_j3;
-  w2c_i2 = (u32)(w2c_j2);
-  w2c_i2 = i32_load8_u(&instance->w2c_memory, (u64)(w2c_i2));
-  w2c_i3 = 1u;
-  w2c_i2 = w2c_i2 != w2c_i3;
-  w2c_j3 = w2c_l2;
-  w2c_j4 = 16ull;
-  w2c_j5 = 32ull;
-  w2c_i6 = w2c_l9;
-  w2c_j4 = w2c_i6 ? w2c_j4 : w2c_j5;
-  w2c_j3 += w2c_j4;
-  w2c_i3 = (u32)(w2c_j3);
-  w2c_i3 = i32_load8_u(&instance->w2c_memory, (u64)(w2c_i3));
-  w2c_i4 = 1u;
-  w2c_i3 = w2c_i3 != w2c_i4;
-  w2c_i2 |= w2c_i3;
-  w2c_l10 = w2c_i2;
-  w2c_i3 = 1u;
-  w2c_i2 &= w2c_i3;
-  w2c_j0 = w2c_i2 ? w2c_j0 : w2c_j1;
-  w2c_l2 = w2c_j0;
-  w2c_B2:;
-  w2c_j0 = w2c_l4;
-  w2c_j1 = 584ull;
-  w2c_j0 += w2c_j1;
+  w2c_tcp_driver__timers__Timers__next_expiry(instance, w2c_j0, w2c_j1);
+  w2c_j0 = w2c_l2;
   w2c_i0 = (u32)(w2c_j0);
-  w2c_i0 = i32_load8_u(&instance->w2c_memory, (u64)(w2c_i0));
-  w2c_l9 = w2c_i0;
-  w2c_j0 = w2c_l4;
-  w2c_j1 = 592ull;
-  w2c_j0 += w2c_j1;
-  w2c_i0 = (u32)(w2c_j0);
-  w2c_j0 = i64_load(&instance->w2c_memory, (u64)(w2c_i0));
+  w2c_j0 = i64_load(&instance->w2c_memory, (u64)(w2c_i0) + 8u);
   w2c_l3 = w2c_j0;
-  w2c_j0 = w2c_l4;
-  w2c_j1 = 600ull;
-  w2c_j0 += w2c_j1;
+  w2c_j0 = w2c_l2;
   w2c_i0 = (u32)(w2c_j0);
   w2c_i0 = i32_load8_u(&instance->w2c_memory, (u64)(w2c_i0));
-  w2c_l11 = w2c_i0;
-  w2c_j0 = w2c_l4;
-  w2c_j1 = 616ull;
-  w2c_j0 += w2c_j1;
-  w2c_i0 = (u32)(w2c_j0);
-  w2c_i0 = i32_load8_u(&instance->w2c_memory, (u64)(w2c_i0));
-  w2c_l12 = w2c_i0;
-  w2c_j0 = w2c_l4;
-  w2c_j1 = 624ull;
-  w2c_j0 += w2c_j1;
-  w2c_i0 = (u32)(w2c_j0);
-  w2c_j0 = i64_load(&instance->w2c_memory, (u64)(w2c_i0));
-  w2c_l5 = w2c_j0;
-  w2c_j0 = w2c_l4;
-  w2c_j1 = 608ull;
-  w2c_j0 += w2c_j1;
-  w2c_i0 = (u32)(w2c_j0);
-  w2c_j0 = i64_load(&instance->w2c_memory, (u64)(w2c_i0));
-  w2c_l6 = w2c_j0;
-  w2c_j0 = w2c_l4;
-  w2c_j1 = 680ull;
-  w2c_j0 += w2c_j1;
-  w2c_i0 = (u32)(w2c_j0);
-  w2c_i0 = i32_load8_u(&instance->w2c_memory, (u64)(w2c_i0));
-  w2c_l13 = w2c_i0;
-  w2c_j0 = w2c_l4;
-  w2c_j1 = 464ull;
-  w2c_j0 += w2c_j1;
-  w2c_i0 = (u32)(w2c_j0);
-  w2c_i0 = i32_load8_u(&instance->w2c_memory, (u64)(w2c_i0));
-  w2c_l14 = w2c_i0;
-  w2c_j0 = w2c_l4;
-  w2c_j1 = 688ull;
-  w2c_j0 += w2c_j1;
-  w2c_i0 = (u32)(w2c_j0);
-  w2c_j0 = i64_load(&instance->w2c_memory, (u64)(w2c_i0));
-  w2c_l7 = w2c_j0;
-  w2c_j0 = w2c_l4;
-  w2c_j1 = 472ull;
-  w2c_j0 += w2c_j1;
-  w2c_i0 = (u32)(w2c_j0);
-  w2c_j0 = i64_load(&instance->w2c_memory, (u64)(w2c_i0));
-  w2c_l8 = w2c_j0;
+  w2c_l5 = w2c_i0;
   w2c_j0 = w2c_p0;
   w2c_i0 = (u32)(w2c_j0);
   w2c_j1 = w2c_l4;
@@ -62081,106 +64222,21 @@ static u32 w2c_rattle__export_tcp_c_connection_poll_at(Machine * instance, u64 w
   i64_store(&instance->w2c_memory, (u64)(w2c_i0), w2c_j1);
   w2c_j0 = w2c_p1;
   w2c_i0 = (u32)(w2c_j0);
-  w2c_j1 = w2c_l5;
-  w2c_j2 = w2c_l6;
-  w2c_j3 = w2c_l5;
-  w2c_j4 = w2c_l6;
-  w2c_i3 = w2c_j3 < w2c_j4;
-  w2c_j1 = w2c_i3 ? w2c_j1 : w2c_j2;
-  w2c_j2 = w2c_l6;
-  w2c_i3 = w2c_l12;
-  w2c_i4 = 1u;
-  w2c_i3 = w2c_i3 == w2c_i4;
-  w2c_l12 = w2c_i3;
-  w2c_j1 = w2c_i3 ? w2c_j1 : w2c_j2;
-  w2c_j2 = w2c_l5;
-  w2c_i3 = w2c_l11;
-  w2c_i4 = 255u;
-  w2c_i3 &= w2c_i4;
-  w2c_i4 = 1u;
-  w2c_i3 = w2c_i3 == w2c_i4;
-  w2c_l11 = w2c_i3;
-  w2c_j1 = w2c_i3 ? w2c_j1 : w2c_j2;
-  w2c_l4 = w2c_j1;
-  w2c_j2 = w2c_l3;
-  w2c_j3 = w2c_l4;
-  w2c_j4 = w2c_l3;
-  w2c_i3 = w2c_j3 < w2c_j4;
-  w2c_j1 = w2c_i3 ? w2c_j1 : w2c_j2;
-  w2c_j2 = w2c_l3;
-  w2c_i3 = w2c_l11;
-  w2c_i4 = w2c_l12;
-  w2c_i3 |= w2c_i4;
-  w2c_l11 = w2c_i3;
-  w2c_j1 = w2c_i3 ? w2c_j1 : w2c_j2;
-  w2c_j2 = w2c_l4;
-  w2c_i3 = w2c_l9;
-  w2c_i4 = 1u;
-  w2c_i3 = w2c_i3 == w2c_i4;
-  w2c_l9 = w2c_i3;
-  w2c_j1 = w2c_i3 ? w2c_j1 : w2c_j2;
-  w2c_l4 = w2c_j1;
+  w2c_j1 = w2c_l3;
   w2c_j2 = 18446744073709551615ull;
-  w2c_i3 = w2c_l9;
-  w2c_i4 = w2c_l11;
-  w2c_i3 |= w2c_i4;
-  w2c_l11 = w2c_i3;
-  w2c_j1 = w2c_i3 ? w2c_j1 : w2c_j2;
-  w2c_j2 = w2c_l4;
-  w2c_j3 = 0ull;
-  w2c_j4 = w2c_l7;
-  w2c_j5 = w2c_l8;
-  w2c_j6 = 4611686018427387904ull;
-  w2c_j7 = w2c_l8;
-  w2c_j8 = 4611686018427387904ull;
-  w2c_i7 = w2c_j7 < w2c_j8;
-  w2c_j5 = w2c_i7 ? w2c_j5 : w2c_j6;
-  w2c_j4 += w2c_j5;
-  w2c_i5 = w2c_l13;
-  w2c_i6 = 1u;
-  w2c_i5 = w2c_i5 != w2c_i6;
-  w2c_i6 = w2c_l14;
-  w2c_i7 = 1u;
-  w2c_i6 = w2c_i6 != w2c_i7;
-  w2c_i5 |= w2c_i6;
-  w2c_i6 = 1u;
-  w2c_i5 &= w2c_i6;
-  w2c_l9 = w2c_i5;
-  w2c_j3 = w2c_i5 ? w2c_j3 : w2c_j4;
-  w2c_p0 = w2c_j3;
-  w2c_j4 = w2c_l2;
-  w2c_j5 = w2c_p0;
-  w2c_j6 = w2c_l2;
-  w2c_j7 = w2c_p0;
-  w2c_j8 = w2c_l2;
-  w2c_i7 = w2c_j7 < w2c_j8;
-  w2c_j5 = w2c_i7 ? w2c_j5 : w2c_j6;
-  w2c_i6 = w2c_l9;
-  w2c_j4 = w2c_i6 ? w2c_j4 : w2c_j5;
-  w2c_i5 = w2c_l10;
-  w2c_i6 = 1u;
-  w2c_i5 &= w2c_i6;
-  w2c_l10 = w2c_i5;
-  w2c_j3 = w2c_i5 ? w2c_j3 : w2c_j4;
-  w2c_p0 = w2c_j3;
-  w2c_j4 = w2c_l4;
-  w2c_j5 = w2c_p0;
-  w2c_i4 = w2c_j4 < w2c_j5;
-  w2c_j2 = w2c_i4 ? w2c_j2 : w2c_j3;
-  w2c_j3 = w2c_p0;
-  w2c_i4 = w2c_l11;
-  w2c_j2 = w2c_i4 ? w2c_j2 : w2c_j3;
-  w2c_l4 = w2c_j2;
-  w2c_i3 = w2c_l9;
-  w2c_j1 = w2c_i3 ? w2c_j1 : w2c_j2;
-  w2c_j2 = w2c_l4;
-  w2c_i3 = w2c_l10;
+  w2c_i3 = w2c_l5;
+  w2c_i4 = 1u;
+  w2c_i3 = w2c_i3 == w2c_i4;
   w2c_j1 = w2c_i3 ? w2c_j1 : w2c_j2;
   i64_store(&instance->w2c_memory, (u64)(w2c_i0), w2c_j1);
   w2c_i0 = 0u;
-  w2c_l9 = w2c_i0;
+  w2c_l5 = w2c_i0;
   w2c_B1:;
-  w2c_i0 = w2c_l9;
+  w2c_j0 = w2c_l2;
+  w2c_j1 = 16ull;
+  w2c_j0 += w2c_j1;
+  instance->w2c___stack_pointer = w2c_j0;
+  w2c_i0 = w2c_l5;
   goto w2c_Bfunc;
   w2c_B0:;
   UNREACHABLE;
@@ -62398,13 +64454,14 @@ static u32 w2c_tcp_c_connection_timeout(Machine * instance, u64 w2c_p0, u64 w2c_
 }
 
 static u32 w2c_rattle__export_tcp_c_connection_timeout(Machine * instance, u64 w2c_p0, u64 w2c_p1, u64 w2c_p2) {
-  u32 w2c_l12 = 0, w2c_l13 = 0, w2c_l14 = 0, w2c_l15 = 0, w2c_l16 = 0, w2c_l17 = 0;
+  u32 w2c_l12 = 0, w2c_l13 = 0, w2c_l14 = 0, w2c_l15 = 0, w2c_l16 = 0, w2c_l17 = 0, w2c_l18 = 0, w2c_l19 = 0, 
+      w2c_l20 = 0;
   u64 w2c_l3 = 0, w2c_l4 = 0, w2c_l5 = 0, w2c_l6 = 0, w2c_l7 = 0, w2c_l8 = 0, w2c_l9 = 0, w2c_l10 = 0, 
       w2c_l11 = 0;
-  u32 w2c_i0, w2c_i1, w2c_i2, w2c_i3, w2c_i4, w2c_i6;
+  u32 w2c_i0, w2c_i1, w2c_i2, w2c_i3, w2c_i4, w2c_i5, w2c_i6;
   u64 w2c_j0, w2c_j1, w2c_j2, w2c_j3, w2c_j4, w2c_j5;
   w2c_j0 = instance->w2c___stack_pointer;
-  w2c_j1 = 16ull;
+  w2c_j1 = 32ull;
   w2c_j0 -= w2c_j1;
   w2c_l3 = w2c_j0;
   instance->w2c___stack_pointer = w2c_j0;
@@ -62412,9 +64469,7 @@ static u32 w2c_rattle__export_tcp_c_connection_timeout(Machine * instance, u64 w
   w2c_l4 = w2c_j0;
   w2c_j1 = 16ull;
   w2c_i0 = (u64)((s64)w2c_j0 < (s64)w2c_j1);
-  if (w2c_i0) {goto w2c_B2;}
-  w2c_i0 = 0u;
-  w2c_l12 = w2c_i0;
+  if (w2c_i0) {goto w2c_B3;}
   w2c_j0 = w2c_p2;
   w2c_i0 = (u32)(w2c_j0);
   w2c_i1 = 0u;
@@ -62438,15 +64493,11 @@ static u32 w2c_rattle__export_tcp_c_connection_timeout(Machine * instance, u64 w
   w2c_j0 = w2c_l5;
   w2c_j1 = 8521743234667672684ull;
   w2c_i0 = w2c_j0 == w2c_j1;
-  if (w2c_i0) {goto w2c_B3;}
+  if (w2c_i0) {goto w2c_B4;}
   w2c_i0 = 31u;
   w2c_l12 = w2c_i0;
   goto w2c_B0;
-  w2c_B3:;
-  w2c_j0 = w2c_l4;
-  w2c_i0 = (u32)(w2c_j0);
-  w2c_i1 = 0u;
-  i32_store(&instance->w2c_memory, (u64)(w2c_i0) + 12, w2c_i1);
+  w2c_B4:;
   w2c_j0 = w2c_p1;
   w2c_j1 = 4611686018427387904ull;
   w2c_j2 = w2c_p1;
@@ -62466,20 +64517,42 @@ static u32 w2c_rattle__export_tcp_c_connection_timeout(Machine * instance, u64 w
   w2c_i2 = w2c_j2 > w2c_j3;
   w2c_j0 = w2c_i2 ? w2c_j0 : w2c_j1;
   w2c_p1 = w2c_j0;
+  w2c_i0 = 0u;
+  w2c_l13 = w2c_i0;
+  w2c_i0 = 0u;
+  w2c_l12 = w2c_i0;
   w2c_j0 = w2c_l3;
   w2c_j1 = 696ull;
   w2c_j0 += w2c_j1;
   w2c_i0 = (u32)(w2c_j0);
   w2c_i0 = i32_load8_u(&instance->w2c_memory, (u64)(w2c_i0));
   if (w2c_i0) {goto w2c_B5;}
-  w2c_j0 = w2c_l3;
-  w2c_j1 = 416ull;
+  w2c_j0 = w2c_l4;
+  w2c_j1 = 8ull;
   w2c_j0 += w2c_j1;
-  w2c_l7 = w2c_j0;
+  w2c_j1 = w2c_l3;
+  w2c_j2 = 416ull;
+  w2c_j1 += w2c_j2;
+  w2c_l5 = w2c_j1;
+  w2c_tcp_driver__timers__Timers__next_expiry(instance, w2c_j0, w2c_j1);
+  w2c_i0 = 0u;
+  w2c_l12 = w2c_i0;
+  w2c_j0 = w2c_l4;
+  w2c_i0 = (u32)(w2c_j0);
+  w2c_i0 = i32_load8_u(&instance->w2c_memory, (u64)(w2c_i0) + 8u);
+  w2c_i1 = 1u;
+  w2c_i0 = w2c_i0 != w2c_i1;
+  if (w2c_i0) {goto w2c_B5;}
+  w2c_j0 = w2c_l4;
+  w2c_i0 = (u32)(w2c_j0);
+  w2c_j0 = i64_load(&instance->w2c_memory, (u64)(w2c_i0) + 16u);
+  w2c_j1 = w2c_p1;
+  w2c_i0 = w2c_j0 > w2c_j1;
+  if (w2c_i0) {goto w2c_B5;}
   w2c_i0 = 1u;
   w2c_l12 = w2c_i0;
   w2c_j0 = 0ull;
-  w2c_l5 = w2c_j0;
+  w2c_l7 = w2c_j0;
   w2c_j0 = w2c_l3;
   w2c_j1 = 424ull;
   w2c_j0 += w2c_j1;
@@ -62490,11 +64563,11 @@ static u32 w2c_rattle__export_tcp_c_connection_timeout(Machine * instance, u64 w
   w2c_j1 += w2c_j2;
   w2c_i1 = (u32)(w2c_j1);
   w2c_i1 = i32_load(&instance->w2c_memory, (u64)(w2c_i1));
-  w2c_l13 = w2c_i1;
+  w2c_l14 = w2c_i1;
   w2c_i0 = w2c_i0 > w2c_i1;
   if (w2c_i0) {goto w2c_B6;}
   w2c_j0 = 0ull;
-  w2c_j1 = w2c_l7;
+  w2c_j1 = w2c_l5;
   w2c_j2 = 24ull;
   w2c_j3 = 40ull;
   w2c_j4 = w2c_l3;
@@ -62508,9 +64581,9 @@ static u32 w2c_rattle__export_tcp_c_connection_timeout(Machine * instance, u64 w
   w2c_j1 += w2c_j2;
   w2c_i1 = (u32)(w2c_j1);
   w2c_j1 = i64_load(&instance->w2c_memory, (u64)(w2c_i1));
-  w2c_l5 = w2c_j1;
+  w2c_l7 = w2c_j1;
   w2c_j2 = 4611686018427387904ull;
-  w2c_j3 = w2c_l5;
+  w2c_j3 = w2c_l7;
   w2c_j4 = 4611686018427387904ull;
   w2c_i3 = w2c_j3 < w2c_j4;
   w2c_j1 = w2c_i3 ? w2c_j1 : w2c_j2;
@@ -62527,7 +64600,7 @@ static u32 w2c_rattle__export_tcp_c_connection_timeout(Machine * instance, u64 w
   w2c_i2 = i32_load8_u(&instance->w2c_memory, (u64)(w2c_i2));
   w2c_i3 = 1u;
   w2c_i2 = w2c_i2 != w2c_i3;
-  w2c_j3 = w2c_l7;
+  w2c_j3 = w2c_l5;
   w2c_j4 = 16ull;
   w2c_j5 = 32ull;
   w2c_i6 = w2c_l12;
@@ -62542,7 +64615,7 @@ static u32 w2c_rattle__export_tcp_c_connection_timeout(Machine * instance, u64 w
   w2c_i3 = 1u;
   w2c_i2 &= w2c_i3;
   w2c_j0 = w2c_i2 ? w2c_j0 : w2c_j1;
-  w2c_l5 = w2c_j0;
+  w2c_l7 = w2c_j0;
   w2c_B6:;
   w2c_i0 = w2c_l12;
   w2c_i1 = 4294967295u;
@@ -62553,6 +64626,7 @@ static u32 w2c_rattle__export_tcp_c_connection_timeout(Machine * instance, u64 w
   w2c_l8 = w2c_j1;
   w2c_i1 = (u32)(w2c_j1);
   w2c_i1 = i32_load8_u(&instance->w2c_memory, (u64)(w2c_i1));
+  w2c_l15 = w2c_i1;
   w2c_i2 = 1u;
   w2c_i1 = w2c_i1 == w2c_i2;
   w2c_j2 = w2c_l3;
@@ -62563,7 +64637,7 @@ static u32 w2c_rattle__export_tcp_c_connection_timeout(Machine * instance, u64 w
   w2c_i3 = 1u;
   w2c_i2 = w2c_i2 == w2c_i3;
   w2c_i1 &= w2c_i2;
-  w2c_l14 = w2c_i1;
+  w2c_l16 = w2c_i1;
   w2c_i0 |= w2c_i1;
   w2c_i1 = 1u;
   w2c_i0 &= w2c_i1;
@@ -62587,20 +64661,20 @@ static u32 w2c_rattle__export_tcp_c_connection_timeout(Machine * instance, u64 w
   w2c_j1 = i64_load(&instance->w2c_memory, (u64)(w2c_i1));
   w2c_j0 += w2c_j1;
   w2c_j1 = 0ull;
-  w2c_i2 = w2c_l14;
+  w2c_i2 = w2c_l16;
   w2c_i3 = 1u;
   w2c_i2 &= w2c_i3;
-  w2c_l14 = w2c_i2;
+  w2c_l16 = w2c_i2;
   w2c_j0 = w2c_i2 ? w2c_j0 : w2c_j1;
   w2c_l9 = w2c_j0;
   w2c_j1 = w2c_l9;
-  w2c_j2 = w2c_l5;
+  w2c_j2 = w2c_l7;
   w2c_j3 = w2c_l9;
-  w2c_j4 = w2c_l5;
+  w2c_j4 = w2c_l7;
   w2c_i3 = w2c_j3 < w2c_j4;
   w2c_j1 = w2c_i3 ? w2c_j1 : w2c_j2;
-  w2c_j2 = w2c_l5;
-  w2c_i3 = w2c_l14;
+  w2c_j2 = w2c_l7;
+  w2c_i3 = w2c_l16;
   w2c_j1 = w2c_i3 ? w2c_j1 : w2c_j2;
   w2c_i2 = w2c_l12;
   w2c_i3 = 1u;
@@ -62615,7 +64689,7 @@ static u32 w2c_rattle__export_tcp_c_connection_timeout(Machine * instance, u64 w
   w2c_j0 += w2c_j1;
   w2c_i0 = (u32)(w2c_j0);
   w2c_j0 = i64_load(&instance->w2c_memory, (u64)(w2c_i0));
-  w2c_l5 = w2c_j0;
+  w2c_l7 = w2c_j0;
   w2c_j0 = w2c_l3;
   w2c_j1 = 584ull;
   w2c_j0 += w2c_j1;
@@ -62624,7 +64698,7 @@ static u32 w2c_rattle__export_tcp_c_connection_timeout(Machine * instance, u64 w
   w2c_i1 = 1u;
   w2c_i0 = w2c_i0 != w2c_i1;
   if (w2c_i0) {goto w2c_B12;}
-  w2c_j0 = w2c_l5;
+  w2c_j0 = w2c_l7;
   w2c_j1 = w2c_p1;
   w2c_i0 = w2c_j0 <= w2c_j1;
   if (w2c_i0) {goto w2c_B11;}
@@ -62634,7 +64708,7 @@ static u32 w2c_rattle__export_tcp_c_connection_timeout(Machine * instance, u64 w
   w2c_j0 += w2c_j1;
   w2c_i0 = (u32)(w2c_j0);
   w2c_j0 = i64_load(&instance->w2c_memory, (u64)(w2c_i0));
-  w2c_l9 = w2c_j0;
+  w2c_l8 = w2c_j0;
   w2c_j0 = w2c_l3;
   w2c_j1 = 600ull;
   w2c_j0 += w2c_j1;
@@ -62643,7 +64717,7 @@ static u32 w2c_rattle__export_tcp_c_connection_timeout(Machine * instance, u64 w
   w2c_i1 = 1u;
   w2c_i0 = w2c_i0 != w2c_i1;
   if (w2c_i0) {goto w2c_B13;}
-  w2c_j0 = w2c_l9;
+  w2c_j0 = w2c_l8;
   w2c_j1 = w2c_p1;
   w2c_i0 = w2c_j0 <= w2c_j1;
   if (w2c_i0) {goto w2c_B10;}
@@ -62672,12 +64746,12 @@ static u32 w2c_rattle__export_tcp_c_connection_timeout(Machine * instance, u64 w
   w2c_l6 = w2c_j0;
   w2c_i0 = (u32)(w2c_j0);
   w2c_i0 = i32_load8_u(&instance->w2c_memory, (u64)(w2c_i0));
-  w2c_l14 = w2c_i0;
+  w2c_l16 = w2c_i0;
   w2c_i1 = 10u;
   w2c_i0 = w2c_i0 != w2c_i1;
   if (w2c_i0) {goto w2c_B14;}
   w2c_i0 = 0u;
-  w2c_l14 = w2c_i0;
+  w2c_l16 = w2c_i0;
   w2c_j0 = w2c_l3;
   w2c_j1 = 386ull;
   w2c_j0 += w2c_j1;
@@ -62718,19 +64792,19 @@ static u32 w2c_rattle__export_tcp_c_connection_timeout(Machine * instance, u64 w
   w2c_j0 += w2c_j1;
   w2c_i0 = (u32)(w2c_j0);
   w2c_j0 = i64_load(&instance->w2c_memory, (u64)(w2c_i0));
-  w2c_l6 = w2c_j0;
+  w2c_l10 = w2c_j0;
   w2c_j0 = w2c_l3;
   w2c_j1 = 584ull;
   w2c_j0 += w2c_j1;
   w2c_i0 = (u32)(w2c_j0);
   w2c_j0 = i64_load(&instance->w2c_memory, (u64)(w2c_i0));
-  w2c_l8 = w2c_j0;
+  w2c_l9 = w2c_j0;
   w2c_j0 = 0ull;
-  w2c_l10 = w2c_j0;
+  w2c_l11 = w2c_j0;
   w2c_i0 = 2u;
   w2c_l13 = w2c_i0;
   w2c_j0 = 0ull;
-  w2c_l11 = w2c_j0;
+  w2c_l6 = w2c_j0;
   goto w2c_B7;
   w2c_B11:;
   w2c_i0 = 0u;
@@ -62741,7 +64815,7 @@ static u32 w2c_rattle__export_tcp_c_connection_timeout(Machine * instance, u64 w
   w2c_j1 += w2c_j2;
   w2c_i1 = (u32)(w2c_j1);
   w2c_i1 = i32_load8_u(&instance->w2c_memory, (u64)(w2c_i1));
-  w2c_l14 = w2c_i1;
+  w2c_l16 = w2c_i1;
   w2c_i0 <<= (w2c_i1 & 31);
   w2c_i1 = 1103u;
   w2c_i0 &= w2c_i1;
@@ -62760,9 +64834,9 @@ static u32 w2c_rattle__export_tcp_c_connection_timeout(Machine * instance, u64 w
   w2c_l12 = w2c_i0;
   w2c_B15:;
   w2c_i0 = 0u;
-  w2c_l15 = w2c_i0;
+  w2c_l13 = w2c_i0;
   w2c_i0 = 1u;
-  w2c_i1 = w2c_l14;
+  w2c_i1 = w2c_l16;
   w2c_i0 <<= (w2c_i1 & 31);
   w2c_i1 = 1103u;
   w2c_i0 &= w2c_i1;
@@ -62772,7 +64846,7 @@ static u32 w2c_rattle__export_tcp_c_connection_timeout(Machine * instance, u64 w
   w2c_j0 += w2c_j1;
   w2c_i0 = (u32)(w2c_j0);
   w2c_j0 = i64_load(&instance->w2c_memory, (u64)(w2c_i0));
-  w2c_l5 = w2c_j0;
+  w2c_l6 = w2c_j0;
   w2c_j1 = w2c_l3;
   w2c_j2 = 72ull;
   w2c_j1 += w2c_j2;
@@ -62793,11 +64867,11 @@ static u32 w2c_rattle__export_tcp_c_connection_timeout(Machine * instance, u64 w
   w2c_j2 = i64_load(&instance->w2c_memory, (u64)(w2c_i2));
   w2c_j3 = 18446744073709551615ull;
   w2c_j2 ^= w2c_j3;
-  w2c_j3 = w2c_l5;
-  w2c_j2 += w2c_j3;
-  w2c_l6 = w2c_j2;
   w2c_j3 = w2c_l6;
-  w2c_j4 = w2c_l5;
+  w2c_j2 += w2c_j3;
+  w2c_l7 = w2c_j2;
+  w2c_j3 = w2c_l7;
+  w2c_j4 = w2c_l6;
   w2c_i3 = w2c_j3 > w2c_j4;
   w2c_j1 = w2c_i3 ? w2c_j1 : w2c_j2;
   w2c_i0 = w2c_j0 <= w2c_j1;
@@ -62808,7 +64882,7 @@ static u32 w2c_rattle__export_tcp_c_connection_timeout(Machine * instance, u64 w
   w2c_i0 = (u32)(w2c_j0);
   w2c_i0 = i32_load(&instance->w2c_memory, (u64)(w2c_i0));
   w2c_i0 = !(w2c_i0);
-  w2c_l15 = w2c_i0;
+  w2c_l13 = w2c_i0;
   w2c_B16:;
   w2c_i0 = w2c_l12;
   w2c_i0 = !(w2c_i0);
@@ -62816,12 +64890,12 @@ static u32 w2c_rattle__export_tcp_c_connection_timeout(Machine * instance, u64 w
   w2c_j0 = w2c_l3;
   w2c_j1 = 160ull;
   w2c_j0 += w2c_j1;
-  w2c_l5 = w2c_j0;
+  w2c_l6 = w2c_j0;
   w2c_i0 = (u32)(w2c_j0);
   w2c_j0 = i64_load(&instance->w2c_memory, (u64)(w2c_i0));
   w2c_i0 = !(w2c_j0);
   if (w2c_i0) {goto w2c_B18;}
-  w2c_j0 = w2c_l5;
+  w2c_j0 = w2c_l6;
   w2c_i0 = (u32)(w2c_j0);
   w2c_j1 = 0ull;
   i64_store(&instance->w2c_memory, (u64)(w2c_i0), w2c_j1);
@@ -62859,25 +64933,25 @@ static u32 w2c_rattle__export_tcp_c_connection_timeout(Machine * instance, u64 w
   w2c_j1 = 656ull;
   w2c_j0 += w2c_j1;
   w2c_i0 = (u32)(w2c_j0);
-  w2c_i1 = w2c_l13;
+  w2c_i1 = w2c_l14;
   w2c_i2 = 1u;
   w2c_i1 += w2c_i2;
-  w2c_l13 = w2c_i1;
+  w2c_l17 = w2c_i1;
   w2c_i2 = 4294967295u;
-  w2c_i3 = w2c_l13;
+  w2c_i3 = w2c_l17;
   w2c_i1 = w2c_i3 ? w2c_i1 : w2c_i2;
   i32_store(&instance->w2c_memory, (u64)(w2c_i0), w2c_i1);
   w2c_j0 = w2c_l3;
   w2c_j1 = 384ull;
   w2c_j0 += w2c_j1;
-  w2c_l5 = w2c_j0;
+  w2c_l6 = w2c_j0;
   w2c_i0 = (u32)(w2c_j0);
-  w2c_i1 = w2c_l14;
+  w2c_i1 = w2c_l16;
   w2c_i2 = 254u;
   w2c_i1 &= w2c_i2;
   w2c_i2 = 2u;
   w2c_i1 = w2c_i1 == w2c_i2;
-  w2c_j2 = w2c_l5;
+  w2c_j2 = w2c_l6;
   w2c_i2 = (u32)(w2c_j2);
   w2c_i2 = i32_load8_u(&instance->w2c_memory, (u64)(w2c_i2));
   w2c_i1 |= w2c_i2;
@@ -62885,10 +64959,10 @@ static u32 w2c_rattle__export_tcp_c_connection_timeout(Machine * instance, u64 w
   w2c_j0 = w2c_l3;
   w2c_j1 = 386ull;
   w2c_j0 += w2c_j1;
-  w2c_l5 = w2c_j0;
+  w2c_l6 = w2c_j0;
   w2c_i0 = (u32)(w2c_j0);
-  w2c_i1 = w2c_l15;
-  w2c_j2 = w2c_l5;
+  w2c_i1 = w2c_l13;
+  w2c_j2 = w2c_l6;
   w2c_i2 = (u32)(w2c_j2);
   w2c_i2 = i32_load8_u(&instance->w2c_memory, (u64)(w2c_i2));
   w2c_i1 |= w2c_i2;
@@ -62896,22 +64970,22 @@ static u32 w2c_rattle__export_tcp_c_connection_timeout(Machine * instance, u64 w
   w2c_j0 = w2c_l3;
   w2c_j1 = 544ull;
   w2c_j0 += w2c_j1;
-  w2c_l5 = w2c_j0;
+  w2c_l6 = w2c_j0;
   w2c_i0 = (u32)(w2c_j0);
-  w2c_j1 = w2c_l5;
+  w2c_j1 = w2c_l6;
   w2c_i1 = (u32)(w2c_j1);
   w2c_j1 = i64_load(&instance->w2c_memory, (u64)(w2c_i1));
   w2c_j2 = 1ull;
   w2c_j1 <<= (w2c_j2 & 63);
-  w2c_l5 = w2c_j1;
+  w2c_l6 = w2c_j1;
   w2c_j2 = w2c_l3;
   w2c_j3 = 496ull;
   w2c_j2 += w2c_j3;
   w2c_i2 = (u32)(w2c_j2);
   w2c_j2 = i64_load(&instance->w2c_memory, (u64)(w2c_i2));
-  w2c_l6 = w2c_j2;
-  w2c_j3 = w2c_l5;
-  w2c_j4 = w2c_l6;
+  w2c_l7 = w2c_j2;
+  w2c_j3 = w2c_l6;
+  w2c_j4 = w2c_l7;
   w2c_i3 = w2c_j3 < w2c_j4;
   w2c_j1 = w2c_i3 ? w2c_j1 : w2c_j2;
   i64_store(&instance->w2c_memory, (u64)(w2c_i0), w2c_j1);
@@ -62920,31 +64994,33 @@ static u32 w2c_rattle__export_tcp_c_connection_timeout(Machine * instance, u64 w
   w2c_j0 += w2c_j1;
   w2c_i0 = (u32)(w2c_j0);
   w2c_j0 = i64_load(&instance->w2c_memory, (u64)(w2c_i0));
-  w2c_l11 = w2c_j0;
+  w2c_l6 = w2c_j0;
   w2c_j0 = w2c_l3;
   w2c_j1 = 616ull;
   w2c_j0 += w2c_j1;
   w2c_i0 = (u32)(w2c_j0);
   w2c_j0 = i64_load(&instance->w2c_memory, (u64)(w2c_i0));
-  w2c_l10 = w2c_j0;
+  w2c_l11 = w2c_j0;
   w2c_j0 = w2c_l3;
   w2c_j1 = 608ull;
   w2c_j0 += w2c_j1;
   w2c_i0 = (u32)(w2c_j0);
   w2c_j0 = i64_load(&instance->w2c_memory, (u64)(w2c_i0));
-  w2c_l9 = w2c_j0;
+  w2c_l8 = w2c_j0;
   w2c_j0 = w2c_l3;
   w2c_j1 = 600ull;
   w2c_j0 += w2c_j1;
   w2c_i0 = (u32)(w2c_j0);
   w2c_j0 = i64_load(&instance->w2c_memory, (u64)(w2c_i0));
-  w2c_l6 = w2c_j0;
+  w2c_l10 = w2c_j0;
   w2c_i0 = 0u;
   w2c_l13 = w2c_i0;
   w2c_j0 = 0ull;
-  w2c_l8 = w2c_j0;
+  w2c_l9 = w2c_j0;
+  w2c_i0 = 1u;
+  w2c_l14 = w2c_i0;
   w2c_j0 = 0ull;
-  w2c_l5 = w2c_j0;
+  w2c_l7 = w2c_j0;
   goto w2c_B7;
   w2c_B10:;
   w2c_i0 = 1u;
@@ -62953,7 +65029,7 @@ static u32 w2c_rattle__export_tcp_c_connection_timeout(Machine * instance, u64 w
   w2c_j1 += w2c_j2;
   w2c_i1 = (u32)(w2c_j1);
   w2c_i1 = i32_load8_u(&instance->w2c_memory, (u64)(w2c_i1));
-  w2c_l14 = w2c_i1;
+  w2c_l16 = w2c_i1;
   w2c_i0 <<= (w2c_i1 & 31);
   w2c_i1 = 1103u;
   w2c_i0 &= w2c_i1;
@@ -63044,27 +65120,27 @@ static u32 w2c_rattle__export_tcp_c_connection_timeout(Machine * instance, u64 w
   w2c_j0 += w2c_j1;
   w2c_i0 = (u32)(w2c_j0);
   w2c_j0 = i64_load(&instance->w2c_memory, (u64)(w2c_i0));
-  w2c_l11 = w2c_j0;
+  w2c_l6 = w2c_j0;
   w2c_j0 = w2c_l3;
   w2c_j1 = 616ull;
   w2c_j0 += w2c_j1;
   w2c_i0 = (u32)(w2c_j0);
   w2c_j0 = i64_load(&instance->w2c_memory, (u64)(w2c_i0));
-  w2c_l10 = w2c_j0;
+  w2c_l11 = w2c_j0;
   w2c_j0 = w2c_l3;
   w2c_j1 = 584ull;
   w2c_j0 += w2c_j1;
   w2c_i0 = (u32)(w2c_j0);
   w2c_j0 = i64_load(&instance->w2c_memory, (u64)(w2c_i0));
-  w2c_l8 = w2c_j0;
+  w2c_l9 = w2c_j0;
   w2c_i0 = 1u;
   w2c_l13 = w2c_i0;
   w2c_j0 = 0ull;
-  w2c_l6 = w2c_j0;
+  w2c_l10 = w2c_j0;
   w2c_i0 = 1u;
   w2c_l12 = w2c_i0;
   w2c_j0 = 0ull;
-  w2c_l9 = w2c_j0;
+  w2c_l8 = w2c_j0;
   goto w2c_B7;
   w2c_B8:;
   w2c_j0 = w2c_l3;
@@ -63180,12 +65256,12 @@ static u32 w2c_rattle__export_tcp_c_connection_timeout(Machine * instance, u64 w
   w2c_j0 = w2c_l3;
   w2c_j1 = 344ull;
   w2c_j0 += w2c_j1;
-  w2c_l5 = w2c_j0;
+  w2c_l6 = w2c_j0;
   w2c_i0 = (u32)(w2c_j0);
   w2c_j0 = i64_load(&instance->w2c_memory, (u64)(w2c_i0));
   w2c_i0 = !(w2c_j0);
   if (w2c_i0) {goto w2c_B22;}
-  w2c_j0 = w2c_l5;
+  w2c_j0 = w2c_l6;
   w2c_i0 = (u32)(w2c_j0);
   w2c_j1 = 0ull;
   i64_store(&instance->w2c_memory, (u64)(w2c_i0), w2c_j1);
@@ -63211,6 +65287,8 @@ static u32 w2c_rattle__export_tcp_c_connection_timeout(Machine * instance, u64 w
   w2c_i0 = (u32)(w2c_j0);
   w2c_j1 = 0ull;
   i64_store(&instance->w2c_memory, (u64)(w2c_i0) + 8, w2c_j1);
+  w2c_i0 = 0u;
+  w2c_l15 = w2c_i0;
   w2c_j0 = w2c_l3;
   w2c_j1 = 656ull;
   w2c_j0 += w2c_j1;
@@ -63234,50 +65312,52 @@ static u32 w2c_rattle__export_tcp_c_connection_timeout(Machine * instance, u64 w
   w2c_j0 += w2c_j1;
   w2c_i0 = (u32)(w2c_j0);
   w2c_i0 = i32_load8_u(&instance->w2c_memory, (u64)(w2c_i0));
-  w2c_l14 = w2c_i0;
+  w2c_l16 = w2c_i0;
   w2c_j0 = w2c_l3;
   w2c_j1 = 624ull;
   w2c_j0 += w2c_j1;
   w2c_i0 = (u32)(w2c_j0);
   w2c_j0 = i64_load(&instance->w2c_memory, (u64)(w2c_i0));
-  w2c_l11 = w2c_j0;
+  w2c_l6 = w2c_j0;
   w2c_j0 = w2c_l3;
   w2c_j1 = 616ull;
   w2c_j0 += w2c_j1;
   w2c_i0 = (u32)(w2c_j0);
   w2c_j0 = i64_load(&instance->w2c_memory, (u64)(w2c_i0));
-  w2c_l10 = w2c_j0;
+  w2c_l11 = w2c_j0;
   w2c_j0 = w2c_l3;
   w2c_j1 = 608ull;
   w2c_j0 += w2c_j1;
   w2c_i0 = (u32)(w2c_j0);
   w2c_j0 = i64_load(&instance->w2c_memory, (u64)(w2c_i0));
-  w2c_l9 = w2c_j0;
+  w2c_l8 = w2c_j0;
   w2c_j0 = w2c_l3;
   w2c_j1 = 600ull;
   w2c_j0 += w2c_j1;
   w2c_i0 = (u32)(w2c_j0);
   w2c_j0 = i64_load(&instance->w2c_memory, (u64)(w2c_i0));
-  w2c_l6 = w2c_j0;
+  w2c_l10 = w2c_j0;
   w2c_j0 = w2c_l3;
   w2c_j1 = 592ull;
   w2c_j0 += w2c_j1;
   w2c_i0 = (u32)(w2c_j0);
   w2c_j0 = i64_load(&instance->w2c_memory, (u64)(w2c_i0));
-  w2c_l5 = w2c_j0;
+  w2c_l7 = w2c_j0;
   w2c_j0 = w2c_l3;
   w2c_j1 = 584ull;
   w2c_j0 += w2c_j1;
   w2c_i0 = (u32)(w2c_j0);
   w2c_j0 = i64_load(&instance->w2c_memory, (u64)(w2c_i0));
-  w2c_l8 = w2c_j0;
+  w2c_l9 = w2c_j0;
   w2c_i0 = 3u;
   w2c_l13 = w2c_i0;
   w2c_i0 = 1u;
   w2c_l12 = w2c_i0;
+  w2c_i0 = 0u;
+  w2c_l14 = w2c_i0;
   w2c_B7:;
   w2c_i0 = 1u;
-  w2c_l15 = w2c_i0;
+  w2c_l17 = w2c_i0;
   w2c_j0 = w2c_l3;
   w2c_j1 = 696ull;
   w2c_j0 += w2c_j1;
@@ -63288,48 +65368,48 @@ static u32 w2c_rattle__export_tcp_c_connection_timeout(Machine * instance, u64 w
   w2c_j1 = 624ull;
   w2c_j0 += w2c_j1;
   w2c_i0 = (u32)(w2c_j0);
-  w2c_j1 = w2c_l11;
+  w2c_j1 = w2c_l6;
   i64_store(&instance->w2c_memory, (u64)(w2c_i0), w2c_j1);
   w2c_j0 = w2c_l3;
   w2c_j1 = 616ull;
   w2c_j0 += w2c_j1;
   w2c_i0 = (u32)(w2c_j0);
-  w2c_j1 = w2c_l10;
+  w2c_j1 = w2c_l11;
   i64_store(&instance->w2c_memory, (u64)(w2c_i0), w2c_j1);
   w2c_j0 = w2c_l3;
   w2c_j1 = 608ull;
   w2c_j0 += w2c_j1;
   w2c_i0 = (u32)(w2c_j0);
-  w2c_j1 = w2c_l9;
+  w2c_j1 = w2c_l8;
   i64_store(&instance->w2c_memory, (u64)(w2c_i0), w2c_j1);
   w2c_j0 = w2c_l3;
   w2c_j1 = 600ull;
   w2c_j0 += w2c_j1;
   w2c_i0 = (u32)(w2c_j0);
-  w2c_j1 = w2c_l6;
+  w2c_j1 = w2c_l10;
   i64_store(&instance->w2c_memory, (u64)(w2c_i0), w2c_j1);
   w2c_j0 = w2c_l3;
   w2c_j1 = 592ull;
   w2c_j0 += w2c_j1;
   w2c_i0 = (u32)(w2c_j0);
-  w2c_j1 = w2c_l5;
+  w2c_j1 = w2c_l7;
   i64_store(&instance->w2c_memory, (u64)(w2c_i0), w2c_j1);
   w2c_j0 = w2c_l3;
   w2c_j1 = 584ull;
   w2c_j0 += w2c_j1;
   w2c_i0 = (u32)(w2c_j0);
-  w2c_j1 = w2c_l8;
+  w2c_j1 = w2c_l9;
   i64_store(&instance->w2c_memory, (u64)(w2c_i0), w2c_j1);
-  w2c_i0 = w2c_l14;
+  w2c_i0 = w2c_l16;
   w2c_i1 = 254u;
   w2c_i0 &= w2c_i1;
   w2c_i1 = 2u;
   w2c_i0 = w2c_i0 == w2c_i1;
   if (w2c_i0) {goto w2c_B23;}
   w2c_i0 = 1u;
-  w2c_l15 = w2c_i0;
+  w2c_l17 = w2c_i0;
   w2c_i0 = 1u;
-  w2c_i1 = w2c_l14;
+  w2c_i1 = w2c_l16;
   w2c_i2 = 255u;
   w2c_i1 &= w2c_i2;
   w2c_i0 <<= (w2c_i1 & 31);
@@ -63337,7 +65417,7 @@ static u32 w2c_rattle__export_tcp_c_connection_timeout(Machine * instance, u64 w
   w2c_i0 &= w2c_i1;
   if (w2c_i0) {goto w2c_B24;}
   w2c_i0 = 0u;
-  w2c_l15 = w2c_i0;
+  w2c_l17 = w2c_i0;
   goto w2c_B23;
   w2c_B24:;
   w2c_j0 = w2c_l3;
@@ -63345,35 +65425,35 @@ static u32 w2c_rattle__export_tcp_c_connection_timeout(Machine * instance, u64 w
   w2c_j0 += w2c_j1;
   w2c_i0 = (u32)(w2c_j0);
   w2c_j0 = i64_load(&instance->w2c_memory, (u64)(w2c_i0));
-  w2c_l5 = w2c_j0;
+  w2c_l6 = w2c_j0;
   w2c_j1 = w2c_l3;
   w2c_j2 = 72ull;
   w2c_j1 += w2c_j2;
   w2c_i1 = (u32)(w2c_j1);
   w2c_j1 = i64_load(&instance->w2c_memory, (u64)(w2c_i1));
-  w2c_l6 = w2c_j1;
+  w2c_l7 = w2c_j1;
   w2c_i0 = w2c_j0 < w2c_j1;
   if (w2c_i0) {goto w2c_B23;}
-  w2c_i0 = w2c_l14;
+  w2c_i0 = w2c_l16;
   w2c_i1 = 255u;
   w2c_i0 &= w2c_i1;
   w2c_i1 = 6u;
   w2c_i0 = w2c_i0 != w2c_i1;
   if (w2c_i0) {goto w2c_B25;}
   w2c_i0 = 0u;
-  w2c_l15 = w2c_i0;
+  w2c_l17 = w2c_i0;
   goto w2c_B23;
   w2c_B25:;
-  w2c_j0 = w2c_l5;
-  w2c_j1 = w2c_l6;
+  w2c_j0 = w2c_l6;
+  w2c_j1 = w2c_l7;
   w2c_i0 = w2c_j0 == w2c_j1;
   if (w2c_i0) {goto w2c_B26;}
   w2c_i0 = 0u;
-  w2c_l15 = w2c_i0;
+  w2c_l17 = w2c_i0;
   goto w2c_B23;
   w2c_B26:;
   w2c_i0 = 0u;
-  w2c_l15 = w2c_i0;
+  w2c_l17 = w2c_i0;
   w2c_j0 = w2c_l3;
   w2c_j1 = 104ull;
   w2c_j0 += w2c_j1;
@@ -63387,11 +65467,11 @@ static u32 w2c_rattle__export_tcp_c_connection_timeout(Machine * instance, u64 w
   w2c_j2 = i64_load(&instance->w2c_memory, (u64)(w2c_i2));
   w2c_j3 = 18446744073709551615ull;
   w2c_j2 ^= w2c_j3;
-  w2c_j3 = w2c_l5;
-  w2c_j2 += w2c_j3;
-  w2c_l6 = w2c_j2;
   w2c_j3 = w2c_l6;
-  w2c_j4 = w2c_l5;
+  w2c_j2 += w2c_j3;
+  w2c_l7 = w2c_j2;
+  w2c_j3 = w2c_l7;
+  w2c_j4 = w2c_l6;
   w2c_i3 = w2c_j3 > w2c_j4;
   w2c_j1 = w2c_i3 ? w2c_j1 : w2c_j2;
   w2c_i0 = w2c_j0 <= w2c_j1;
@@ -63402,82 +65482,170 @@ static u32 w2c_rattle__export_tcp_c_connection_timeout(Machine * instance, u64 w
   w2c_i0 = (u32)(w2c_j0);
   w2c_i0 = i32_load(&instance->w2c_memory, (u64)(w2c_i0));
   w2c_i0 = !(w2c_i0);
-  w2c_l15 = w2c_i0;
+  w2c_l17 = w2c_i0;
   w2c_B23:;
   w2c_i0 = 0u;
-  w2c_l16 = w2c_i0;
+  w2c_l18 = w2c_i0;
   w2c_i0 = 1u;
-  w2c_i1 = w2c_l14;
+  w2c_i1 = w2c_l16;
   w2c_i2 = 255u;
   w2c_i1 &= w2c_i2;
   w2c_i0 <<= (w2c_i1 & 31);
   w2c_i1 = 1103u;
   w2c_i0 &= w2c_i1;
   if (w2c_i0) {goto w2c_B27;}
-  w2c_j0 = w2c_l3;
-  w2c_j1 = 160ull;
-  w2c_j0 += w2c_j1;
-  w2c_i0 = (u32)(w2c_j0);
-  w2c_j0 = i64_load(&instance->w2c_memory, (u64)(w2c_i0));
-  w2c_j1 = 0ull;
-  w2c_i0 = w2c_j0 != w2c_j1;
-  w2c_l16 = w2c_i0;
-  w2c_B27:;
   w2c_i0 = 0u;
-  w2c_l17 = w2c_i0;
-  w2c_i0 = w2c_l14;
-  w2c_i1 = 255u;
-  w2c_i0 &= w2c_i1;
-  w2c_l14 = w2c_i0;
-  w2c_i1 = 6u;
-  w2c_i0 = w2c_i0 != w2c_i1;
-  if (w2c_i0) {goto w2c_B28;}
-  w2c_j0 = w2c_l3;
-  w2c_j1 = 320ull;
-  w2c_j0 += w2c_j1;
-  w2c_i0 = (u32)(w2c_j0);
-  w2c_j0 = i64_load(&instance->w2c_memory, (u64)(w2c_i0));
-  w2c_i0 = !(w2c_j0);
-  w2c_l17 = w2c_i0;
-  w2c_B28:;
-  w2c_j0 = w2c_l4;
-  w2c_i0 = (u32)(w2c_j0);
-  w2c_i1 = w2c_l17;
-  i32_store8(&instance->w2c_memory, (u64)(w2c_i0) + 15, w2c_i1);
-  w2c_j0 = w2c_l4;
-  w2c_i0 = (u32)(w2c_j0);
-  w2c_i1 = w2c_l16;
-  i32_store8(&instance->w2c_memory, (u64)(w2c_i0) + 13, w2c_i1);
-  w2c_j0 = w2c_l4;
-  w2c_i0 = (u32)(w2c_j0);
-  w2c_i1 = w2c_l15;
-  i32_store8(&instance->w2c_memory, (u64)(w2c_i0) + 12, w2c_i1);
-  w2c_j0 = w2c_l4;
-  w2c_i0 = (u32)(w2c_j0);
-  w2c_i1 = w2c_l14;
-  w2c_i2 = 10u;
-  w2c_i1 = w2c_i1 == w2c_i2;
-  i32_store8(&instance->w2c_memory, (u64)(w2c_i0) + 14, w2c_i1);
-  w2c_j0 = w2c_l7;
-  w2c_j1 = w2c_l4;
-  w2c_j2 = 12ull;
-  w2c_j1 += w2c_j2;
+  w2c_i1 = 256u;
   w2c_j2 = w2c_l3;
-  w2c_j3 = 64ull;
+  w2c_j3 = 160ull;
   w2c_j2 += w2c_j3;
   w2c_i2 = (u32)(w2c_j2);
   w2c_j2 = i64_load(&instance->w2c_memory, (u64)(w2c_i2));
-  w2c_j3 = w2c_p1;
-  w2c_tcp_driver__timers__Timers__follow(instance, w2c_j0, w2c_j1, w2c_j2, w2c_j3);
-  goto w2c_B4;
+  w2c_i2 = !(w2c_j2);
+  w2c_i0 = w2c_i2 ? w2c_i0 : w2c_i1;
+  w2c_l18 = w2c_i0;
+  w2c_B27:;
+  w2c_i0 = 0u;
+  w2c_l19 = w2c_i0;
+  w2c_i0 = w2c_l16;
+  w2c_i1 = 255u;
+  w2c_i0 &= w2c_i1;
+  w2c_l20 = w2c_i0;
+  w2c_i1 = 6u;
+  w2c_i0 = w2c_i0 != w2c_i1;
+  if (w2c_i0) {goto w2c_B28;}
+  w2c_i0 = 16777216u;
+  w2c_i1 = 0u;
+  w2c_j2 = w2c_l3;
+  w2c_j3 = 320ull;
+  w2c_j2 += w2c_j3;
+  w2c_i2 = (u32)(w2c_j2);
+  w2c_j2 = i64_load(&instance->w2c_memory, (u64)(w2c_i2));
+  w2c_i2 = !(w2c_j2);
+  w2c_i0 = w2c_i2 ? w2c_i0 : w2c_i1;
+  w2c_l19 = w2c_i0;
+  w2c_B28:;
+  w2c_j0 = w2c_l3;
+  w2c_j1 = 64ull;
+  w2c_j0 += w2c_j1;
+  w2c_i0 = (u32)(w2c_j0);
+  w2c_j0 = i64_load(&instance->w2c_memory, (u64)(w2c_i0));
+  w2c_l6 = w2c_j0;
+  w2c_j0 = w2c_l4;
+  w2c_i0 = (u32)(w2c_j0);
+  w2c_i1 = w2c_l17;
+  w2c_i2 = 65536u;
+  w2c_i3 = 0u;
+  w2c_i4 = w2c_l20;
+  w2c_i5 = 10u;
+  w2c_i4 = w2c_i4 == w2c_i5;
+  w2c_i2 = w2c_i4 ? w2c_i2 : w2c_i3;
+  w2c_i1 |= w2c_i2;
+  w2c_i2 = w2c_l18;
+  w2c_i1 |= w2c_i2;
+  w2c_i2 = w2c_l19;
+  w2c_i1 |= w2c_i2;
+  i32_store(&instance->w2c_memory, (u64)(w2c_i0) + 28, w2c_i1);
+  w2c_j0 = w2c_l6;
+  w2c_j1 = w2c_l3;
+  w2c_j2 = 632ull;
+  w2c_j1 += w2c_j2;
+  w2c_i1 = (u32)(w2c_j1);
+  w2c_j1 = i64_load(&instance->w2c_memory, (u64)(w2c_i1));
+  w2c_i0 = w2c_j0 != w2c_j1;
+  if (w2c_i0) {goto w2c_B2;}
+  w2c_j0 = w2c_l9;
+  w2c_j1 = 255ull;
+  w2c_j0 &= w2c_j1;
+  w2c_j1 = 1ull;
+  w2c_i0 = w2c_j0 != w2c_j1;
+  w2c_i1 = w2c_l17;
+  w2c_i0 = w2c_i0 == w2c_i1;
+  if (w2c_i0) {goto w2c_B2;}
+  w2c_j0 = w2c_l3;
+  w2c_j1 = 640ull;
+  w2c_j0 += w2c_j1;
+  w2c_i0 = (u32)(w2c_j0);
+  w2c_i0 = i32_load8_u(&instance->w2c_memory, (u64)(w2c_i0));
+  w2c_l20 = w2c_i0;
+  w2c_i1 = 1u;
+  w2c_i0 = w2c_i0 == w2c_i1;
+  if (w2c_i0) {goto w2c_B30;}
+  w2c_i0 = w2c_l17;
+  if (w2c_i0) {goto w2c_B30;}
+  w2c_i0 = w2c_l14;
+  if (w2c_i0) {goto w2c_B2;}
+  w2c_j0 = w2c_l3;
+  w2c_j1 = 660ull;
+  w2c_j0 += w2c_j1;
+  w2c_i0 = (u32)(w2c_j0);
+  w2c_i0 = i32_load8_u(&instance->w2c_memory, (u64)(w2c_i0));
+  w2c_i0 = !(w2c_i0);
+  if (w2c_i0) {goto w2c_B29;}
+  goto w2c_B2;
+  w2c_B30:;
+  w2c_i0 = w2c_l20;
+  w2c_i1 = 1u;
+  w2c_i0 = w2c_i0 != w2c_i1;
+  if (w2c_i0) {goto w2c_B2;}
+  w2c_i0 = w2c_l17;
+  w2c_i0 = !(w2c_i0);
+  if (w2c_i0) {goto w2c_B2;}
+  w2c_B29:;
+  w2c_j0 = w2c_l10;
+  w2c_j1 = 255ull;
+  w2c_j0 &= w2c_j1;
+  w2c_j1 = 1ull;
+  w2c_i0 = w2c_j0 != w2c_j1;
+  w2c_i1 = w2c_l18;
+  w2c_i2 = 0u;
+  w2c_i1 = w2c_i1 != w2c_i2;
+  w2c_i0 = w2c_i0 == w2c_i1;
+  if (w2c_i0) {goto w2c_B2;}
+  w2c_i0 = w2c_l16;
+  w2c_i1 = 255u;
+  w2c_i0 &= w2c_i1;
+  w2c_i1 = 10u;
+  w2c_i0 = w2c_i0 == w2c_i1;
+  w2c_j1 = w2c_l11;
+  w2c_j2 = 255ull;
+  w2c_j1 &= w2c_j2;
+  w2c_j2 = 1ull;
+  w2c_i1 = w2c_j1 != w2c_j2;
+  w2c_i0 = w2c_i0 == w2c_i1;
+  if (w2c_i0) {goto w2c_B2;}
+  w2c_i0 = w2c_l15;
+  w2c_i1 = 1u;
+  w2c_i0 = w2c_i0 != w2c_i1;
+  w2c_i1 = w2c_l19;
+  w2c_i2 = 0u;
+  w2c_i1 = w2c_i1 != w2c_i2;
+  w2c_i0 = w2c_i0 == w2c_i1;
+  if (w2c_i0) {goto w2c_B2;}
+  w2c_j0 = w2c_l3;
+  w2c_j1 = 704ull;
+  w2c_j0 += w2c_j1;
+  w2c_i0 = (u32)(w2c_j0);
+  w2c_j1 = w2c_p1;
+  i64_store(&instance->w2c_memory, (u64)(w2c_i0), w2c_j1);
+  goto w2c_B1;
   w2c_B5:;
   w2c_j0 = w2c_l6;
   w2c_i0 = (u32)(w2c_j0);
   w2c_j1 = w2c_p1;
   i64_store(&instance->w2c_memory, (u64)(w2c_i0), w2c_j1);
-  w2c_i0 = 0u;
-  w2c_l13 = w2c_i0;
-  w2c_B4:;
+  goto w2c_B1;
+  w2c_B3:;
+  UNREACHABLE;
+  w2c_B2:;
+  w2c_j0 = w2c_l5;
+  w2c_j1 = w2c_l4;
+  w2c_j2 = 28ull;
+  w2c_j1 += w2c_j2;
+  w2c_j2 = w2c_l6;
+  w2c_j3 = w2c_p1;
+  w2c_tcp_driver__timers__Timers__start(instance, w2c_j0, w2c_j1, w2c_j2, w2c_j3);
+  w2c_B1:;
   w2c_j0 = w2c_p0;
   w2c_i0 = (u32)(w2c_j0);
   w2c_j1 = w2c_l3;
@@ -63491,13 +65659,11 @@ static u32 w2c_rattle__export_tcp_c_connection_timeout(Machine * instance, u64 w
   w2c_i0 &= w2c_i1;
   w2c_i1 = 1u;
   w2c_i0 = w2c_i0 == w2c_i1;
-  if (w2c_i0) {goto w2c_B1;}
+  if (w2c_i0) {goto w2c_B31;}
   w2c_i0 = 53u;
   w2c_l12 = w2c_i0;
   goto w2c_B0;
-  w2c_B2:;
-  UNREACHABLE;
-  w2c_B1:;
+  w2c_B31:;
   w2c_j0 = w2c_p2;
   w2c_i0 = (u32)(w2c_j0);
   w2c_i1 = w2c_l13;
@@ -63506,7 +65672,7 @@ static u32 w2c_rattle__export_tcp_c_connection_timeout(Machine * instance, u64 w
   w2c_l12 = w2c_i0;
   w2c_B0:;
   w2c_j0 = w2c_l4;
-  w2c_j1 = 16ull;
+  w2c_j1 = 32ull;
   w2c_j0 += w2c_j1;
   instance->w2c___stack_pointer = w2c_j0;
   w2c_i0 = w2c_l12;
@@ -70098,6 +72264,30 @@ static uint32_t tcp_c_connection_status(struct handle *handle, struct tcpcore_st
     carry_record(status, call.frame + AT_RECORD, OF_STATUS);
     END_OF_CONNECTION(handle);
     return answer;
+}
+
+static uint32_t tcp_c_connection_peer(struct handle *handle, tcpcore_addr *addr, uint16_t *port)
+{
+    WITH_CONNECTION(handle);
+    put_addr(&call, AT_DST, addr);
+    put16(call.frame + AT_FOUND, 0);
+    uint32_t answer = w2c_tcp_c_connection_peer(M, AT_HANDLE, AT_DST, AT_FOUND);
+    get_addr(&call, addr);
+    *port = get16(call.frame + AT_FOUND);
+    END_OF_CONNECTION(handle);
+    return answer;
+}
+
+static uint32_t tcp_c_connection_set_user_timeout(struct handle *handle, uint64_t limit)
+{
+    WITH_CONNECTION(handle);
+    ANSWER_OF_CONNECTION(handle, w2c_tcp_c_connection_set_user_timeout(M, AT_HANDLE, limit));
+}
+
+static uint32_t tcp_c_connection_resend_first(struct handle *handle, uint64_t now)
+{
+    WITH_CONNECTION(handle);
+    ANSWER_OF_CONNECTION(handle, w2c_tcp_c_connection_resend_first(M, AT_HANDLE, now));
 }
 
 #endif

@@ -130,7 +130,7 @@ extern "C" {
 #endif
 
 /* The version of this header: it grows with each change of a struct, a call or an answer. */
-#define TCPCORE_VERSION 11
+#define TCPCORE_VERSION 12
 
 /* The answers; tcpcore_strerror has a text for each. */
 enum {
@@ -848,7 +848,7 @@ uint32_t tcpcore_time_wait_abort(struct tcpcore_time_wait *time_wait);
 uint32_t tcpcore_time_wait_status(const struct tcpcore_time_wait *time_wait, uint32_t *phase, uint32_t *ending);
 
 /*
- * CONNECTIONS: an end with its clock
+ * CONNECTIONS
  *   A connection is an end that keeps its own timers: the retransmission timeout by measured round trips (RFC 6298), what the peer's
  *   blocks passed over (RFC 2018, 5), TIME-WAIT, and the user timeout (RFC 9293, 3.8.3). It reads no clock: each call is given the time,
  *   `now`, in microseconds from any beginning; a time below that of an earlier call counts as that. It keeps the timers that a plain end
@@ -936,7 +936,7 @@ struct tcpcore_connection_segment {
  * due. All of it lies in the `length` bytes at `block`. *config and *rules are read and not kept.
  *   DONE; IN_USE; BAD_ADDR, BAD_PORT, BAD_RULES, BAD_CAPACITY, BAD_MSS, BAD_SHIFT, BAD_LIMIT, BAD_RUNS, NO_MEMORY, the first that
  *   applies; NULL; LENGTH; OVERLAP (the block lies over the struct); COPIED (the struct is neither TCPCORE_CONNECTION_INIT nor one that
- *   was freed). Of version 11, as all that follow.
+ *   was freed). Of version 11, as the calls of a connection behind it up to tcpcore_connection_status.
  */
 uint32_t tcpcore_connection_connect(tcpcore_connection *connection, const tcpcore_config *config,
                                     const struct tcpcore_connection_rules *rules, tcpcore_addr addr, uint16_t port, uint64_t now,
@@ -1019,6 +1019,25 @@ uint32_t tcpcore_connection_abort(tcpcore_connection *connection, uint64_t now);
 
 /* Reports phase, ending, counts, and what the two SYNs agreed on, as tcpcore_status. */
 uint32_t tcpcore_connection_status(const tcpcore_connection *connection, struct tcpcore_status *status);
+
+/* Reports the peer's address and port, as tcpcore_peer. Of version 12, as the two behind it. */
+uint32_t tcpcore_connection_peer(const tcpcore_connection *connection, tcpcore_addr *addr, uint16_t *port);
+
+/*
+ * Sets the user timeout in the place of `user` of the rules (RFC 9293, 3.8.3 and 3.10.2): how long what was sent may be without an answer
+ * before the connection is aborted, in microseconds; TCPCORE_NEVER is forever. The time that has passed already counts, so
+ * tcpcore_connection_poll_at may be another then, also one that has passed. A SYN keeps the limit `handshake` of the rules.
+ *   DONE; NO_END; NULL; COPIED.
+ */
+uint32_t tcpcore_connection_set_user_timeout(tcpcore_connection *connection, uint64_t limit);
+
+/*
+ * Of what is in flight the first segment must be sent again at once, as tcpcore_resend_first: for a caller who finds losses before the
+ * timers do, by the third duplicate acknowledgement or by its own rules (RFC 5681, 3.2; RFC 6675, 5). The retransmission timer starts
+ * anew when it goes out, once until something is acknowledged.
+ *   DONE: emit. NO_RULE: nothing is in flight. NO_END; NULL; COPIED.
+ */
+uint32_t tcpcore_connection_resend_first(tcpcore_connection *connection, uint64_t now);
 
 /*
  * The text of an answer, such as "nothing to read yet". It is never NULL, nobody frees it, and any thread may ask for

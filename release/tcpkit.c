@@ -117,30 +117,31 @@ __asm__(
     ".section .rodata.tcp.0,\"a\",%progbits\n"
     ".balign 16\n"
     ".Ltcp0:\n"
-    ".octa 0x80808080808080808080808080808080,0x80800607808004058080020380800001,0xd0d0d0d0d0d0d0d0d0d0d0d0d0d0d0d0\n"
-    ".octa 0x20202020202020202020202020202020,0x9f9f9f9f9f9f9f9f9f9f9f9f9f9f9f9f,0x9090909090909090909090909090909\n"
-    ".octa 0xa0a0a0a0a0a0a0a0a0a0a0a0a0a0a0a,0x10101010101010101010101010101010,0xff00ff00ff00ff00ff00ff00ff00ff\n"
-    ".octa 0x1,0x6f6e206863696877202c736b636f6c62,0x7020656d61632074616874204e595320\n"
-    ".octa 0x303220434652282064657474696d7265,0x69772073726577736e61204e59532061,0x6c61637320776f646e69772061206874\n"
-    ".octa 0x666f204e5953206f6e20746168742065,0x2c333233372043465228206465726566,0x74207075204e494620726f2074786574\n"
-    ".octa 0x7461204e49462065687420646e61202c,0x29342e33202c33393239204346522820,0x333932392043465228204b4341206f6e\n"
-    ".octa 0x34312065766f62612074666968732061,0x29332e32202c33323337204346522820,0x4e595320666f206e6f6974706f206e61\n"
-    ".octa 0x67657320726568746f6e61206e692073,0x202c33393239204346522820746e656d,0x6220746120676e696464617020656874\n"
-    ".octa 0x736e69676562206e6f6974706f206f6e,0x2074657366666f206174616420656874,0x207369206d75736b6365686320656874\n"
-    ".octa 0x74612073616820746e656d6765732061,0x657479622035313535362074736f6d20,0x29312e33202c33393239204346522820\n"
-    ".octa 0x80800607808004058080020380800001,0xf0f0f0f0f0f0f0f0f0f0f0f0f0f0f0f,0xa0a0a0a0a0a0a0a0a0a0a0a0a0a0a0a0\n"
-    ".octa 0x57575757575757575757575757575757,0x30303030303030303030303030303030,0x9090909090909090909090909090909\n"
-    ".octa 0x80808080808080808080808080808080,0x3e8000000010100000a80000000,0x5b400001388000000020200000a\n"
-    ".octa 0x6500,0x73000000730000007300000073,0x6f0000\n"
-    ".octa 0x6500,0x6c0064,0x6c0064\n"
+    ".octa 0x80808080808080808080808080808080,0x80800607808004058080020380800001,0x6764656c776f6e6b6361203a65746f6e\n"
+    ".octa 0x6b636f6c6220646e612073746e656d65,0x2c64656764756a2074276e6572612073,0x616d20656d6163207461687720736120\n"
+    ".octa 0xd0d0d0d0d0d0d0d0d0d0d0d0d0d0d0d0,0x20202020202020202020202020202020,0x9f9f9f9f9f9f9f9f9f9f9f9f9f9f9f9f\n"
+    ".octa 0x9090909090909090909090909090909,0xa0a0a0a0a0a0a0a0a0a0a0a0a0a0a0a,0x10101010101010101010101010101010\n"
+    ".octa 0xff00ff00ff00ff00ff00ff00ff00ff,0x1,0x6f6e206863696877202c736b636f6c62\n"
+    ".octa 0x7020656d61632074616874204e595320,0x303220434652282064657474696d7265,0x69772073726577736e61204e59532061\n"
+    ".octa 0x6c61637320776f646e69772061206874,0x666f204e5953206f6e20746168742065,0x2c333233372043465228206465726566\n"
+    ".octa 0x74207075204e494620726f2074786574,0x7461204e49462065687420646e61202c,0x29342e33202c33393239204346522820\n"
+    ".octa 0x333932392043465228204b4341206f6e,0x34312065766f62612074666968732061,0x29332e32202c33323337204346522820\n"
+    ".octa 0x4e595320666f206e6f6974706f206e61,0x67657320726568746f6e61206e692073,0x202c33393239204346522820746e656d\n"
+    ".octa 0x6220746120676e696464617020656874,0x736e69676562206e6f6974706f206f6e,0x2074657366666f206174616420656874\n"
+    ".octa 0x207369206d75736b6365686320656874,0x74612073616820746e656d6765732061,0x657479622035313535362074736f6d20\n"
+    ".octa 0x29312e33202c33393239204346522820,0x80800607808004058080020380800001,0xf0f0f0f0f0f0f0f0f0f0f0f0f0f0f0f\n"
+    ".octa 0xa0a0a0a0a0a0a0a0a0a0a0a0a0a0a0a0,0x57575757575757575757575757575757,0x30303030303030303030303030303030\n"
+    ".octa 0x9090909090909090909090909090909,0x80808080808080808080808080808080,0x3e8000000010100000a80000000\n"
+    ".octa 0x5b400001388000000020200000a,0x6500,0x73000000730000007300000073\n"
+    ".octa 0x6f0000,0x6500,0x6c0064\n"
+    ".octa 0x6c0064,0x80800607808004058080020380800001,0xe0f0c0d0a0b08090607040502030001\n"
     ".octa 0x80800607808004058080020380800001,0xe0f0c0d0a0b08090607040502030001,0x80800607808004058080020380800001\n"
-    ".octa 0xe0f0c0d0a0b08090607040502030001,0x80800607808004058080020380800001,0xe0f0c0d0a0b08090607040502030001\n"
-    ".octa 0x80800607808004058080020380800001,0xc0d0e0f08090a0b0405060700010203,0x405060700010203\n"
-    ".octa 0x80800607808004058080020380800001,0x80800607808004058080020380800001,0x80800607808004058080020380800001\n"
-    ".octa 0x80800607808004058080020380800001,0x1,0x676465202d2074786e202d20616e7520\n"
-    ".octa 0x20656e696c203134203a74696b706374,0x80808080808080808080808080808080,0x80800607808004058080020380800001\n"
-    ".octa 0x29312e33202c33393239204346522820,0x29342e33202c33393239204346522820,0x66656463626139383736353433323130\n"
-    ".octa 0x20656e696c203134203a74696b706374\n"
+    ".octa 0xe0f0c0d0a0b08090607040502030001,0x80800607808004058080020380800001,0xc0d0e0f08090a0b0405060700010203\n"
+    ".octa 0x405060700010203,0x80800607808004058080020380800001,0x80800607808004058080020380800001\n"
+    ".octa 0x80800607808004058080020380800001,0x80800607808004058080020380800001,0x1\n"
+    ".octa 0x676465202d2074786e202d20616e7520,0x20656e696c203134203a74696b706374,0x80808080808080808080808080808080\n"
+    ".octa 0x80800607808004058080020380800001,0x29312e33202c33393239204346522820,0x29342e33202c33393239204346522820\n"
+    ".octa 0x66656463626139383736353433323130,0x20656e696c203134203a74696b706374\n"
     ".section .text.tcp.1,\"ax\",%progbits\n"
     ".balign 16\n"
     ".Ltcp1:\n"
@@ -274,13 +275,13 @@ __asm__(
     ".quad 0xbde9f1894cc2014c\n"
     ".short 0xfffd\n"
     ".byte 0xff\n"
-    ".reloc .Ltcp7+465,R_X86_64_PC32,.Ltcp0+28\n"
-    ".reloc .Ltcp7+485,R_X86_64_PC32,.Ltcp0+44\n"
-    ".reloc .Ltcp7+501,R_X86_64_PC32,.Ltcp0+60\n"
-    ".reloc .Ltcp7+517,R_X86_64_PC32,.Ltcp0+76\n"
-    ".reloc .Ltcp7+545,R_X86_64_PC32,.Ltcp0+92\n"
-    ".reloc .Ltcp7+583,R_X86_64_PC32,.Ltcp0+108\n"
-    ".reloc .Ltcp7+645,R_X86_64_PC32,.Ltcp0+124\n"
+    ".reloc .Ltcp7+465,R_X86_64_PC32,.Ltcp0+92\n"
+    ".reloc .Ltcp7+485,R_X86_64_PC32,.Ltcp0+108\n"
+    ".reloc .Ltcp7+501,R_X86_64_PC32,.Ltcp0+124\n"
+    ".reloc .Ltcp7+517,R_X86_64_PC32,.Ltcp0+140\n"
+    ".reloc .Ltcp7+545,R_X86_64_PC32,.Ltcp0+156\n"
+    ".reloc .Ltcp7+583,R_X86_64_PC32,.Ltcp0+172\n"
+    ".reloc .Ltcp7+645,R_X86_64_PC32,.Ltcp0+188\n"
     ".section .text.tcp.8,\"ax\",%progbits\n"
     ".balign 16\n"
     ".Ltcp8:\n"
@@ -585,7 +586,7 @@ __asm__(
     ".short 0xffe7\n"
     ".byte 0xff\n"
     ".reloc .Ltcp14+124,R_X86_64_PLT32,.Ltcp8-4\n"
-    ".reloc .Ltcp14+602,R_X86_64_PC32,.Ltcp0+524\n"
+    ".reloc .Ltcp14+602,R_X86_64_PC32,.Ltcp0+588\n"
     ".reloc .Ltcp14+717,R_X86_64_PC32,.Ltcp124-4\n"
     ".reloc .Ltcp14+754,R_X86_64_PLT32,.Ltcp21-4\n"
     ".reloc .Ltcp14+816,R_X86_64_PC32,.Ltcp15+88\n"
@@ -962,21 +963,21 @@ __asm__(
     ".octa 0xe8f6894cdf8948fffffd83e9,0x10638b4c087b8b4c9574c98401b0c189\n"
     ".quad 0xeb01b0ffffff61e9\n"
     ".byte 0x84\n"
-    ".reloc .Ltcp23+354,R_X86_64_PC32,.Ltcp0+540\n"
-    ".reloc .Ltcp23+362,R_X86_64_PC32,.Ltcp0+556\n"
-    ".reloc .Ltcp23+384,R_X86_64_PC32,.Ltcp0+572\n"
-    ".reloc .Ltcp23+392,R_X86_64_PC32,.Ltcp0+588\n"
-    ".reloc .Ltcp23+427,R_X86_64_PC32,.Ltcp0+604\n"
-    ".reloc .Ltcp23+640,R_X86_64_PC32,.Ltcp0+604\n"
+    ".reloc .Ltcp23+354,R_X86_64_PC32,.Ltcp0+604\n"
+    ".reloc .Ltcp23+362,R_X86_64_PC32,.Ltcp0+620\n"
+    ".reloc .Ltcp23+384,R_X86_64_PC32,.Ltcp0+636\n"
+    ".reloc .Ltcp23+392,R_X86_64_PC32,.Ltcp0+652\n"
+    ".reloc .Ltcp23+427,R_X86_64_PC32,.Ltcp0+668\n"
+    ".reloc .Ltcp23+640,R_X86_64_PC32,.Ltcp0+668\n"
     ".reloc .Ltcp23+777,R_X86_64_PLT32,.Ltcp16-4\n"
-    ".reloc .Ltcp23+813,R_X86_64_PC32,.Ltcp0+540\n"
-    ".reloc .Ltcp23+1074,R_X86_64_PC32,.Ltcp0+540\n"
-    ".reloc .Ltcp23+1086,R_X86_64_PC32,.Ltcp0+556\n"
-    ".reloc .Ltcp23+1102,R_X86_64_PC32,.Ltcp0+572\n"
-    ".reloc .Ltcp23+1110,R_X86_64_PC32,.Ltcp0+588\n"
-    ".reloc .Ltcp23+1139,R_X86_64_PC32,.Ltcp0+604\n"
-    ".reloc .Ltcp23+1296,R_X86_64_PC32,.Ltcp0+1084\n"
-    ".reloc .Ltcp23+1398,R_X86_64_PC32,.Ltcp0+1084\n"
+    ".reloc .Ltcp23+813,R_X86_64_PC32,.Ltcp0+604\n"
+    ".reloc .Ltcp23+1074,R_X86_64_PC32,.Ltcp0+604\n"
+    ".reloc .Ltcp23+1086,R_X86_64_PC32,.Ltcp0+620\n"
+    ".reloc .Ltcp23+1102,R_X86_64_PC32,.Ltcp0+636\n"
+    ".reloc .Ltcp23+1110,R_X86_64_PC32,.Ltcp0+652\n"
+    ".reloc .Ltcp23+1139,R_X86_64_PC32,.Ltcp0+668\n"
+    ".reloc .Ltcp23+1296,R_X86_64_PC32,.Ltcp0+1148\n"
+    ".reloc .Ltcp23+1398,R_X86_64_PC32,.Ltcp0+1148\n"
     ".reloc .Ltcp23+1509,R_X86_64_PLT32,.Ltcp16-4\n"
     ".reloc .Ltcp23+1542,R_X86_64_PLT32,.Ltcp16-4\n"
     ".reloc .Ltcp23+1574,R_X86_64_PLT32,.Ltcp16-4\n"
@@ -1209,7 +1210,7 @@ __asm__(
     ".octa 0x5f415e415d415c415b000003c8c48148\n"
     ".long 0x1b0c35d\n"
     ".short 0xa7eb\n"
-    ".reloc .Ltcp26+408,R_X86_64_PC32,.Ltcp0+620\n"
+    ".reloc .Ltcp26+408,R_X86_64_PC32,.Ltcp0+684\n"
     ".reloc .Ltcp26+588,R_X86_64_PLT32,.Ltcp2-4\n"
     ".reloc .Ltcp26+634,R_X86_64_PC32,.Ltcp118+4\n"
     ".reloc .Ltcp26+656,R_X86_64_PLT32,.Ltcp4-4\n"
@@ -1218,8 +1219,8 @@ __asm__(
     ".reloc .Ltcp26+836,R_X86_64_PLT32,.Ltcp4-4\n"
     ".reloc .Ltcp26+865,R_X86_64_PLT32,.Ltcp1-4\n"
     ".reloc .Ltcp26+1072,R_X86_64_PLT32,.Ltcp2-4\n"
-    ".reloc .Ltcp26+1258,R_X86_64_PC32,.Ltcp0+636\n"
-    ".reloc .Ltcp26+1357,R_X86_64_PC32,.Ltcp0+652\n"
+    ".reloc .Ltcp26+1258,R_X86_64_PC32,.Ltcp0+700\n"
+    ".reloc .Ltcp26+1357,R_X86_64_PC32,.Ltcp0+716\n"
     ".reloc .Ltcp26+1593,R_X86_64_PLT32,.Ltcp1-4\n"
     ".reloc .Ltcp26+1914,R_X86_64_PLT32,.Ltcp2-4\n"
     ".reloc .Ltcp26+1974,R_X86_64_PC32,.Ltcp132-4\n"
@@ -1250,12 +1251,12 @@ __asm__(
     ".reloc .Ltcp26+4919,R_X86_64_PC32,.Ltcp27+12\n"
     ".reloc .Ltcp26+5032,R_X86_64_PLT32,.Ltcp2-4\n"
     ".reloc .Ltcp26+5069,R_X86_64_PC32,.Ltcp27+36\n"
-    ".reloc .Ltcp26+5332,R_X86_64_PC32,.Ltcp0+668\n"
+    ".reloc .Ltcp26+5332,R_X86_64_PC32,.Ltcp0+732\n"
     ".reloc .Ltcp26+5387,R_X86_64_PC32,.Ltcp98+28\n"
     ".reloc .Ltcp26+5408,R_X86_64_PLT32,.Ltcp4-4\n"
     ".reloc .Ltcp26+5778,R_X86_64_PC32,.Ltcp98+20\n"
     ".reloc .Ltcp26+5799,R_X86_64_PLT32,.Ltcp4-4\n"
-    ".reloc .Ltcp26+5956,R_X86_64_PC32,.Ltcp0+684\n"
+    ".reloc .Ltcp26+5956,R_X86_64_PC32,.Ltcp0+748\n"
     ".reloc .Ltcp26+6005,R_X86_64_PC32,.Ltcp98+32\n"
     ".reloc .Ltcp26+6024,R_X86_64_PLT32,.Ltcp4-4\n"
     ".reloc .Ltcp26+6043,R_X86_64_PLT32,.Ltcp31-4\n"
@@ -1355,11 +1356,11 @@ __asm__(
     ".reloc .Ltcp28+166,R_X86_64_PLT32,.Ltcp4-4\n"
     ".reloc .Ltcp28+213,R_X86_64_PC32,.Ltcp137-4\n"
     ".reloc .Ltcp28+226,R_X86_64_PLT32,.Ltcp4-4\n"
-    ".reloc .Ltcp28+270,R_X86_64_PC32,.Ltcp0+716\n"
-    ".reloc .Ltcp28+304,R_X86_64_PC32,.Ltcp0+748\n"
+    ".reloc .Ltcp28+270,R_X86_64_PC32,.Ltcp0+780\n"
+    ".reloc .Ltcp28+304,R_X86_64_PC32,.Ltcp0+812\n"
     ".reloc .Ltcp28+359,R_X86_64_PC32,.Ltcp146-4\n"
     ".reloc .Ltcp28+372,R_X86_64_PLT32,.Ltcp4-4\n"
-    ".reloc .Ltcp28+431,R_X86_64_PC32,.Ltcp0+700\n"
+    ".reloc .Ltcp28+431,R_X86_64_PC32,.Ltcp0+764\n"
     ".reloc .Ltcp28+496,R_X86_64_PC32,.Ltcp141-4\n"
     ".reloc .Ltcp28+509,R_X86_64_PLT32,.Ltcp4-4\n"
     ".reloc .Ltcp28+564,R_X86_64_PC32,.Ltcp147-4\n"
@@ -1822,7 +1823,7 @@ __asm__(
     ".reloc .Ltcp34+4801,R_X86_64_PLT32,.Ltcp84-4\n"
     ".reloc .Ltcp34+4851,R_X86_64_PLT32,.Ltcp84-4\n"
     ".reloc .Ltcp34+4901,R_X86_64_PLT32,.Ltcp84-4\n"
-    ".reloc .Ltcp34+5363,R_X86_64_PC32,.Ltcp0+764\n"
+    ".reloc .Ltcp34+5363,R_X86_64_PC32,.Ltcp0+828\n"
     ".reloc .Ltcp34+5492,R_X86_64_PLT32,.Ltcp84-4\n"
     ".reloc .Ltcp34+5541,R_X86_64_PLT32,.Ltcp84-4\n"
     ".reloc .Ltcp34+5596,R_X86_64_PLT32,.Ltcp84-4\n"
@@ -2294,8 +2295,8 @@ __asm__(
     ".reloc .Ltcp42+820,R_X86_64_PLT32,.Ltcp51-4\n"
     ".reloc .Ltcp42+1149,R_X86_64_PLT32,.Ltcp50-4\n"
     ".reloc .Ltcp42+2065,R_X86_64_PLT32,.Ltcp51-4\n"
-    ".reloc .Ltcp42+2326,R_X86_64_PC32,.Ltcp0+780\n"
-    ".reloc .Ltcp42+2406,R_X86_64_PC32,.Ltcp0+796\n"
+    ".reloc .Ltcp42+2326,R_X86_64_PC32,.Ltcp0+844\n"
+    ".reloc .Ltcp42+2406,R_X86_64_PC32,.Ltcp0+860\n"
     ".reloc .Ltcp42+2588,R_X86_64_PLT32,.Ltcp44-4\n"
     ".reloc .Ltcp42+3224,R_X86_64_PC32,.Ltcp101-4\n"
     ".reloc .Ltcp42+3485,R_X86_64_PLT32,.Ltcp38-4\n"
@@ -2339,8 +2340,8 @@ __asm__(
     ".byte 0xff\n"
     ".reloc .Ltcp43+365,R_X86_64_PLT32,.Ltcp50-4\n"
     ".reloc .Ltcp43+427,R_X86_64_PLT32,.Ltcp44-4\n"
-    ".reloc .Ltcp43+609,R_X86_64_PC32,.Ltcp0+812\n"
-    ".reloc .Ltcp43+689,R_X86_64_PC32,.Ltcp0+828\n"
+    ".reloc .Ltcp43+609,R_X86_64_PC32,.Ltcp0+876\n"
+    ".reloc .Ltcp43+689,R_X86_64_PC32,.Ltcp0+892\n"
     ".section .text.tcp.44,\"ax\",%progbits\n"
     ".balign 16\n"
     ".Ltcp44:\n"
@@ -2386,8 +2387,8 @@ __asm__(
     ".octa 0x892feec148f0af0f4880008001be0001,0xc289000100190532048dc62910e0c1f0,0xb810518966d0440fc08508c2c166d2f7\n"
     ".long 0x14\n"
     ".byte 0xc3\n"
-    ".reloc .Ltcp45+95,R_X86_64_PC32,.Ltcp0+844\n"
-    ".reloc .Ltcp45+156,R_X86_64_PC32,.Ltcp0+860\n"
+    ".reloc .Ltcp45+95,R_X86_64_PC32,.Ltcp0+908\n"
+    ".reloc .Ltcp45+156,R_X86_64_PC32,.Ltcp0+924\n"
     ".section .text.tcp.46,\"ax\",%progbits\n"
     ".balign 16\n"
     ".Ltcp46:\n"
@@ -2426,9 +2427,9 @@ __asm__(
     ".long 0x5d5f415e\n"
     ".byte 0xc3\n"
     ".reloc .Ltcp46+195,R_X86_64_PC32,.Ltcp47-4\n"
-    ".reloc .Ltcp46+299,R_X86_64_PC32,.Ltcp0+892\n"
-    ".reloc .Ltcp46+362,R_X86_64_PC32,.Ltcp0+876\n"
-    ".reloc .Ltcp46+859,R_X86_64_PC32,.Ltcp0+876\n"
+    ".reloc .Ltcp46+299,R_X86_64_PC32,.Ltcp0+956\n"
+    ".reloc .Ltcp46+362,R_X86_64_PC32,.Ltcp0+940\n"
+    ".reloc .Ltcp46+859,R_X86_64_PC32,.Ltcp0+940\n"
     ".section .rodata.tcp.47,\"a\",%progbits\n"
     ".balign 4\n"
     ".Ltcp47:\n"
@@ -2485,7 +2486,7 @@ __asm__(
     ".short 0xc35d\n"
     ".reloc .Ltcp48+531,R_X86_64_PLT32,.Ltcp46-4\n"
     ".reloc .Ltcp48+614,R_X86_64_PLT32,.Ltcp8-4\n"
-    ".reloc .Ltcp48+1069,R_X86_64_PC32,.Ltcp0+908\n"
+    ".reloc .Ltcp48+1069,R_X86_64_PC32,.Ltcp0+972\n"
     ".section .text.tcp.49,\"ax\",%progbits\n"
     ".balign 16\n"
     ".Ltcp49:\n"
@@ -2581,7 +2582,7 @@ __asm__(
     ".reloc .Ltcp50+1502,R_X86_64_PLT32,.Ltcp49-4\n"
     ".reloc .Ltcp50+1651,R_X86_64_PLT32,.Ltcp46-4\n"
     ".reloc .Ltcp50+1734,R_X86_64_PLT32,.Ltcp8-4\n"
-    ".reloc .Ltcp50+2189,R_X86_64_PC32,.Ltcp0+924\n"
+    ".reloc .Ltcp50+2189,R_X86_64_PC32,.Ltcp0+988\n"
     ".section .text.tcp.51,\"ax\",%progbits\n"
     ".balign 16\n"
     ".Ltcp51:\n"
@@ -2667,7 +2668,7 @@ __asm__(
     ".reloc .Ltcp52+675,R_X86_64_PLT32,.Ltcp8-4\n"
     ".reloc .Ltcp52+1165,R_X86_64_PLT32,.Ltcp8-4\n"
     ".reloc .Ltcp52+2054,R_X86_64_PLT32,.Ltcp8-4\n"
-    ".reloc .Ltcp52+2527,R_X86_64_PC32,.Ltcp0+940\n"
+    ".reloc .Ltcp52+2527,R_X86_64_PC32,.Ltcp0+1004\n"
     ".section .text.tcp.53,\"ax\",%progbits\n"
     ".balign 16\n"
     ".Ltcp53:\n"
@@ -2724,7 +2725,7 @@ __asm__(
     ".octa 0xdf89482024748d4c00000000e8ce8948,0xe8df894800000000e8f6894c,0x894cdf894800000000e8f6894cdf8948\n"
     ".octa 0xffffff42e900000003b800000000e8f6\n"
     ".reloc .Ltcp53+158,R_X86_64_PLT32,.Ltcp8-4\n"
-    ".reloc .Ltcp53+620,R_X86_64_PC32,.Ltcp0+956\n"
+    ".reloc .Ltcp53+620,R_X86_64_PC32,.Ltcp0+1020\n"
     ".reloc .Ltcp53+1221,R_X86_64_PLT32,.Ltcp67-4\n"
     ".reloc .Ltcp53+2023,R_X86_64_PLT32,.Ltcp67-4\n"
     ".reloc .Ltcp53+2042,R_X86_64_PLT32,.Ltcp54-4\n"
@@ -2864,7 +2865,7 @@ __asm__(
     ".octa 0xe075fb394cfcc78349f0fe4c110f43fe,0x90000000ffc18149d0294d1c74d33945,0x75c1394dc8ff49c014894ef8c0548b4e\n"
     ".octa 0x8948f0148948ca0948d28920e1c148ef,0x415b08477f0ff30000000005d40f6607\n"
     ".long 0xc35f415e\n"
-    ".reloc .Ltcp59+693,R_X86_64_PC32,.Ltcp0+972\n"
+    ".reloc .Ltcp59+693,R_X86_64_PC32,.Ltcp0+1036\n"
     ".section .text.tcp.60,\"ax\",%progbits\n"
     ".balign 16\n"
     ".Ltcp60:\n"
@@ -3711,11 +3712,11 @@ __asm__(
     ".quad 0xfff892e9fffffd44\n"
     ".byte 0xff\n"
     ".reloc .Ltcp88+158,R_X86_64_PLT32,.Ltcp91-4\n"
-    ".reloc .Ltcp88+200,R_X86_64_PC32,.Ltcp0+1100\n"
-    ".reloc .Ltcp88+223,R_X86_64_PC32,.Ltcp0+1004\n"
+    ".reloc .Ltcp88+200,R_X86_64_PC32,.Ltcp0+1164\n"
+    ".reloc .Ltcp88+223,R_X86_64_PC32,.Ltcp0+1068\n"
     ".reloc .Ltcp88+317,R_X86_64_PLT32,.Ltcp91-4\n"
     ".reloc .Ltcp88+364,R_X86_64_PC32,.Ltcp172-4\n"
-    ".reloc .Ltcp88+422,R_X86_64_PC32,.Ltcp0+1100\n"
+    ".reloc .Ltcp88+422,R_X86_64_PC32,.Ltcp0+1164\n"
     ".reloc .Ltcp88+664,R_X86_64_PC32,.Ltcp135-4\n"
     ".reloc .Ltcp88+671,R_X86_64_PC32,.Ltcp136-4\n"
     ".reloc .Ltcp88+1006,R_X86_64_PLT32,.Ltcp91-4\n"
@@ -4119,7 +4120,7 @@ __asm__(
     ".octa 0xfd04850fca3948ef75c1394804c08348\n"
     ".quad 0xfffb2de9c031ffff\n"
     ".byte 0xff\n"
-    ".reloc .Ltcp96+200,R_X86_64_PC32,.Ltcp0+1020\n"
+    ".reloc .Ltcp96+200,R_X86_64_PC32,.Ltcp0+1084\n"
     ".reloc .Ltcp96+345,R_X86_64_PLT32,.Ltcp1-4\n"
     ".reloc .Ltcp96+566,R_X86_64_PLT32,.Ltcp2-4\n"
     ".reloc .Ltcp96+677,R_X86_64_PLT32,.Ltcp2-4\n"
@@ -4699,9 +4700,29 @@ __asm__(
 #elif defined(MACHINE_X86_64)
 __asm__(
     ".pushsection .text\n"
-    ".section .text.tcp.0,\"ax\",%progbits\n"
+    ".section .rodata.tcp.0,\"a\",%progbits\n"
     ".balign 16\n"
     ".Ltcp0:\n"
+    ".octa 0x6764656c776f6e6b6361203a65746f6e,0x6b636f6c6220646e612073746e656d65,0x2c64656764756a2074276e6572612073\n"
+    ".octa 0x616d20656d6163207461687720736120,0xd0d0d0d0d0d0d0d0d0d0d0d0d0d0d0d0,0x20202020202020202020202020202020\n"
+    ".octa 0x9f9f9f9f9f9f9f9f9f9f9f9f9f9f9f9f,0x9090909090909090909090909090909,0xa0a0a0a0a0a0a0a0a0a0a0a0a0a0a0a\n"
+    ".octa 0x10101010101010101010101010101010,0xff00ff00ff00ff00ff00ff00ff00ff,0x1\n"
+    ".octa 0x6f6e206863696877202c736b636f6c62,0x7020656d61632074616874204e595320,0x303220434652282064657474696d7265\n"
+    ".octa 0x69772073726577736e61204e59532061,0x6c61637320776f646e69772061206874,0x666f204e5953206f6e20746168742065\n"
+    ".octa 0x2c333233372043465228206465726566,0x74207075204e494620726f2074786574,0x7461204e49462065687420646e61202c\n"
+    ".octa 0x29342e33202c33393239204346522820,0x333932392043465228204b4341206f6e,0x34312065766f62612074666968732061\n"
+    ".octa 0x29332e32202c33323337204346522820,0x4e595320666f206e6f6974706f206e61,0x67657320726568746f6e61206e692073\n"
+    ".octa 0x202c33393239204346522820746e656d,0x6220746120676e696464617020656874,0x736e69676562206e6f6974706f206f6e\n"
+    ".octa 0x2074657366666f206174616420656874,0x207369206d75736b6365686320656874,0x74612073616820746e656d6765732061\n"
+    ".octa 0x657479622035313535362074736f6d20,0x29312e33202c33393239204346522820,0xf0f0f0f0f0f0f0f0f0f0f0f0f0f0f0f\n"
+    ".octa 0xa0a0a0a0a0a0a0a0a0a0a0a0a0a0a0a0,0x30303030303030303030303030303030,0x57575757575757575757575757575757\n"
+    ".octa 0x9090909090909090909090909090909,0x3e8000000010100000a80000000,0x5b400001388000000020200000a\n"
+    ".octa 0x1,0x80000000800000008000000080000000,0x676465202d2074786e202d20616e7520\n"
+    ".octa 0x20656e696c203134203a74696b706374,0x29312e33202c33393239204346522820,0x29342e33202c33393239204346522820\n"
+    ".octa 0x66656463626139383736353433323130,0x20656e696c203134203a74696b706374\n"
+    ".section .text.tcp.1,\"ax\",%progbits\n"
+    ".balign 16\n"
+    ".Ltcp1:\n"
     ".type \"kit_text::lines::LinesIterator::next\",%function\n"
     ".size \"kit_text::lines::LinesIterator::next\",490\n"
     "\"kit_text::lines::LinesIterator::next\":\n"
@@ -4717,10 +4738,10 @@ __asm__(
     ".octa 0xfc1ebfe894ce7894cf63145c931f289,0x5c415b08c4834807110f1047110fc057,0x847894c0000000107c748c35f415e41\n"
     ".quad 0x18578948105f8948\n"
     ".short 0xdfeb\n"
-    ".reloc .Ltcp0+328,R_X86_64_PLT32,.Ltcp1-4\n"
-    ".section .text.tcp.1,\"ax\",%progbits\n"
+    ".reloc .Ltcp1+328,R_X86_64_PLT32,.Ltcp2-4\n"
+    ".section .text.tcp.2,\"ax\",%progbits\n"
     ".balign 16\n"
-    ".Ltcp1:\n"
+    ".Ltcp2:\n"
     ".type \"kit_text::cutting::first_far\",%function\n"
     ".size \"kit_text::cutting::first_far\",161\n"
     "\"kit_text::cutting::first_far\":\n"
@@ -4729,10 +4750,10 @@ __asm__(
     ".octa 0x841f0f661773c83949de77,0x3948f275c1394cc0ff492574063c3842,0xc4834800000000e8ffb60f40500f76c2\n"
     ".octa 0xc2894c01b0c3c2894cc031c03145c308\n"
     ".byte 0xc3\n"
-    ".reloc .Ltcp1+137,R_X86_64_PLT32,.Ltcp2-4\n"
-    ".section .text.tcp.2,\"ax\",%progbits\n"
+    ".reloc .Ltcp2+137,R_X86_64_PLT32,.Ltcp3-4\n"
+    ".section .text.tcp.3,\"ax\",%progbits\n"
     ".balign 16\n"
-    ".Ltcp2:\n"
+    ".Ltcp3:\n"
     ".type \"kit_text::cutting::first_farther\",%function\n"
     ".size \"kit_text::cutting::first_farther\",236\n"
     "\"kit_text::cutting::first_farther\":\n"
@@ -4743,9 +4764,9 @@ __asm__(
     ".octa 0x841f0f2e661873d13948df,0xc931f275ca3948c1ff4810740e3c3840\n"
     ".quad 0x1b0c3ca8948c031\n"
     ".long 0xc3ca8948\n"
-    ".section .text.tcp.3,\"ax\",%progbits\n"
+    ".section .text.tcp.4,\"ax\",%progbits\n"
     ".balign 16\n"
-    ".Ltcp3:\n"
+    ".Ltcp4:\n"
     ".type \"core::cmp::slices::groups_equal::<i8,31'core::cmp::numbers::U8PartialEq{}>\",%function\n"
     ".size \"core::cmp::slices::groups_equal::<i8,31'core::cmp::numbers::U8PartialEq{}>\",523\n"
     "\"core::cmp::slices::groups_equal::<i8,31'core::cmp::numbers::U8PartialEq{}>\":\n"
@@ -4763,9 +4784,9 @@ __asm__(
     ".quad 0xc0950f0000ffff35\n"
     ".short 0x134\n"
     ".byte 0xc3\n"
-    ".section .text.tcp.4,\"ax\",%progbits\n"
+    ".section .text.tcp.5,\"ax\",%progbits\n"
     ".balign 16\n"
-    ".Ltcp4:\n"
+    ".Ltcp5:\n"
     ".type \"kit_text::addresses::read_addr\",%function\n"
     ".size \"kit_text::addresses::read_addr\",782\n"
     "\"kit_text::addresses::read_addr\":\n"
@@ -4788,16 +4809,16 @@ __asm__(
     ".quad 0x143c70003\n"
     ".long 0xfdf3e900\n"
     ".short 0xffff\n"
-    ".reloc .Ltcp4+87,R_X86_64_PLT32,.Ltcp1-4\n"
-    ".reloc .Ltcp4+199,R_X86_64_PLT32,.Ltcp1-4\n"
-    ".reloc .Ltcp4+343,R_X86_64_PLT32,.Ltcp1-4\n"
-    ".reloc .Ltcp4+546,R_X86_64_PLT32,.Ltcp5-4\n"
-    ".reloc .Ltcp4+568,R_X86_64_PLT32,.Ltcp5-4\n"
-    ".reloc .Ltcp4+593,R_X86_64_PLT32,.Ltcp5-4\n"
-    ".reloc .Ltcp4+730,R_X86_64_PLT32,.Ltcp1-4\n"
-    ".section .text.tcp.5,\"ax\",%progbits\n"
+    ".reloc .Ltcp5+87,R_X86_64_PLT32,.Ltcp2-4\n"
+    ".reloc .Ltcp5+199,R_X86_64_PLT32,.Ltcp2-4\n"
+    ".reloc .Ltcp5+343,R_X86_64_PLT32,.Ltcp2-4\n"
+    ".reloc .Ltcp5+546,R_X86_64_PLT32,.Ltcp6-4\n"
+    ".reloc .Ltcp5+568,R_X86_64_PLT32,.Ltcp6-4\n"
+    ".reloc .Ltcp5+593,R_X86_64_PLT32,.Ltcp6-4\n"
+    ".reloc .Ltcp5+730,R_X86_64_PLT32,.Ltcp2-4\n"
+    ".section .text.tcp.6,\"ax\",%progbits\n"
     ".balign 16\n"
-    ".Ltcp5:\n"
+    ".Ltcp6:\n"
     ".type \"kit_text::addresses::read_octet\",%function\n"
     ".size \"kit_text::addresses::read_octet\",121\n"
     "\"kit_text::addresses::read_octet\":\n"
@@ -4806,25 +4827,6 @@ __asm__(
     ".octa 0xf4800000100bac0920f00000100f981\n"
     ".quad 0xd231c3d6430fd142\n"
     ".byte 0xc3\n"
-    ".section .rodata.tcp.6,\"a\",%progbits\n"
-    ".balign 16\n"
-    ".Ltcp6:\n"
-    ".octa 0xd0d0d0d0d0d0d0d0d0d0d0d0d0d0d0d0,0x20202020202020202020202020202020,0x9f9f9f9f9f9f9f9f9f9f9f9f9f9f9f9f\n"
-    ".octa 0x9090909090909090909090909090909,0xa0a0a0a0a0a0a0a0a0a0a0a0a0a0a0a,0x10101010101010101010101010101010\n"
-    ".octa 0xff00ff00ff00ff00ff00ff00ff00ff,0x1,0x6f6e206863696877202c736b636f6c62\n"
-    ".octa 0x7020656d61632074616874204e595320,0x303220434652282064657474696d7265,0x69772073726577736e61204e59532061\n"
-    ".octa 0x6c61637320776f646e69772061206874,0x666f204e5953206f6e20746168742065,0x2c333233372043465228206465726566\n"
-    ".octa 0x74207075204e494620726f2074786574,0x7461204e49462065687420646e61202c,0x29342e33202c33393239204346522820\n"
-    ".octa 0x333932392043465228204b4341206f6e,0x34312065766f62612074666968732061,0x29332e32202c33323337204346522820\n"
-    ".octa 0x4e595320666f206e6f6974706f206e61,0x67657320726568746f6e61206e692073,0x202c33393239204346522820746e656d\n"
-    ".octa 0x6220746120676e696464617020656874,0x736e69676562206e6f6974706f206f6e,0x2074657366666f206174616420656874\n"
-    ".octa 0x207369206d75736b6365686320656874,0x74612073616820746e656d6765732061,0x657479622035313535362074736f6d20\n"
-    ".octa 0x29312e33202c33393239204346522820,0xf0f0f0f0f0f0f0f0f0f0f0f0f0f0f0f,0xa0a0a0a0a0a0a0a0a0a0a0a0a0a0a0a0\n"
-    ".octa 0x30303030303030303030303030303030,0x57575757575757575757575757575757,0x9090909090909090909090909090909\n"
-    ".octa 0x3e8000000010100000a80000000,0x5b400001388000000020200000a,0x1\n"
-    ".octa 0x80000000800000008000000080000000,0x676465202d2074786e202d20616e7520,0x20656e696c203134203a74696b706374\n"
-    ".octa 0x29312e33202c33393239204346522820,0x29342e33202c33393239204346522820,0x66656463626139383736353433323130\n"
-    ".octa 0x20656e696c203134203a74696b706374\n"
     ".section .text.tcp.7,\"ax\",%progbits\n"
     ".balign 16\n"
     ".Ltcp7:\n"
@@ -4854,13 +4856,13 @@ __asm__(
     ".quad 0xf1894cc2014cdf01\n"
     ".long 0xfffdabe9\n"
     ".byte 0xff\n"
-    ".reloc .Ltcp7+465,R_X86_64_PC32,.Ltcp6-4\n"
-    ".reloc .Ltcp7+485,R_X86_64_PC32,.Ltcp6+12\n"
-    ".reloc .Ltcp7+501,R_X86_64_PC32,.Ltcp6+28\n"
-    ".reloc .Ltcp7+517,R_X86_64_PC32,.Ltcp6+44\n"
-    ".reloc .Ltcp7+545,R_X86_64_PC32,.Ltcp6+60\n"
-    ".reloc .Ltcp7+585,R_X86_64_PC32,.Ltcp6+76\n"
-    ".reloc .Ltcp7+663,R_X86_64_PC32,.Ltcp6+92\n"
+    ".reloc .Ltcp7+465,R_X86_64_PC32,.Ltcp0+60\n"
+    ".reloc .Ltcp7+485,R_X86_64_PC32,.Ltcp0+76\n"
+    ".reloc .Ltcp7+501,R_X86_64_PC32,.Ltcp0+92\n"
+    ".reloc .Ltcp7+517,R_X86_64_PC32,.Ltcp0+108\n"
+    ".reloc .Ltcp7+545,R_X86_64_PC32,.Ltcp0+124\n"
+    ".reloc .Ltcp7+585,R_X86_64_PC32,.Ltcp0+140\n"
+    ".reloc .Ltcp7+663,R_X86_64_PC32,.Ltcp0+156\n"
     ".section .text.tcp.8,\"ax\",%progbits\n"
     ".balign 16\n"
     ".Ltcp8:\n"
@@ -5534,19 +5536,19 @@ __asm__(
     ".octa 0xe8f6894cdf8948fffffd7ce9,0x10638b4c087b8b4c9574c98401b0c189\n"
     ".quad 0xeb01b0ffffff64e9\n"
     ".byte 0x84\n"
-    ".reloc .Ltcp23+110,R_X86_64_PC32,.Ltcp6+492\n"
-    ".reloc .Ltcp23+122,R_X86_64_PC32,.Ltcp6+508\n"
-    ".reloc .Ltcp23+144,R_X86_64_PC32,.Ltcp6+524\n"
-    ".reloc .Ltcp23+160,R_X86_64_PC32,.Ltcp6+540\n"
-    ".reloc .Ltcp23+185,R_X86_64_PC32,.Ltcp6+556\n"
+    ".reloc .Ltcp23+110,R_X86_64_PC32,.Ltcp0+556\n"
+    ".reloc .Ltcp23+122,R_X86_64_PC32,.Ltcp0+572\n"
+    ".reloc .Ltcp23+144,R_X86_64_PC32,.Ltcp0+588\n"
+    ".reloc .Ltcp23+160,R_X86_64_PC32,.Ltcp0+604\n"
+    ".reloc .Ltcp23+185,R_X86_64_PC32,.Ltcp0+620\n"
     ".reloc .Ltcp23+718,R_X86_64_PLT32,.Ltcp16-4\n"
-    ".reloc .Ltcp23+930,R_X86_64_PC32,.Ltcp6+492\n"
-    ".reloc .Ltcp23+942,R_X86_64_PC32,.Ltcp6+508\n"
-    ".reloc .Ltcp23+958,R_X86_64_PC32,.Ltcp6+524\n"
-    ".reloc .Ltcp23+974,R_X86_64_PC32,.Ltcp6+540\n"
-    ".reloc .Ltcp23+1002,R_X86_64_PC32,.Ltcp6+556\n"
-    ".reloc .Ltcp23+1168,R_X86_64_PC32,.Ltcp6+700\n"
-    ".reloc .Ltcp23+1268,R_X86_64_PC32,.Ltcp6+700\n"
+    ".reloc .Ltcp23+930,R_X86_64_PC32,.Ltcp0+556\n"
+    ".reloc .Ltcp23+942,R_X86_64_PC32,.Ltcp0+572\n"
+    ".reloc .Ltcp23+958,R_X86_64_PC32,.Ltcp0+588\n"
+    ".reloc .Ltcp23+974,R_X86_64_PC32,.Ltcp0+604\n"
+    ".reloc .Ltcp23+1002,R_X86_64_PC32,.Ltcp0+620\n"
+    ".reloc .Ltcp23+1168,R_X86_64_PC32,.Ltcp0+764\n"
+    ".reloc .Ltcp23+1268,R_X86_64_PC32,.Ltcp0+764\n"
     ".reloc .Ltcp23+1376,R_X86_64_PLT32,.Ltcp16-4\n"
     ".reloc .Ltcp23+1409,R_X86_64_PLT32,.Ltcp16-4\n"
     ".reloc .Ltcp23+1441,R_X86_64_PLT32,.Ltcp16-4\n"
@@ -5777,57 +5779,57 @@ __asm__(
     ".octa 0x5f415e415d415c415b000003d8c48148\n"
     ".long 0x1b0c35d\n"
     ".short 0xa7eb\n"
-    ".reloc .Ltcp26+604,R_X86_64_PLT32,.Ltcp1-4\n"
+    ".reloc .Ltcp26+604,R_X86_64_PLT32,.Ltcp2-4\n"
     ".reloc .Ltcp26+650,R_X86_64_PC32,.Ltcp118+4\n"
-    ".reloc .Ltcp26+672,R_X86_64_PLT32,.Ltcp3-4\n"
-    ".reloc .Ltcp26+703,R_X86_64_PLT32,.Ltcp0-4\n"
+    ".reloc .Ltcp26+672,R_X86_64_PLT32,.Ltcp4-4\n"
+    ".reloc .Ltcp26+703,R_X86_64_PLT32,.Ltcp1-4\n"
     ".reloc .Ltcp26+836,R_X86_64_PC32,.Ltcp118+12\n"
-    ".reloc .Ltcp26+852,R_X86_64_PLT32,.Ltcp3-4\n"
-    ".reloc .Ltcp26+881,R_X86_64_PLT32,.Ltcp0-4\n"
-    ".reloc .Ltcp26+1088,R_X86_64_PLT32,.Ltcp1-4\n"
-    ".reloc .Ltcp26+1274,R_X86_64_PC32,.Ltcp6+572\n"
-    ".reloc .Ltcp26+1373,R_X86_64_PC32,.Ltcp6+588\n"
-    ".reloc .Ltcp26+1609,R_X86_64_PLT32,.Ltcp0-4\n"
-    ".reloc .Ltcp26+1930,R_X86_64_PLT32,.Ltcp1-4\n"
+    ".reloc .Ltcp26+852,R_X86_64_PLT32,.Ltcp4-4\n"
+    ".reloc .Ltcp26+881,R_X86_64_PLT32,.Ltcp1-4\n"
+    ".reloc .Ltcp26+1088,R_X86_64_PLT32,.Ltcp2-4\n"
+    ".reloc .Ltcp26+1274,R_X86_64_PC32,.Ltcp0+636\n"
+    ".reloc .Ltcp26+1373,R_X86_64_PC32,.Ltcp0+652\n"
+    ".reloc .Ltcp26+1609,R_X86_64_PLT32,.Ltcp1-4\n"
+    ".reloc .Ltcp26+1930,R_X86_64_PLT32,.Ltcp2-4\n"
     ".reloc .Ltcp26+2035,R_X86_64_PC32,.Ltcp132-4\n"
-    ".reloc .Ltcp26+2069,R_X86_64_PLT32,.Ltcp3-4\n"
-    ".reloc .Ltcp26+2181,R_X86_64_PLT32,.Ltcp1-4\n"
+    ".reloc .Ltcp26+2069,R_X86_64_PLT32,.Ltcp4-4\n"
+    ".reloc .Ltcp26+2181,R_X86_64_PLT32,.Ltcp2-4\n"
     ".reloc .Ltcp26+2277,R_X86_64_PC32,.Ltcp98+12\n"
-    ".reloc .Ltcp26+2293,R_X86_64_PLT32,.Ltcp3-4\n"
+    ".reloc .Ltcp26+2293,R_X86_64_PLT32,.Ltcp4-4\n"
     ".reloc .Ltcp26+2489,R_X86_64_PC32,.Ltcp133-4\n"
-    ".reloc .Ltcp26+2511,R_X86_64_PLT32,.Ltcp3-4\n"
-    ".reloc .Ltcp26+2673,R_X86_64_PLT32,.Ltcp1-4\n"
-    ".reloc .Ltcp26+2777,R_X86_64_PLT32,.Ltcp1-4\n"
-    ".reloc .Ltcp26+2951,R_X86_64_PLT32,.Ltcp1-4\n"
+    ".reloc .Ltcp26+2511,R_X86_64_PLT32,.Ltcp4-4\n"
+    ".reloc .Ltcp26+2673,R_X86_64_PLT32,.Ltcp2-4\n"
+    ".reloc .Ltcp26+2777,R_X86_64_PLT32,.Ltcp2-4\n"
+    ".reloc .Ltcp26+2951,R_X86_64_PLT32,.Ltcp2-4\n"
     ".reloc .Ltcp26+3055,R_X86_64_PC32,.Ltcp134-4\n"
-    ".reloc .Ltcp26+3079,R_X86_64_PLT32,.Ltcp3-4\n"
+    ".reloc .Ltcp26+3079,R_X86_64_PLT32,.Ltcp4-4\n"
     ".reloc .Ltcp26+3337,R_X86_64_PLT32,.Ltcp28-4\n"
-    ".reloc .Ltcp26+3464,R_X86_64_PLT32,.Ltcp1-4\n"
+    ".reloc .Ltcp26+3464,R_X86_64_PLT32,.Ltcp2-4\n"
     ".reloc .Ltcp26+3699,R_X86_64_PLT32,.Ltcp30-4\n"
-    ".reloc .Ltcp26+3951,R_X86_64_PLT32,.Ltcp1-4\n"
+    ".reloc .Ltcp26+3951,R_X86_64_PLT32,.Ltcp2-4\n"
     ".reloc .Ltcp26+4028,R_X86_64_PC32,.Ltcp132-4\n"
-    ".reloc .Ltcp26+4041,R_X86_64_PLT32,.Ltcp3-4\n"
-    ".reloc .Ltcp26+4133,R_X86_64_PLT32,.Ltcp1-4\n"
-    ".reloc .Ltcp26+4245,R_X86_64_PLT32,.Ltcp1-4\n"
+    ".reloc .Ltcp26+4041,R_X86_64_PLT32,.Ltcp4-4\n"
+    ".reloc .Ltcp26+4133,R_X86_64_PLT32,.Ltcp2-4\n"
+    ".reloc .Ltcp26+4245,R_X86_64_PLT32,.Ltcp2-4\n"
     ".reloc .Ltcp26+4363,R_X86_64_PC32,.Ltcp150-4\n"
-    ".reloc .Ltcp26+4384,R_X86_64_PLT32,.Ltcp3-4\n"
+    ".reloc .Ltcp26+4384,R_X86_64_PLT32,.Ltcp4-4\n"
     ".reloc .Ltcp26+4500,R_X86_64_PLT32,.Ltcp28-4\n"
     ".reloc .Ltcp26+4823,R_X86_64_PC32,.Ltcp27-4\n"
     ".reloc .Ltcp26+4895,R_X86_64_PLT32,.Ltcp32-4\n"
     ".reloc .Ltcp26+4983,R_X86_64_PC32,.Ltcp27+12\n"
-    ".reloc .Ltcp26+5096,R_X86_64_PLT32,.Ltcp1-4\n"
+    ".reloc .Ltcp26+5096,R_X86_64_PLT32,.Ltcp2-4\n"
     ".reloc .Ltcp26+5133,R_X86_64_PC32,.Ltcp27+36\n"
     ".reloc .Ltcp26+5408,R_X86_64_PC32,.Ltcp98+20\n"
-    ".reloc .Ltcp26+5429,R_X86_64_PLT32,.Ltcp3-4\n"
+    ".reloc .Ltcp26+5429,R_X86_64_PLT32,.Ltcp4-4\n"
     ".reloc .Ltcp26+5608,R_X86_64_PC32,.Ltcp98+28\n"
-    ".reloc .Ltcp26+5629,R_X86_64_PLT32,.Ltcp3-4\n"
+    ".reloc .Ltcp26+5629,R_X86_64_PLT32,.Ltcp4-4\n"
     ".reloc .Ltcp26+6011,R_X86_64_PC32,.Ltcp98+36\n"
-    ".reloc .Ltcp26+6021,R_X86_64_PLT32,.Ltcp3-4\n"
+    ".reloc .Ltcp26+6021,R_X86_64_PLT32,.Ltcp4-4\n"
     ".reloc .Ltcp26+6274,R_X86_64_PC32,.Ltcp98+32\n"
-    ".reloc .Ltcp26+6293,R_X86_64_PLT32,.Ltcp3-4\n"
+    ".reloc .Ltcp26+6293,R_X86_64_PLT32,.Ltcp4-4\n"
     ".reloc .Ltcp26+6312,R_X86_64_PLT32,.Ltcp31-4\n"
     ".reloc .Ltcp26+6546,R_X86_64_PC32,.Ltcp98+16\n"
-    ".reloc .Ltcp26+6562,R_X86_64_PLT32,.Ltcp3-4\n"
+    ".reloc .Ltcp26+6562,R_X86_64_PLT32,.Ltcp4-4\n"
     ".reloc .Ltcp26+6969,R_X86_64_PLT32,.Ltcp32-4\n"
     ".section .rodata.tcp.27,\"a\",%progbits\n"
     ".balign 4\n"
@@ -5920,37 +5922,37 @@ __asm__(
     ".octa 0x44c748000000001f2444c748fffffb19,0xfffffcf9e9d2310cb640000000001824\n"
     ".reloc .Ltcp28+69,R_X86_64_PC32,.Ltcp29-4\n"
     ".reloc .Ltcp28+136,R_X86_64_PC32,.Ltcp98+20\n"
-    ".reloc .Ltcp28+157,R_X86_64_PLT32,.Ltcp3-4\n"
+    ".reloc .Ltcp28+157,R_X86_64_PLT32,.Ltcp4-4\n"
     ".reloc .Ltcp28+252,R_X86_64_PC32,.Ltcp138-4\n"
-    ".reloc .Ltcp28+273,R_X86_64_PLT32,.Ltcp3-4\n"
+    ".reloc .Ltcp28+273,R_X86_64_PLT32,.Ltcp4-4\n"
     ".reloc .Ltcp28+368,R_X86_64_PC32,.Ltcp137-4\n"
-    ".reloc .Ltcp28+387,R_X86_64_PLT32,.Ltcp3-4\n"
+    ".reloc .Ltcp28+387,R_X86_64_PLT32,.Ltcp4-4\n"
     ".reloc .Ltcp28+460,R_X86_64_PC32,.Ltcp139-4\n"
-    ".reloc .Ltcp28+476,R_X86_64_PLT32,.Ltcp3-4\n"
+    ".reloc .Ltcp28+476,R_X86_64_PLT32,.Ltcp4-4\n"
     ".reloc .Ltcp28+573,R_X86_64_PC32,.Ltcp140-4\n"
-    ".reloc .Ltcp28+594,R_X86_64_PLT32,.Ltcp3-4\n"
+    ".reloc .Ltcp28+594,R_X86_64_PLT32,.Ltcp4-4\n"
     ".reloc .Ltcp28+668,R_X86_64_PC32,.Ltcp147-4\n"
-    ".reloc .Ltcp28+684,R_X86_64_PLT32,.Ltcp3-4\n"
+    ".reloc .Ltcp28+684,R_X86_64_PLT32,.Ltcp4-4\n"
     ".reloc .Ltcp28+754,R_X86_64_PC32,.Ltcp98+24\n"
-    ".reloc .Ltcp28+770,R_X86_64_PLT32,.Ltcp3-4\n"
+    ".reloc .Ltcp28+770,R_X86_64_PLT32,.Ltcp4-4\n"
     ".reloc .Ltcp28+832,R_X86_64_PC32,.Ltcp141-4\n"
-    ".reloc .Ltcp28+853,R_X86_64_PLT32,.Ltcp3-4\n"
+    ".reloc .Ltcp28+853,R_X86_64_PLT32,.Ltcp4-4\n"
     ".reloc .Ltcp28+920,R_X86_64_PC32,.Ltcp143-4\n"
-    ".reloc .Ltcp28+936,R_X86_64_PLT32,.Ltcp3-4\n"
+    ".reloc .Ltcp28+936,R_X86_64_PLT32,.Ltcp4-4\n"
     ".reloc .Ltcp28+1086,R_X86_64_PC32,.Ltcp146-4\n"
-    ".reloc .Ltcp28+1102,R_X86_64_PLT32,.Ltcp3-4\n"
-    ".reloc .Ltcp28+1187,R_X86_64_PLT32,.Ltcp1-4\n"
-    ".reloc .Ltcp28+1439,R_X86_64_PLT32,.Ltcp1-4\n"
+    ".reloc .Ltcp28+1102,R_X86_64_PLT32,.Ltcp4-4\n"
+    ".reloc .Ltcp28+1187,R_X86_64_PLT32,.Ltcp2-4\n"
+    ".reloc .Ltcp28+1439,R_X86_64_PLT32,.Ltcp2-4\n"
     ".reloc .Ltcp28+1648,R_X86_64_PC32,.Ltcp29+12\n"
-    ".reloc .Ltcp28+1762,R_X86_64_PLT32,.Ltcp1-4\n"
-    ".reloc .Ltcp28+2287,R_X86_64_PLT32,.Ltcp1-4\n"
+    ".reloc .Ltcp28+1762,R_X86_64_PLT32,.Ltcp2-4\n"
+    ".reloc .Ltcp28+2287,R_X86_64_PLT32,.Ltcp2-4\n"
     ".reloc .Ltcp28+2372,R_X86_64_PC32,.Ltcp118+20\n"
-    ".reloc .Ltcp28+2385,R_X86_64_PLT32,.Ltcp3-4\n"
+    ".reloc .Ltcp28+2385,R_X86_64_PLT32,.Ltcp4-4\n"
     ".reloc .Ltcp28+2542,R_X86_64_PLT32,.Ltcp7-4\n"
     ".reloc .Ltcp28+2835,R_X86_64_PC32,.Ltcp148-4\n"
-    ".reloc .Ltcp28+2848,R_X86_64_PLT32,.Ltcp3-4\n"
+    ".reloc .Ltcp28+2848,R_X86_64_PLT32,.Ltcp4-4\n"
     ".reloc .Ltcp28+2890,R_X86_64_PC32,.Ltcp149-4\n"
-    ".reloc .Ltcp28+2903,R_X86_64_PLT32,.Ltcp3-4\n"
+    ".reloc .Ltcp28+2903,R_X86_64_PLT32,.Ltcp4-4\n"
     ".section .rodata.tcp.29,\"a\",%progbits\n"
     ".balign 4\n"
     ".Ltcp29:\n"
@@ -7419,7 +7421,7 @@ __asm__(
     ".octa 0xe075fb394cfcc78349f0fe4c110f43fe,0x90000000ffc18149d0294d1c74d33945,0x75c1394dc8ff49c014894ef8c0548b4e\n"
     ".octa 0x8948f0148948ca0948d28920e1c148ef,0x415b08477f0ff30000000005d40f6607\n"
     ".long 0xc35f415e\n"
-    ".reloc .Ltcp59+693,R_X86_64_PC32,.Ltcp6+604\n"
+    ".reloc .Ltcp59+693,R_X86_64_PC32,.Ltcp0+668\n"
     ".section .text.tcp.60,\"ax\",%progbits\n"
     ".balign 16\n"
     ".Ltcp60:\n"
@@ -7504,11 +7506,11 @@ __asm__(
     ".quad 0x10247c8b48f63145\n"
     ".long 0xffff73e9\n"
     ".byte 0xff\n"
-    ".reloc .Ltcp62+340,R_X86_64_PC32,.Ltcp6+620\n"
+    ".reloc .Ltcp62+340,R_X86_64_PC32,.Ltcp0+684\n"
     ".reloc .Ltcp62+612,R_X86_64_PLT32,.Ltcp63-4\n"
     ".reloc .Ltcp62+897,R_X86_64_PC32,.Ltcp101-4\n"
     ".reloc .Ltcp62+909,R_X86_64_PLT32,.Ltcp64-4\n"
-    ".reloc .Ltcp62+1093,R_X86_64_PC32,.Ltcp6+620\n"
+    ".reloc .Ltcp62+1093,R_X86_64_PC32,.Ltcp0+684\n"
     ".reloc .Ltcp62+1660,R_X86_64_PLT32,.Ltcp63-4\n"
     ".reloc .Ltcp62+2106,R_X86_64_PLT32,.Ltcp65-4\n"
     ".section .text.tcp.63,\"ax\",%progbits\n"
@@ -8275,11 +8277,11 @@ __asm__(
     ".quad 0xfff892e9fffffd44\n"
     ".byte 0xff\n"
     ".reloc .Ltcp88+158,R_X86_64_PLT32,.Ltcp91-4\n"
-    ".reloc .Ltcp88+200,R_X86_64_PC32,.Ltcp6+716\n"
-    ".reloc .Ltcp88+223,R_X86_64_PC32,.Ltcp6+652\n"
+    ".reloc .Ltcp88+200,R_X86_64_PC32,.Ltcp0+780\n"
+    ".reloc .Ltcp88+223,R_X86_64_PC32,.Ltcp0+716\n"
     ".reloc .Ltcp88+317,R_X86_64_PLT32,.Ltcp91-4\n"
     ".reloc .Ltcp88+364,R_X86_64_PC32,.Ltcp172-4\n"
-    ".reloc .Ltcp88+422,R_X86_64_PC32,.Ltcp6+716\n"
+    ".reloc .Ltcp88+422,R_X86_64_PC32,.Ltcp0+780\n"
     ".reloc .Ltcp88+664,R_X86_64_PC32,.Ltcp135-4\n"
     ".reloc .Ltcp88+671,R_X86_64_PC32,.Ltcp136-4\n"
     ".reloc .Ltcp88+1006,R_X86_64_PLT32,.Ltcp91-4\n"
@@ -8685,17 +8687,17 @@ __asm__(
     ".quad 0xc031fffffd20850f\n"
     ".long 0xfffb38e9\n"
     ".byte 0xff\n"
-    ".reloc .Ltcp96+361,R_X86_64_PLT32,.Ltcp0-4\n"
-    ".reloc .Ltcp96+582,R_X86_64_PLT32,.Ltcp1-4\n"
-    ".reloc .Ltcp96+693,R_X86_64_PLT32,.Ltcp1-4\n"
-    ".reloc .Ltcp96+762,R_X86_64_PLT32,.Ltcp4-4\n"
-    ".reloc .Ltcp96+802,R_X86_64_PLT32,.Ltcp4-4\n"
+    ".reloc .Ltcp96+361,R_X86_64_PLT32,.Ltcp1-4\n"
+    ".reloc .Ltcp96+582,R_X86_64_PLT32,.Ltcp2-4\n"
+    ".reloc .Ltcp96+693,R_X86_64_PLT32,.Ltcp2-4\n"
+    ".reloc .Ltcp96+762,R_X86_64_PLT32,.Ltcp5-4\n"
+    ".reloc .Ltcp96+802,R_X86_64_PLT32,.Ltcp5-4\n"
     ".reloc .Ltcp96+846,R_X86_64_PLT32,.Ltcp7-4\n"
     ".reloc .Ltcp96+905,R_X86_64_PC32,.Ltcp103-4\n"
     ".reloc .Ltcp96+1013,R_X86_64_PLT32,.Ltcp11-4\n"
     ".reloc .Ltcp96+1164,R_X86_64_PLT32,.Ltcp14-4\n"
-    ".reloc .Ltcp96+1267,R_X86_64_PLT32,.Ltcp0-4\n"
-    ".reloc .Ltcp96+1352,R_X86_64_PLT32,.Ltcp1-4\n"
+    ".reloc .Ltcp96+1267,R_X86_64_PLT32,.Ltcp1-4\n"
+    ".reloc .Ltcp96+1352,R_X86_64_PLT32,.Ltcp2-4\n"
     ".reloc .Ltcp96+1372,R_X86_64_PC32,.Ltcp103-4\n"
     ".reloc .Ltcp96+1385,R_X86_64_PLT32,.Ltcp12-4\n"
     ".reloc .Ltcp96+1447,R_X86_64_PLT32,.Ltcp25-4\n"
@@ -9281,9 +9283,25 @@ __asm__(
     ".octa 0x10000000000000000,0x676465202d2074786e202d20616e7520,0x20656e696c203134203a74696b706374\n"
     ".octa 0x29312e33202c33393239204346522820,0x29342e33202c33393239204346522820,0x66656463626139383736353433323130\n"
     ".octa 0x20656e696c203134203a74696b706374\n"
-    ".section .text.tcp.1,\"ax\",%progbits\n"
-    ".balign 4\n"
+    ".section .rodata.tcp.1,\"a\",%progbits\n"
+    ".balign 8\n"
     ".Ltcp1:\n"
+    ".octa 0x6764656c776f6e6b6361203a65746f6e,0x6b636f6c6220646e612073746e656d65,0x2c64656764756a2074276e6572612073\n"
+    ".octa 0x616d20656d6163207461687720736120,0x73696d200000000065622079,0x656e696c00000000676e6973\n"
+    ".octa 0x322e322000000000202c3831,0x2e33202c697469736f70206f,0x656d676573206f6e0000000029322e33\n"
+    ".octa 0x2065747900000000203a746e,0x6f72657a20746f6e20736920,0x676e6f72772073696574796220746120\n"
+    ".octa 0x3220747361656c20000000006e6f7277,0x736e6f6974706f200000000079622030,0x6b63656843646142657366664f646142\n"
+    ".octa 0x6b636173000000004c6f6f54,0x65737365636f72700100000a80000000,0x67616c6600000000706f7264\n"
+    ".octa 0x657479620000000068746f6e,0x656d726f666c616d000000006b6f6f74,0x74786e2000000000616e7520\n"
+    ".octa 0x202d207478656e200000000067646520,0x78656e2000000000696d696c,0x736e617274657220000000006d696c20\n"
+    ".octa 0x726564726f657220000000002074696d,0x203a74696b706374696177656d697420,0x657470656363612000000000666e6f63\n"
+    ".octa 0x657361656c657220726576696c656420,0x6e6573206465726564726f20,0x656b72616d6e752000000000646e6520\n"
+    ".octa 0x61746f74000000006c656820,0x20776f646e6977206d726f666c616d20,0x322074696b706374332074696b706374\n"
+    ".octa 0x544e45532d4e595374696177656d6974,0x20746165706572204b43412d5453414c,0x20746867696c66202064657565757120\n"
+    ".quad 0x20646165726e7520\n"
+    ".section .text.tcp.2,\"ax\",%progbits\n"
+    ".balign 4\n"
+    ".Ltcp2:\n"
     ".type \"kit_text::lines::LinesIterator::next\",%function\n"
     ".size \"kit_text::lines::LinesIterator::next\",668\n"
     "\"kit_text::lines::LinesIterator::next\":\n"
@@ -9304,10 +9322,10 @@ __asm__(
     ".inst 0x3940012d,0x71008dbf,0x54ffef40,0x14000012,0xa94027e8,0xf9400be0,0xf85f83a1,0xaa1f03ea,0x5280002b,0xaa1f03e2\n"
     ".inst 0xf9400c2d,0xa9007c3f,0x910005ac,0xa901303f,0xb5fffe48,0x17ffff6d,0x6f00e400,0xad000000,0xa9427bfd,0x9100c3ff\n"
     ".inst 0xd65f03c0,0x5280002a,0xa9012009,0xa900300a,0xa9427bfd,0x9100c3ff,0xd65f03c0\n"
-    ".reloc .Ltcp1+496,R_AARCH64_CALL26,.Ltcp2+0\n"
-    ".section .text.tcp.2,\"ax\",%progbits\n"
+    ".reloc .Ltcp2+496,R_AARCH64_CALL26,.Ltcp3+0\n"
+    ".section .text.tcp.3,\"ax\",%progbits\n"
     ".balign 4\n"
-    ".Ltcp2:\n"
+    ".Ltcp3:\n"
     ".type \"kit_text::cutting::first_far\",%function\n"
     ".size \"kit_text::cutting::first_far\",152\n"
     "\"kit_text::cutting::first_far\":\n"
@@ -9315,10 +9333,10 @@ __asm__(
     ".inst 0x6e30a821,0x1e26002b,0x370000ab,0xd100414a,0x91004108,0xf1003d5f,0x54ffff08,0xeb03011f,0x540000e2,0x3868682a\n"
     ".inst 0x6b20015f,0x540001c0,0x91000508,0xeb08007f,0x54ffff61,0xeb09005f,0x540000c9,0xa9bf7bfd,0x910003fd,0x94000000\n"
     ".inst 0xa8c17bfd,0xd65f03c0,0x2a1f03e0,0xaa1f03e1,0xd65f03c0,0x52800020,0xaa0803e1,0xd65f03c0\n"
-    ".reloc .Ltcp2+116,R_AARCH64_CALL26,.Ltcp3+0\n"
-    ".section .text.tcp.3,\"ax\",%progbits\n"
+    ".reloc .Ltcp3+116,R_AARCH64_CALL26,.Ltcp4+0\n"
+    ".section .text.tcp.4,\"ax\",%progbits\n"
     ".balign 4\n"
-    ".Ltcp3:\n"
+    ".Ltcp4:\n"
     ".type \"kit_text::cutting::first_farther\",%function\n"
     ".size \"kit_text::cutting::first_farther\",272\n"
     "\"kit_text::cutting::first_farther\":\n"
@@ -9329,11 +9347,11 @@ __asm__(
     ".inst 0xf100fd1f,0x54fffb68,0xf100411f,0x54000163,0xcb030048,0x3ce36821,0x6e208c21,0x6e30a821,0x1e260029,0x370000a9\n"
     ".inst 0xd1004108,0x91004063,0xf1003d1f,0x54ffff08,0xeb02007f,0x540000e2,0x38636828,0x6b20011f,0x540000e0,0x91000463\n"
     ".inst 0xeb03005f,0x54ffff61,0x2a1f03e0,0xaa1f03e1,0xd65f03c0,0x52800020,0xaa0303e1,0xd65f03c0\n"
-    ".reloc .Ltcp3+20,R_AARCH64_ADR_PREL_PG_HI21,.Ltcp0+16\n"
-    ".reloc .Ltcp3+28,R_AARCH64_LDST128_ABS_LO12_NC,.Ltcp0+16\n"
-    ".section .text.tcp.4,\"ax\",%progbits\n"
+    ".reloc .Ltcp4+20,R_AARCH64_ADR_PREL_PG_HI21,.Ltcp0+16\n"
+    ".reloc .Ltcp4+28,R_AARCH64_LDST128_ABS_LO12_NC,.Ltcp0+16\n"
+    ".section .text.tcp.5,\"ax\",%progbits\n"
     ".balign 4\n"
-    ".Ltcp4:\n"
+    ".Ltcp5:\n"
     ".type \"core::cmp::slices::groups_equal::<i8,31'core::cmp::numbers::U8PartialEq{}>\",%function\n"
     ".size \"core::cmp::slices::groups_equal::<i8,31'core::cmp::numbers::U8PartialEq{}>\",544\n"
     "\"core::cmp::slices::groups_equal::<i8,31'core::cmp::numbers::U8PartialEq{}>\":\n"
@@ -9351,11 +9369,11 @@ __asm__(
     ".inst 0x1e26000d,0x2a0c01ac,0x72003d9f,0x540000a1,0xd100814a,0xf100815f,0x54fffd62,0x14000006,0xf1007d5f,0x54000089\n"
     ".inst 0x52800028,0x52000100,0xd65f03c0,0x8b080009,0x8b080048,0xad400d00,0xad400921,0x6e208c20,0x6e238c41,0x6e205800\n"
     ".inst 0x4ee11c00,0x6e30a800,0x1e260008,0x12000108,0x52000100,0xd65f03c0\n"
-    ".reloc .Ltcp4+388,R_AARCH64_ADR_PREL_PG_HI21,.Ltcp0+32\n"
-    ".reloc .Ltcp4+400,R_AARCH64_LDST128_ABS_LO12_NC,.Ltcp0+32\n"
-    ".section .text.tcp.5,\"ax\",%progbits\n"
+    ".reloc .Ltcp5+388,R_AARCH64_ADR_PREL_PG_HI21,.Ltcp0+32\n"
+    ".reloc .Ltcp5+400,R_AARCH64_LDST128_ABS_LO12_NC,.Ltcp0+32\n"
+    ".section .text.tcp.6,\"ax\",%progbits\n"
     ".balign 4\n"
-    ".Ltcp5:\n"
+    ".Ltcp6:\n"
     ".type \"kit_text::addresses::read_addr\",%function\n"
     ".size \"kit_text::addresses::read_addr\",716\n"
     "\"kit_text::addresses::read_addr\":\n"
@@ -9377,16 +9395,16 @@ __asm__(
     ".inst 0x39000369,0x2a016108,0x33181e88,0x2a1a0108,0xb8001368,0x17ffffa9,0xaa1903e8,0xaa0303e9,0x3840150a,0x7100b95f\n"
     ".inst 0x54fff440,0xf1000529,0x54ffff81,0xf100471f,0x54fff8e3,0xaa0003fa,0x528005c0,0xaa0103fb,0xaa1903e1,0xaa1803e2\n"
     ".inst 0x94000000,0xaa1b03e1,0x2a0003e8,0xaa1a03e0,0x3707f288,0x17ffffbc,0x3900037f,0xb800137f,0x17ffff92\n"
-    ".reloc .Ltcp5+96,R_AARCH64_CALL26,.Ltcp2+0\n"
-    ".reloc .Ltcp5+212,R_AARCH64_CALL26,.Ltcp2+0\n"
-    ".reloc .Ltcp5+372,R_AARCH64_CALL26,.Ltcp2+0\n"
-    ".reloc .Ltcp5+544,R_AARCH64_CALL26,.Ltcp6+0\n"
-    ".reloc .Ltcp5+564,R_AARCH64_CALL26,.Ltcp6+0\n"
-    ".reloc .Ltcp5+584,R_AARCH64_CALL26,.Ltcp6+0\n"
-    ".reloc .Ltcp5+680,R_AARCH64_CALL26,.Ltcp2+0\n"
-    ".section .text.tcp.6,\"ax\",%progbits\n"
+    ".reloc .Ltcp6+96,R_AARCH64_CALL26,.Ltcp3+0\n"
+    ".reloc .Ltcp6+212,R_AARCH64_CALL26,.Ltcp3+0\n"
+    ".reloc .Ltcp6+372,R_AARCH64_CALL26,.Ltcp3+0\n"
+    ".reloc .Ltcp6+544,R_AARCH64_CALL26,.Ltcp7+0\n"
+    ".reloc .Ltcp6+564,R_AARCH64_CALL26,.Ltcp7+0\n"
+    ".reloc .Ltcp6+584,R_AARCH64_CALL26,.Ltcp7+0\n"
+    ".reloc .Ltcp6+680,R_AARCH64_CALL26,.Ltcp3+0\n"
+    ".section .text.tcp.7,\"ax\",%progbits\n"
     ".balign 4\n"
-    ".Ltcp6:\n"
+    ".Ltcp7:\n"
     ".type \"kit_text::addresses::read_octet\",%function\n"
     ".size \"kit_text::addresses::read_octet\",172\n"
     "\"kit_text::addresses::read_octet\":\n"
@@ -9395,9 +9413,9 @@ __asm__(
     ".inst 0x7100253f,0x2a0803e9,0x54fffe48,0x8b0a0948,0x92401d69,0xd37ff908,0xab08013f,0x54fffd62,0xf1000421,0x8b09010a\n"
     ".inst 0x54fffdc1,0xf104015f,0x52802008,0x9a883149,0x1a9f27e8,0x1a9f3129,0x2a0803e0,0x2a0903e1,0xd65f03c0,0x2a0803e9\n"
     ".inst 0x2a0803e0,0x2a0903e1,0xd65f03c0\n"
-    ".section .text.tcp.7,\"ax\",%progbits\n"
+    ".section .text.tcp.8,\"ax\",%progbits\n"
     ".balign 4\n"
-    ".Ltcp7:\n"
+    ".Ltcp8:\n"
     ".type \"kit_text::bytes::read_bytes::<#244039bd4e0652a3>\",%function\n"
     ".size \"kit_text::bytes::read_bytes::<#244039bd4e0652a3>\",724\n"
     "\"kit_text::bytes::read_bytes::<#244039bd4e0652a3>\":\n"
@@ -9421,11 +9439,11 @@ __asm__(
     ".inst 0xaa1403e9,0x54000201,0x7900001f,0xa900a413,0xf9000c14,0x17ffff6b,0x6f00e400,0x52800028,0x79000008,0x3c808000\n"
     ".inst 0x3c818000,0xa9444ff4,0xf9400bf9,0xa94357f6,0xa9425ff8,0xa8c57bfd,0xd65f03c0,0x8b0a026a,0x8b0b0042,0xaa1403e9\n"
     ".inst 0x17ffff82\n"
-    ".reloc .Ltcp7+448,R_AARCH64_ADR_PREL_PG_HI21,.Ltcp0+48\n"
-    ".reloc .Ltcp7+520,R_AARCH64_LDST128_ABS_LO12_NC,.Ltcp0+48\n"
-    ".section .text.tcp.8,\"ax\",%progbits\n"
+    ".reloc .Ltcp8+448,R_AARCH64_ADR_PREL_PG_HI21,.Ltcp0+48\n"
+    ".reloc .Ltcp8+520,R_AARCH64_LDST128_ABS_LO12_NC,.Ltcp0+48\n"
+    ".section .text.tcp.9,\"ax\",%progbits\n"
     ".balign 4\n"
-    ".Ltcp8:\n"
+    ".Ltcp9:\n"
     ".type \"tcp_numbers::sums::long_sum\",%function\n"
     ".size \"tcp_numbers::sums::long_sum\",408\n"
     "\"tcp_numbers::sums::long_sum\":\n"
@@ -9440,9 +9458,9 @@ __asm__(
     ".inst 0xaa0a03e1,0xdac00d29,0x12003d2b,0xd360fd2c,0x8b49c16b,0xb494169,0xb2c2129,0xf100114b,0x54fffce2,0x2a1f03ea\n"
     ".inst 0x1e26000b,0xf100082d,0x54fffd62,0xb0b0129,0xb1f014a,0xf100043f,0xb0a0129,0x54000061,0x3940000a,0xb0a2129\n"
     ".inst 0xb080120,0xd65f03c0\n"
-    ".section .text.tcp.9,\"ax\",%progbits\n"
+    ".section .text.tcp.10,\"ax\",%progbits\n"
     ".balign 4\n"
-    ".Ltcp9:\n"
+    ".Ltcp10:\n"
     ".type \"tcp_wire::options_left::OptionsLeft::next\",%function\n"
     ".size \"tcp_wire::options_left::OptionsLeft::next\",592\n"
     "\"tcp_wire::options_left::OptionsLeft::next\":\n"
@@ -9461,20 +9479,6 @@ __asm__(
     ".inst 0x5280002f,0x5ac005ce,0x14000015,0xb40000cd,0x2a1f03ee,0xa9027fff,0x528000af,0xf9001bff,0x17ffff91,0xaa1f03e9\n"
     ".inst 0x2a1f03ec,0x2a1f03ee,0x5280006f,0x1400000a,0xaa1f03ed,0xaa1f03e9,0xf94043ef,0x3dc01fe0,0x2a1f03ec,0x2a1f03ee\n"
     ".inst 0xf9002bef,0x5280008f,0x3d8013e0,0x3dc013e0,0xf9402bf0,0x3d800be0,0xf9001bf0,0x17ffff7e\n"
-    ".section .rodata.tcp.10,\"a\",%progbits\n"
-    ".balign 8\n"
-    ".Ltcp10:\n"
-    ".octa 0x202c383100000000656e696c,0x697469736f70206f00000000322e3220,0x29322e33000000002e33202c\n"
-    ".octa 0x203a746e656d676573206f6e,0x20746f6e207369200000000020657479,0x6574796220746120000000006f72657a\n"
-    ".octa 0x6e6f7277676e6f7277207369,0x796220303220747361656c20,0x657366664f646142736e6f6974706f20\n"
-    ".octa 0x4c6f6f546b63656843646142,0x100000a80000000000000006b636173,0x706f726465737365636f7270\n"
-    ".octa 0x68746f6e0000000067616c66,0x6b6f6f740000000065747962,0x616e7520656d726f666c616d\n"
-    ".octa 0x676465200000000074786e20,0x696d696c202d207478656e20,0x6d696c200000000078656e20\n"
-    ".octa 0x2074696d736e617274657220,0x696177656d697420726564726f657220,0x666e6f63203a74696b706374\n"
-    ".octa 0x726576696c6564206574706563636120,0x6465726564726f20657361656c657220,0x646e6520000000006e657320\n"
-    ".octa 0x6c656820656b72616d6e7520,0x6d726f666c616d200000000061746f74,0x332074696b70637420776f646e697720\n"
-    ".octa 0x74696177656d6974322074696b706374,0x4b43412d5453414c544e45532d4e5953,0x20646575657571202074616570657220\n"
-    ".octa 0x20646165726e752020746867696c6620\n"
     ".section .text.tcp.11,\"ax\",%progbits\n"
     ".balign 4\n"
     ".Ltcp11:\n"
@@ -9707,25 +9711,25 @@ __asm__(
     ".inst 0x12001c08,0xad3c83a1,0xad000261,0x3607cee8,0x1400000a,0x9100c3e0,0x52800021,0x94000000,0x34000060,0xa943a3e9\n"
     ".inst 0x17fffe02,0xad4187e0,0xad3c87a0,0xad000660,0xf9400668,0xb4000174,0xeb08029f,0x54000120,0xeb14011f,0x54ff59a3\n"
     ".inst 0x54ff5989,0xf9400268,0x38f46908,0x3101051f,0x5400008c,0x17fffac7,0xeb14011f,0x54ff58a9,0xf9000674,0x17fffac3\n"
-    ".reloc .Ltcp14+284,R_AARCH64_CALL26,.Ltcp8+0\n"
+    ".reloc .Ltcp14+284,R_AARCH64_CALL26,.Ltcp9+0\n"
     ".reloc .Ltcp14+488,R_AARCH64_ADR_PREL_PG_HI21,.Ltcp118+0\n"
     ".reloc .Ltcp14+492,R_AARCH64_ADD_ABS_LO12_NC,.Ltcp118+0\n"
     ".reloc .Ltcp14+524,R_AARCH64_CALL26,.Ltcp19+0\n"
     ".reloc .Ltcp14+620,R_AARCH64_ADR_PREL_PG_HI21,.Ltcp119+0\n"
     ".reloc .Ltcp14+624,R_AARCH64_ADD_ABS_LO12_NC,.Ltcp119+0\n"
-    ".reloc .Ltcp14+644,R_AARCH64_ADR_PREL_PG_HI21,.Ltcp10+152\n"
-    ".reloc .Ltcp14+652,R_AARCH64_LDST64_ABS_LO12_NC,.Ltcp10+152\n"
+    ".reloc .Ltcp14+644,R_AARCH64_ADR_PREL_PG_HI21,.Ltcp1+240\n"
+    ".reloc .Ltcp14+652,R_AARCH64_LDST64_ABS_LO12_NC,.Ltcp1+240\n"
     ".reloc .Ltcp14+692,R_AARCH64_ADR_PREL_PG_HI21,.Ltcp122+0\n"
     ".reloc .Ltcp14+696,R_AARCH64_ADD_ABS_LO12_NC,.Ltcp122+0\n"
     ".reloc .Ltcp14+728,R_AARCH64_CALL26,.Ltcp22+0\n"
     ".reloc .Ltcp14+852,R_AARCH64_ADR_PREL_PG_HI21,.Ltcp121+0\n"
     ".reloc .Ltcp14+856,R_AARCH64_ADD_ABS_LO12_NC,.Ltcp121+0\n"
-    ".reloc .Ltcp14+876,R_AARCH64_ADR_PREL_PG_HI21,.Ltcp10+136\n"
-    ".reloc .Ltcp14+880,R_AARCH64_LDST64_ABS_LO12_NC,.Ltcp10+136\n"
+    ".reloc .Ltcp14+876,R_AARCH64_ADR_PREL_PG_HI21,.Ltcp1+224\n"
+    ".reloc .Ltcp14+880,R_AARCH64_LDST64_ABS_LO12_NC,.Ltcp1+224\n"
     ".reloc .Ltcp14+912,R_AARCH64_ADR_PREL_PG_HI21,.Ltcp120+0\n"
     ".reloc .Ltcp14+916,R_AARCH64_ADD_ABS_LO12_NC,.Ltcp120+0\n"
-    ".reloc .Ltcp14+936,R_AARCH64_ADR_PREL_PG_HI21,.Ltcp10+144\n"
-    ".reloc .Ltcp14+944,R_AARCH64_LDST64_ABS_LO12_NC,.Ltcp10+144\n"
+    ".reloc .Ltcp14+936,R_AARCH64_ADR_PREL_PG_HI21,.Ltcp1+232\n"
+    ".reloc .Ltcp14+944,R_AARCH64_LDST64_ABS_LO12_NC,.Ltcp1+232\n"
     ".reloc .Ltcp14+968,R_AARCH64_ADR_PREL_PG_HI21,.Ltcp123+0\n"
     ".reloc .Ltcp14+972,R_AARCH64_ADD_ABS_LO12_NC,.Ltcp123+0\n"
     ".reloc .Ltcp14+1004,R_AARCH64_CALL26,.Ltcp22+0\n"
@@ -9775,11 +9779,11 @@ __asm__(
     ".reloc .Ltcp14+4168,R_AARCH64_CALL26,.Ltcp15+0\n"
     ".reloc .Ltcp14+4812,R_AARCH64_ADR_PREL_PG_HI21,.Ltcp113+0\n"
     ".reloc .Ltcp14+4816,R_AARCH64_ADD_ABS_LO12_NC,.Ltcp113+0\n"
-    ".reloc .Ltcp14+4844,R_AARCH64_ADR_PREL_PG_HI21,.Ltcp10+128\n"
-    ".reloc .Ltcp14+4848,R_AARCH64_LDST64_ABS_LO12_NC,.Ltcp10+128\n"
-    ".reloc .Ltcp14+4944,R_AARCH64_CALL26,.Ltcp9+0\n"
+    ".reloc .Ltcp14+4844,R_AARCH64_ADR_PREL_PG_HI21,.Ltcp1+216\n"
+    ".reloc .Ltcp14+4848,R_AARCH64_LDST64_ABS_LO12_NC,.Ltcp1+216\n"
+    ".reloc .Ltcp14+4944,R_AARCH64_CALL26,.Ltcp10+0\n"
     ".reloc .Ltcp14+5000,R_AARCH64_CALL26,.Ltcp18+0\n"
-    ".reloc .Ltcp14+5032,R_AARCH64_CALL26,.Ltcp9+0\n"
+    ".reloc .Ltcp14+5032,R_AARCH64_CALL26,.Ltcp10+0\n"
     ".reloc .Ltcp14+5116,R_AARCH64_CALL26,.Ltcp18+0\n"
     ".reloc .Ltcp14+5140,R_AARCH64_CALL26,.Ltcp15+0\n"
     ".reloc .Ltcp14+5524,R_AARCH64_CALL26,.Ltcp21+0\n"
@@ -9910,15 +9914,15 @@ __asm__(
     ".inst 0x94000000,0x2a0003e8,0x52800020,0x34ffed88,0xa940a26a,0xf9400269,0x17ffff63,0x2a1603e0,0x17ffff67\n"
     ".reloc .Ltcp18+360,R_AARCH64_ADR_PREL_PG_HI21,.Ltcp117+0\n"
     ".reloc .Ltcp18+364,R_AARCH64_ADD_ABS_LO12_NC,.Ltcp117+0\n"
-    ".reloc .Ltcp18+388,R_AARCH64_ADR_PREL_PG_HI21,.Ltcp10+160\n"
-    ".reloc .Ltcp18+392,R_AARCH64_LDST64_ABS_LO12_NC,.Ltcp10+160\n"
+    ".reloc .Ltcp18+388,R_AARCH64_ADR_PREL_PG_HI21,.Ltcp1+248\n"
+    ".reloc .Ltcp18+392,R_AARCH64_LDST64_ABS_LO12_NC,.Ltcp1+248\n"
     ".reloc .Ltcp18+436,R_AARCH64_CALL26,.Ltcp20+0\n"
     ".reloc .Ltcp18+476,R_AARCH64_ADR_PREL_PG_HI21,.Ltcp114+0\n"
     ".reloc .Ltcp18+480,R_AARCH64_ADD_ABS_LO12_NC,.Ltcp114+0\n"
     ".reloc .Ltcp18+544,R_AARCH64_ADR_PREL_PG_HI21,.Ltcp116+0\n"
     ".reloc .Ltcp18+548,R_AARCH64_ADD_ABS_LO12_NC,.Ltcp116+0\n"
-    ".reloc .Ltcp18+572,R_AARCH64_ADR_PREL_PG_HI21,.Ltcp10+160\n"
-    ".reloc .Ltcp18+576,R_AARCH64_LDST64_ABS_LO12_NC,.Ltcp10+160\n"
+    ".reloc .Ltcp18+572,R_AARCH64_ADR_PREL_PG_HI21,.Ltcp1+248\n"
+    ".reloc .Ltcp18+576,R_AARCH64_LDST64_ABS_LO12_NC,.Ltcp1+248\n"
     ".reloc .Ltcp18+596,R_AARCH64_ADR_PREL_PG_HI21,.Ltcp115+0\n"
     ".reloc .Ltcp18+600,R_AARCH64_ADD_ABS_LO12_NC,.Ltcp115+0\n"
     ".reloc .Ltcp18+628,R_AARCH64_CALL26,.Ltcp19+0\n"
@@ -10217,54 +10221,54 @@ __asm__(
     ".inst 0x14000003,0xf94017eb,0xaa1f03e9,0x52800028,0xad4407e0,0xf9400fea,0x3dc02be2,0xa9002548,0xf9405be8,0x3c868140\n"
     ".inst 0x3c878141,0xad4207e0,0x3c888142,0x3dc00fe2,0xf900094b,0x3c828140,0xad430fe0,0x3c838141,0xf9004d48,0x3c848140\n"
     ".inst 0x3c858143,0x3c818142,0x910fc3ff,0xa9454ff4,0xa94457f6,0xa9435ff8,0xa94267fa,0xa9416ffc,0xa8c67bfd,0xd65f03c0\n"
-    ".reloc .Ltcp24+376,R_AARCH64_CALL26,.Ltcp2+0\n"
-    ".reloc .Ltcp24+424,R_AARCH64_ADR_PREL_PG_HI21,.Ltcp10+424\n"
-    ".reloc .Ltcp24+428,R_AARCH64_ADD_ABS_LO12_NC,.Ltcp10+424\n"
-    ".reloc .Ltcp24+452,R_AARCH64_CALL26,.Ltcp4+0\n"
-    ".reloc .Ltcp24+480,R_AARCH64_CALL26,.Ltcp1+0\n"
+    ".reloc .Ltcp24+376,R_AARCH64_CALL26,.Ltcp3+0\n"
+    ".reloc .Ltcp24+424,R_AARCH64_ADR_PREL_PG_HI21,.Ltcp1+512\n"
+    ".reloc .Ltcp24+428,R_AARCH64_ADD_ABS_LO12_NC,.Ltcp1+512\n"
+    ".reloc .Ltcp24+452,R_AARCH64_CALL26,.Ltcp5+0\n"
+    ".reloc .Ltcp24+480,R_AARCH64_CALL26,.Ltcp2+0\n"
     ".reloc .Ltcp24+604,R_AARCH64_ADR_PREL_PG_HI21,.Ltcp0+448\n"
     ".reloc .Ltcp24+612,R_AARCH64_LDST128_ABS_LO12_NC,.Ltcp0+448\n"
-    ".reloc .Ltcp24+684,R_AARCH64_CALL26,.Ltcp2+0\n"
-    ".reloc .Ltcp24+728,R_AARCH64_ADR_PREL_PG_HI21,.Ltcp10+432\n"
-    ".reloc .Ltcp24+732,R_AARCH64_ADD_ABS_LO12_NC,.Ltcp10+432\n"
-    ".reloc .Ltcp24+748,R_AARCH64_CALL26,.Ltcp4+0\n"
-    ".reloc .Ltcp24+764,R_AARCH64_CALL26,.Ltcp1+0\n"
-    ".reloc .Ltcp24+872,R_AARCH64_ADR_PREL_PG_HI21,.Ltcp10+168\n"
-    ".reloc .Ltcp24+880,R_AARCH64_LDST64_ABS_LO12_NC,.Ltcp10+168\n"
-    ".reloc .Ltcp24+1104,R_AARCH64_CALL26,.Ltcp1+0\n"
-    ".reloc .Ltcp24+1324,R_AARCH64_CALL26,.Ltcp2+0\n"
+    ".reloc .Ltcp24+684,R_AARCH64_CALL26,.Ltcp3+0\n"
+    ".reloc .Ltcp24+728,R_AARCH64_ADR_PREL_PG_HI21,.Ltcp1+520\n"
+    ".reloc .Ltcp24+732,R_AARCH64_ADD_ABS_LO12_NC,.Ltcp1+520\n"
+    ".reloc .Ltcp24+748,R_AARCH64_CALL26,.Ltcp5+0\n"
+    ".reloc .Ltcp24+764,R_AARCH64_CALL26,.Ltcp2+0\n"
+    ".reloc .Ltcp24+872,R_AARCH64_ADR_PREL_PG_HI21,.Ltcp1+256\n"
+    ".reloc .Ltcp24+880,R_AARCH64_LDST64_ABS_LO12_NC,.Ltcp1+256\n"
+    ".reloc .Ltcp24+1104,R_AARCH64_CALL26,.Ltcp2+0\n"
+    ".reloc .Ltcp24+1324,R_AARCH64_CALL26,.Ltcp3+0\n"
     ".reloc .Ltcp24+1404,R_AARCH64_ADR_PREL_PG_HI21,.Ltcp126+0\n"
     ".reloc .Ltcp24+1408,R_AARCH64_ADD_ABS_LO12_NC,.Ltcp126+0\n"
-    ".reloc .Ltcp24+1424,R_AARCH64_CALL26,.Ltcp4+0\n"
-    ".reloc .Ltcp24+1508,R_AARCH64_CALL26,.Ltcp2+0\n"
+    ".reloc .Ltcp24+1424,R_AARCH64_CALL26,.Ltcp5+0\n"
+    ".reloc .Ltcp24+1508,R_AARCH64_CALL26,.Ltcp3+0\n"
     ".reloc .Ltcp24+1584,R_AARCH64_ADR_PREL_PG_HI21,.Ltcp92+16\n"
     ".reloc .Ltcp24+1588,R_AARCH64_ADD_ABS_LO12_NC,.Ltcp92+16\n"
-    ".reloc .Ltcp24+1600,R_AARCH64_CALL26,.Ltcp4+0\n"
+    ".reloc .Ltcp24+1600,R_AARCH64_CALL26,.Ltcp5+0\n"
     ".reloc .Ltcp24+1760,R_AARCH64_ADR_PREL_PG_HI21,.Ltcp127+0\n"
     ".reloc .Ltcp24+1764,R_AARCH64_ADD_ABS_LO12_NC,.Ltcp127+0\n"
-    ".reloc .Ltcp24+1780,R_AARCH64_CALL26,.Ltcp4+0\n"
-    ".reloc .Ltcp24+1888,R_AARCH64_CALL26,.Ltcp2+0\n"
-    ".reloc .Ltcp24+1980,R_AARCH64_CALL26,.Ltcp2+0\n"
-    ".reloc .Ltcp24+2140,R_AARCH64_CALL26,.Ltcp2+0\n"
+    ".reloc .Ltcp24+1780,R_AARCH64_CALL26,.Ltcp5+0\n"
+    ".reloc .Ltcp24+1888,R_AARCH64_CALL26,.Ltcp3+0\n"
+    ".reloc .Ltcp24+1980,R_AARCH64_CALL26,.Ltcp3+0\n"
+    ".reloc .Ltcp24+2140,R_AARCH64_CALL26,.Ltcp3+0\n"
     ".reloc .Ltcp24+2200,R_AARCH64_ADR_PREL_PG_HI21,.Ltcp126+0\n"
     ".reloc .Ltcp24+2204,R_AARCH64_ADD_ABS_LO12_NC,.Ltcp126+0\n"
-    ".reloc .Ltcp24+2220,R_AARCH64_CALL26,.Ltcp4+0\n"
-    ".reloc .Ltcp24+2304,R_AARCH64_CALL26,.Ltcp2+0\n"
+    ".reloc .Ltcp24+2220,R_AARCH64_CALL26,.Ltcp5+0\n"
+    ".reloc .Ltcp24+2304,R_AARCH64_CALL26,.Ltcp3+0\n"
     ".reloc .Ltcp24+2456,R_AARCH64_CALL26,.Ltcp25+0\n"
     ".reloc .Ltcp24+2812,R_AARCH64_CALL26,.Ltcp29+0\n"
-    ".reloc .Ltcp24+3004,R_AARCH64_CALL26,.Ltcp2+0\n"
-    ".reloc .Ltcp24+3268,R_AARCH64_CALL26,.Ltcp2+0\n"
+    ".reloc .Ltcp24+3004,R_AARCH64_CALL26,.Ltcp3+0\n"
+    ".reloc .Ltcp24+3268,R_AARCH64_CALL26,.Ltcp3+0\n"
     ".reloc .Ltcp24+3340,R_AARCH64_ADR_PREL_PG_HI21,.Ltcp128+0\n"
     ".reloc .Ltcp24+3344,R_AARCH64_ADD_ABS_LO12_NC,.Ltcp128+0\n"
-    ".reloc .Ltcp24+3364,R_AARCH64_CALL26,.Ltcp4+0\n"
+    ".reloc .Ltcp24+3364,R_AARCH64_CALL26,.Ltcp5+0\n"
     ".reloc .Ltcp24+3564,R_AARCH64_CALL26,.Ltcp25+0\n"
-    ".reloc .Ltcp24+3656,R_AARCH64_CALL26,.Ltcp2+0\n"
-    ".reloc .Ltcp24+3732,R_AARCH64_CALL26,.Ltcp2+0\n"
+    ".reloc .Ltcp24+3656,R_AARCH64_CALL26,.Ltcp3+0\n"
+    ".reloc .Ltcp24+3732,R_AARCH64_CALL26,.Ltcp3+0\n"
     ".reloc .Ltcp24+3800,R_AARCH64_CALL26,.Ltcp27+0\n"
     ".reloc .Ltcp24+3900,R_AARCH64_CALL26,.Ltcp26+0\n"
     ".reloc .Ltcp24+4176,R_AARCH64_ADR_PREL_PG_HI21,.Ltcp92+20\n"
     ".reloc .Ltcp24+4180,R_AARCH64_ADD_ABS_LO12_NC,.Ltcp92+20\n"
-    ".reloc .Ltcp24+4200,R_AARCH64_CALL26,.Ltcp4+0\n"
+    ".reloc .Ltcp24+4200,R_AARCH64_CALL26,.Ltcp5+0\n"
     ".reloc .Ltcp24+4660,R_AARCH64_CALL26,.Ltcp29+0\n"
     ".section .text.tcp.25,\"ax\",%progbits\n"
     ".balign 4\n"
@@ -10345,48 +10349,48 @@ __asm__(
     ".inst 0xf81f03bf,0xf85f03af,0xf85f73b0,0xf9000bef,0xf80173f0,0xf9400bef,0xf84173f0,0xf90003ef,0xf80073f0,0x17fffe55\n"
     ".reloc .Ltcp25+124,R_AARCH64_ADR_PREL_PG_HI21,.Ltcp134+0\n"
     ".reloc .Ltcp25+128,R_AARCH64_ADD_ABS_LO12_NC,.Ltcp134+0\n"
-    ".reloc .Ltcp25+140,R_AARCH64_CALL26,.Ltcp4+0\n"
+    ".reloc .Ltcp25+140,R_AARCH64_CALL26,.Ltcp5+0\n"
     ".reloc .Ltcp25+232,R_AARCH64_ADR_PREL_PG_HI21,.Ltcp131+0\n"
     ".reloc .Ltcp25+236,R_AARCH64_ADD_ABS_LO12_NC,.Ltcp131+0\n"
-    ".reloc .Ltcp25+248,R_AARCH64_CALL26,.Ltcp4+0\n"
+    ".reloc .Ltcp25+248,R_AARCH64_CALL26,.Ltcp5+0\n"
     ".reloc .Ltcp25+324,R_AARCH64_ADR_PREL_PG_HI21,.Ltcp92+24\n"
     ".reloc .Ltcp25+328,R_AARCH64_ADD_ABS_LO12_NC,.Ltcp92+24\n"
-    ".reloc .Ltcp25+340,R_AARCH64_CALL26,.Ltcp4+0\n"
+    ".reloc .Ltcp25+340,R_AARCH64_CALL26,.Ltcp5+0\n"
     ".reloc .Ltcp25+416,R_AARCH64_ADR_PREL_PG_HI21,.Ltcp132+0\n"
     ".reloc .Ltcp25+420,R_AARCH64_ADD_ABS_LO12_NC,.Ltcp132+0\n"
-    ".reloc .Ltcp25+432,R_AARCH64_CALL26,.Ltcp4+0\n"
+    ".reloc .Ltcp25+432,R_AARCH64_CALL26,.Ltcp5+0\n"
     ".reloc .Ltcp25+492,R_AARCH64_ADR_PREL_PG_HI21,.Ltcp133+0\n"
     ".reloc .Ltcp25+496,R_AARCH64_ADD_ABS_LO12_NC,.Ltcp133+0\n"
-    ".reloc .Ltcp25+508,R_AARCH64_CALL26,.Ltcp4+0\n"
+    ".reloc .Ltcp25+508,R_AARCH64_CALL26,.Ltcp5+0\n"
     ".reloc .Ltcp25+568,R_AARCH64_ADR_PREL_PG_HI21,.Ltcp92+28\n"
     ".reloc .Ltcp25+572,R_AARCH64_ADD_ABS_LO12_NC,.Ltcp92+28\n"
-    ".reloc .Ltcp25+584,R_AARCH64_CALL26,.Ltcp4+0\n"
+    ".reloc .Ltcp25+584,R_AARCH64_CALL26,.Ltcp5+0\n"
     ".reloc .Ltcp25+644,R_AARCH64_ADR_PREL_PG_HI21,.Ltcp141+0\n"
     ".reloc .Ltcp25+648,R_AARCH64_ADD_ABS_LO12_NC,.Ltcp141+0\n"
-    ".reloc .Ltcp25+660,R_AARCH64_CALL26,.Ltcp4+0\n"
+    ".reloc .Ltcp25+660,R_AARCH64_CALL26,.Ltcp5+0\n"
     ".reloc .Ltcp25+720,R_AARCH64_ADR_PREL_PG_HI21,.Ltcp135+0\n"
     ".reloc .Ltcp25+724,R_AARCH64_ADD_ABS_LO12_NC,.Ltcp135+0\n"
-    ".reloc .Ltcp25+736,R_AARCH64_CALL26,.Ltcp4+0\n"
+    ".reloc .Ltcp25+736,R_AARCH64_CALL26,.Ltcp5+0\n"
     ".reloc .Ltcp25+796,R_AARCH64_ADR_PREL_PG_HI21,.Ltcp137+0\n"
     ".reloc .Ltcp25+800,R_AARCH64_ADD_ABS_LO12_NC,.Ltcp137+0\n"
-    ".reloc .Ltcp25+812,R_AARCH64_CALL26,.Ltcp4+0\n"
+    ".reloc .Ltcp25+812,R_AARCH64_CALL26,.Ltcp5+0\n"
     ".reloc .Ltcp25+872,R_AARCH64_ADR_PREL_PG_HI21,.Ltcp140+0\n"
     ".reloc .Ltcp25+876,R_AARCH64_ADD_ABS_LO12_NC,.Ltcp140+0\n"
-    ".reloc .Ltcp25+888,R_AARCH64_CALL26,.Ltcp4+0\n"
-    ".reloc .Ltcp25+1028,R_AARCH64_CALL26,.Ltcp2+0\n"
-    ".reloc .Ltcp25+1276,R_AARCH64_CALL26,.Ltcp2+0\n"
-    ".reloc .Ltcp25+1560,R_AARCH64_ADR_PREL_PG_HI21,.Ltcp10+440\n"
-    ".reloc .Ltcp25+1564,R_AARCH64_ADD_ABS_LO12_NC,.Ltcp10+440\n"
-    ".reloc .Ltcp25+1576,R_AARCH64_CALL26,.Ltcp4+0\n"
-    ".reloc .Ltcp25+1672,R_AARCH64_CALL26,.Ltcp2+0\n"
-    ".reloc .Ltcp25+2112,R_AARCH64_CALL26,.Ltcp7+0\n"
-    ".reloc .Ltcp25+2284,R_AARCH64_CALL26,.Ltcp2+0\n"
+    ".reloc .Ltcp25+888,R_AARCH64_CALL26,.Ltcp5+0\n"
+    ".reloc .Ltcp25+1028,R_AARCH64_CALL26,.Ltcp3+0\n"
+    ".reloc .Ltcp25+1276,R_AARCH64_CALL26,.Ltcp3+0\n"
+    ".reloc .Ltcp25+1560,R_AARCH64_ADR_PREL_PG_HI21,.Ltcp1+528\n"
+    ".reloc .Ltcp25+1564,R_AARCH64_ADD_ABS_LO12_NC,.Ltcp1+528\n"
+    ".reloc .Ltcp25+1576,R_AARCH64_CALL26,.Ltcp5+0\n"
+    ".reloc .Ltcp25+1672,R_AARCH64_CALL26,.Ltcp3+0\n"
+    ".reloc .Ltcp25+2112,R_AARCH64_CALL26,.Ltcp8+0\n"
+    ".reloc .Ltcp25+2284,R_AARCH64_CALL26,.Ltcp3+0\n"
     ".reloc .Ltcp25+2640,R_AARCH64_ADR_PREL_PG_HI21,.Ltcp142+0\n"
     ".reloc .Ltcp25+2644,R_AARCH64_ADD_ABS_LO12_NC,.Ltcp142+0\n"
-    ".reloc .Ltcp25+2656,R_AARCH64_CALL26,.Ltcp4+0\n"
+    ".reloc .Ltcp25+2656,R_AARCH64_CALL26,.Ltcp5+0\n"
     ".reloc .Ltcp25+2712,R_AARCH64_ADR_PREL_PG_HI21,.Ltcp143+0\n"
     ".reloc .Ltcp25+2716,R_AARCH64_ADD_ABS_LO12_NC,.Ltcp143+0\n"
-    ".reloc .Ltcp25+2732,R_AARCH64_CALL26,.Ltcp4+0\n"
+    ".reloc .Ltcp25+2732,R_AARCH64_CALL26,.Ltcp5+0\n"
     ".section .text.tcp.26,\"ax\",%progbits\n"
     ".balign 4\n"
     ".Ltcp26:\n"
@@ -10439,19 +10443,19 @@ __asm__(
     ".inst 0xd65f03c0,0xa9007e7f,0xf9000a7f,0xa9424ff4,0xf9400bf5,0xa8c37bfd,0xd65f03c0\n"
     ".reloc .Ltcp27+60,R_AARCH64_ADR_PREL_PG_HI21,.Ltcp144+0\n"
     ".reloc .Ltcp27+64,R_AARCH64_ADD_ABS_LO12_NC,.Ltcp144+0\n"
-    ".reloc .Ltcp27+92,R_AARCH64_CALL26,.Ltcp4+0\n"
+    ".reloc .Ltcp27+92,R_AARCH64_CALL26,.Ltcp5+0\n"
     ".reloc .Ltcp27+156,R_AARCH64_ADR_PREL_PG_HI21,.Ltcp92+40\n"
     ".reloc .Ltcp27+160,R_AARCH64_ADD_ABS_LO12_NC,.Ltcp92+40\n"
-    ".reloc .Ltcp27+172,R_AARCH64_CALL26,.Ltcp4+0\n"
+    ".reloc .Ltcp27+172,R_AARCH64_CALL26,.Ltcp5+0\n"
     ".reloc .Ltcp27+256,R_AARCH64_ADR_PREL_PG_HI21,.Ltcp92+24\n"
     ".reloc .Ltcp27+260,R_AARCH64_ADD_ABS_LO12_NC,.Ltcp92+24\n"
-    ".reloc .Ltcp27+288,R_AARCH64_CALL26,.Ltcp4+0\n"
+    ".reloc .Ltcp27+288,R_AARCH64_CALL26,.Ltcp5+0\n"
     ".reloc .Ltcp27+812,R_AARCH64_ADR_PREL_PG_HI21,.Ltcp92+32\n"
     ".reloc .Ltcp27+816,R_AARCH64_ADD_ABS_LO12_NC,.Ltcp92+32\n"
-    ".reloc .Ltcp27+844,R_AARCH64_CALL26,.Ltcp4+0\n"
+    ".reloc .Ltcp27+844,R_AARCH64_CALL26,.Ltcp5+0\n"
     ".reloc .Ltcp27+1036,R_AARCH64_ADR_PREL_PG_HI21,.Ltcp92+36\n"
     ".reloc .Ltcp27+1040,R_AARCH64_ADD_ABS_LO12_NC,.Ltcp92+36\n"
-    ".reloc .Ltcp27+1068,R_AARCH64_CALL26,.Ltcp4+0\n"
+    ".reloc .Ltcp27+1068,R_AARCH64_CALL26,.Ltcp5+0\n"
     ".reloc .Ltcp27+1092,R_AARCH64_CALL26,.Ltcp28+0\n"
     ".section .text.tcp.28,\"ax\",%progbits\n"
     ".balign 4\n"
@@ -10734,8 +10738,8 @@ __asm__(
     ".inst 0x54ff7469,0xf9400268,0xf94013e9,0x38e96908,0x3101051f,0x540000ac,0x17fffb9d,0xf94013e9,0xeb09011f,0x54ff7349\n"
     ".inst 0xf94013e8,0xf9000368,0x17fffb97\n"
     ".reloc .Ltcp31+316,R_AARCH64_CALL26,.Ltcp32+0\n"
-    ".reloc .Ltcp31+596,R_AARCH64_ADR_PREL_PG_HI21,.Ltcp10+464\n"
-    ".reloc .Ltcp31+600,R_AARCH64_ADD_ABS_LO12_NC,.Ltcp10+464\n"
+    ".reloc .Ltcp31+596,R_AARCH64_ADR_PREL_PG_HI21,.Ltcp1+552\n"
+    ".reloc .Ltcp31+600,R_AARCH64_ADD_ABS_LO12_NC,.Ltcp1+552\n"
     ".reloc .Ltcp31+628,R_AARCH64_ADR_PREL_PG_HI21,.Ltcp97+0\n"
     ".reloc .Ltcp31+632,R_AARCH64_ADD_ABS_LO12_NC,.Ltcp97+0\n"
     ".reloc .Ltcp31+692,R_AARCH64_CALL26,.Ltcp72+0\n"
@@ -10747,8 +10751,8 @@ __asm__(
     ".reloc .Ltcp31+1160,R_AARCH64_CALL26,.Ltcp67+0\n"
     ".reloc .Ltcp31+1228,R_AARCH64_ADR_PREL_PG_HI21,.Ltcp146+0\n"
     ".reloc .Ltcp31+1232,R_AARCH64_ADD_ABS_LO12_NC,.Ltcp146+0\n"
-    ".reloc .Ltcp31+1360,R_AARCH64_ADR_PREL_PG_HI21,.Ltcp10+216\n"
-    ".reloc .Ltcp31+1364,R_AARCH64_LDST64_ABS_LO12_NC,.Ltcp10+216\n"
+    ".reloc .Ltcp31+1360,R_AARCH64_ADR_PREL_PG_HI21,.Ltcp1+304\n"
+    ".reloc .Ltcp31+1364,R_AARCH64_LDST64_ABS_LO12_NC,.Ltcp1+304\n"
     ".reloc .Ltcp31+1428,R_AARCH64_ADR_PREL_PG_HI21,.Ltcp146+0\n"
     ".reloc .Ltcp31+1432,R_AARCH64_ADD_ABS_LO12_NC,.Ltcp146+0\n"
     ".reloc .Ltcp31+1448,R_AARCH64_CALL26,.Ltcp69+0\n"
@@ -10757,8 +10761,8 @@ __asm__(
     ".reloc .Ltcp31+1572,R_AARCH64_ADR_PREL_PG_HI21,.Ltcp165+0\n"
     ".reloc .Ltcp31+1576,R_AARCH64_ADD_ABS_LO12_NC,.Ltcp165+0\n"
     ".reloc .Ltcp31+1616,R_AARCH64_CALL26,.Ltcp80+0\n"
-    ".reloc .Ltcp31+1632,R_AARCH64_ADR_PREL_PG_HI21,.Ltcp10+464\n"
-    ".reloc .Ltcp31+1636,R_AARCH64_ADD_ABS_LO12_NC,.Ltcp10+464\n"
+    ".reloc .Ltcp31+1632,R_AARCH64_ADR_PREL_PG_HI21,.Ltcp1+552\n"
+    ".reloc .Ltcp31+1636,R_AARCH64_ADD_ABS_LO12_NC,.Ltcp1+552\n"
     ".reloc .Ltcp31+1648,R_AARCH64_CALL26,.Ltcp70+0\n"
     ".reloc .Ltcp31+1672,R_AARCH64_CALL26,.Ltcp77+0\n"
     ".reloc .Ltcp31+1720,R_AARCH64_CALL26,.Ltcp72+0\n"
@@ -10781,19 +10785,19 @@ __asm__(
     ".reloc .Ltcp31+2104,R_AARCH64_CALL26,.Ltcp77+0\n"
     ".reloc .Ltcp31+2176,R_AARCH64_ADR_PREL_PG_HI21,.Ltcp153+0\n"
     ".reloc .Ltcp31+2180,R_AARCH64_ADD_ABS_LO12_NC,.Ltcp153+0\n"
-    ".reloc .Ltcp31+2200,R_AARCH64_ADR_PREL_PG_HI21,.Ltcp10+184\n"
-    ".reloc .Ltcp31+2208,R_AARCH64_LDST64_ABS_LO12_NC,.Ltcp10+184\n"
+    ".reloc .Ltcp31+2200,R_AARCH64_ADR_PREL_PG_HI21,.Ltcp1+272\n"
+    ".reloc .Ltcp31+2208,R_AARCH64_LDST64_ABS_LO12_NC,.Ltcp1+272\n"
     ".reloc .Ltcp31+2252,R_AARCH64_ADR_PREL_PG_HI21,.Ltcp145+0\n"
     ".reloc .Ltcp31+2256,R_AARCH64_ADD_ABS_LO12_NC,.Ltcp145+0\n"
     ".reloc .Ltcp31+2332,R_AARCH64_ADR_PREL_PG_HI21,.Ltcp148+0\n"
     ".reloc .Ltcp31+2336,R_AARCH64_ADD_ABS_LO12_NC,.Ltcp148+0\n"
-    ".reloc .Ltcp31+2356,R_AARCH64_ADR_PREL_PG_HI21,.Ltcp10+200\n"
-    ".reloc .Ltcp31+2364,R_AARCH64_LDST64_ABS_LO12_NC,.Ltcp10+200\n"
+    ".reloc .Ltcp31+2356,R_AARCH64_ADR_PREL_PG_HI21,.Ltcp1+288\n"
+    ".reloc .Ltcp31+2364,R_AARCH64_LDST64_ABS_LO12_NC,.Ltcp1+288\n"
     ".reloc .Ltcp31+2396,R_AARCH64_CALL26,.Ltcp77+0\n"
     ".reloc .Ltcp31+2468,R_AARCH64_ADR_PREL_PG_HI21,.Ltcp154+0\n"
     ".reloc .Ltcp31+2472,R_AARCH64_ADD_ABS_LO12_NC,.Ltcp154+0\n"
-    ".reloc .Ltcp31+2492,R_AARCH64_ADR_PREL_PG_HI21,.Ltcp10+176\n"
-    ".reloc .Ltcp31+2496,R_AARCH64_LDST64_ABS_LO12_NC,.Ltcp10+176\n"
+    ".reloc .Ltcp31+2492,R_AARCH64_ADR_PREL_PG_HI21,.Ltcp1+264\n"
+    ".reloc .Ltcp31+2496,R_AARCH64_LDST64_ABS_LO12_NC,.Ltcp1+264\n"
     ".reloc .Ltcp31+2536,R_AARCH64_ADR_PREL_PG_HI21,.Ltcp180+0\n"
     ".reloc .Ltcp31+2540,R_AARCH64_ADD_ABS_LO12_NC,.Ltcp180+0\n"
     ".reloc .Ltcp31+2556,R_AARCH64_ADR_PREL_PG_HI21,.Ltcp181+0\n"
@@ -10803,8 +10807,8 @@ __asm__(
     ".reloc .Ltcp31+2660,R_AARCH64_ADD_ABS_LO12_NC,.Ltcp149+0\n"
     ".reloc .Ltcp31+2712,R_AARCH64_ADR_PREL_PG_HI21,.Ltcp147+0\n"
     ".reloc .Ltcp31+2716,R_AARCH64_ADD_ABS_LO12_NC,.Ltcp147+0\n"
-    ".reloc .Ltcp31+2736,R_AARCH64_ADR_PREL_PG_HI21,.Ltcp10+208\n"
-    ".reloc .Ltcp31+2740,R_AARCH64_LDST64_ABS_LO12_NC,.Ltcp10+208\n"
+    ".reloc .Ltcp31+2736,R_AARCH64_ADR_PREL_PG_HI21,.Ltcp1+296\n"
+    ".reloc .Ltcp31+2740,R_AARCH64_LDST64_ABS_LO12_NC,.Ltcp1+296\n"
     ".reloc .Ltcp31+2860,R_AARCH64_ADR_PREL_PG_HI21,.Ltcp180+0\n"
     ".reloc .Ltcp31+2864,R_AARCH64_ADD_ABS_LO12_NC,.Ltcp180+0\n"
     ".reloc .Ltcp31+2884,R_AARCH64_ADR_PREL_PG_HI21,.Ltcp181+0\n"
@@ -10818,7 +10822,7 @@ __asm__(
     ".reloc .Ltcp31+3500,R_AARCH64_CALL26,.Ltcp77+0\n"
     ".reloc .Ltcp31+3604,R_AARCH64_CALL26,.Ltcp78+0\n"
     ".reloc .Ltcp31+3632,R_AARCH64_CALL26,.Ltcp77+0\n"
-    ".reloc .Ltcp31+3656,R_AARCH64_CALL26,.Ltcp8+0\n"
+    ".reloc .Ltcp31+3656,R_AARCH64_CALL26,.Ltcp9+0\n"
     ".reloc .Ltcp31+3672,R_AARCH64_CALL26,.Ltcp77+0\n"
     ".reloc .Ltcp31+3700,R_AARCH64_CALL26,.Ltcp77+0\n"
     ".reloc .Ltcp31+3728,R_AARCH64_CALL26,.Ltcp77+0\n"
@@ -10827,8 +10831,8 @@ __asm__(
     ".reloc .Ltcp31+4096,R_AARCH64_CALL26,.Ltcp77+0\n"
     ".reloc .Ltcp31+4292,R_AARCH64_ADR_PREL_PG_HI21,.Ltcp152+0\n"
     ".reloc .Ltcp31+4296,R_AARCH64_ADD_ABS_LO12_NC,.Ltcp152+0\n"
-    ".reloc .Ltcp31+4324,R_AARCH64_ADR_PREL_PG_HI21,.Ltcp10+192\n"
-    ".reloc .Ltcp31+4328,R_AARCH64_LDST64_ABS_LO12_NC,.Ltcp10+192\n"
+    ".reloc .Ltcp31+4324,R_AARCH64_ADR_PREL_PG_HI21,.Ltcp1+280\n"
+    ".reloc .Ltcp31+4328,R_AARCH64_LDST64_ABS_LO12_NC,.Ltcp1+280\n"
     ".reloc .Ltcp31+4376,R_AARCH64_ADR_PREL_PG_HI21,.Ltcp100+0\n"
     ".reloc .Ltcp31+4380,R_AARCH64_ADD_ABS_LO12_NC,.Ltcp100+0\n"
     ".reloc .Ltcp31+4424,R_AARCH64_ADR_PREL_PG_HI21,.Ltcp104+0\n"
@@ -10865,7 +10869,7 @@ __asm__(
     ".reloc .Ltcp31+5476,R_AARCH64_CALL26,.Ltcp77+0\n"
     ".reloc .Ltcp31+5600,R_AARCH64_ADR_PREL_PG_HI21,.Ltcp98+0\n"
     ".reloc .Ltcp31+5604,R_AARCH64_ADD_ABS_LO12_NC,.Ltcp98+0\n"
-    ".reloc .Ltcp31+6936,R_AARCH64_CALL26,.Ltcp9+0\n"
+    ".reloc .Ltcp31+6936,R_AARCH64_CALL26,.Ltcp10+0\n"
     ".reloc .Ltcp31+6980,R_AARCH64_CALL26,.Ltcp74+0\n"
     ".reloc .Ltcp31+7052,R_AARCH64_CALL26,.Ltcp74+0\n"
     ".reloc .Ltcp31+7088,R_AARCH64_CALL26,.Ltcp77+0\n"
@@ -11347,7 +11351,7 @@ __asm__(
     ".inst 0xaa1403e0,0x9ba97d09,0xd36ffd29,0x4b094129,0x2b090108,0x2a2803e8,0x5ac00908,0x53107d08,0x1a8803e8,0x79002268\n"
     ".inst 0x9109c3ff,0xa9444ff4,0xf9400bfc,0xa94357f6,0xa9425ff8,0xa8c57bfd,0xd65f03c0\n"
     ".reloc .Ltcp43+480,R_AARCH64_CALL26,.Ltcp42+0\n"
-    ".reloc .Ltcp43+684,R_AARCH64_CALL26,.Ltcp8+0\n"
+    ".reloc .Ltcp43+684,R_AARCH64_CALL26,.Ltcp9+0\n"
     ".section .text.tcp.44,\"ax\",%progbits\n"
     ".balign 4\n"
     ".Ltcp44:\n"
@@ -11423,7 +11427,7 @@ __asm__(
     ".inst 0x54ffeda0,0xb4ffea8a,0xeb0d017f,0xaa0903ea,0x8b0b012e,0x9a8d316f,0x927df0a9,0xcb0f01ce,0x8b0a018f,0xcb09014a\n"
     ".inst 0x8b0e010e,0x8b0f026f,0xfc4085c0,0xb100214a,0xfc0085e0,0x54ffffa1,0xeb0900bf,0x54ffeb80,0x17ffff43\n"
     ".reloc .Ltcp45+1044,R_AARCH64_CALL26,.Ltcp42+0\n"
-    ".reloc .Ltcp45+1248,R_AARCH64_CALL26,.Ltcp8+0\n"
+    ".reloc .Ltcp45+1248,R_AARCH64_CALL26,.Ltcp9+0\n"
     ".reloc .Ltcp45+1528,R_AARCH64_CALL26,.Ltcp44+0\n"
     ".section .text.tcp.46,\"ax\",%progbits\n"
     ".balign 4\n"
@@ -11491,11 +11495,11 @@ __asm__(
     ".inst 0x33187ee9,0xb566129,0xb4a4129,0xb15028a,0xb13014a,0xa9454ff4,0xb0b0129,0xb18014a,0xb4c4129,0xb080148\n"
     ".inst 0xa94457f6,0xb080128,0x52900029,0x11001908,0x72b00009,0x9ba97d09,0xa9435ff8,0xd36ffd29,0x4b094129,0x2b090108\n"
     ".inst 0x5a8803e0,0xa8c67bfd,0xd65f03c0\n"
-    ".reloc .Ltcp47+232,R_AARCH64_CALL26,.Ltcp8+0\n"
-    ".reloc .Ltcp47+692,R_AARCH64_CALL26,.Ltcp8+0\n"
-    ".reloc .Ltcp47+712,R_AARCH64_CALL26,.Ltcp8+0\n"
-    ".reloc .Ltcp47+980,R_AARCH64_CALL26,.Ltcp8+0\n"
-    ".reloc .Ltcp47+1348,R_AARCH64_CALL26,.Ltcp8+0\n"
+    ".reloc .Ltcp47+232,R_AARCH64_CALL26,.Ltcp9+0\n"
+    ".reloc .Ltcp47+692,R_AARCH64_CALL26,.Ltcp9+0\n"
+    ".reloc .Ltcp47+712,R_AARCH64_CALL26,.Ltcp9+0\n"
+    ".reloc .Ltcp47+980,R_AARCH64_CALL26,.Ltcp9+0\n"
+    ".reloc .Ltcp47+1348,R_AARCH64_CALL26,.Ltcp9+0\n"
     ".section .text.tcp.48,\"ax\",%progbits\n"
     ".balign 4\n"
     ".Ltcp48:\n"
@@ -11552,7 +11556,7 @@ __asm__(
     ".inst 0x17ffff96,0x528001ea,0x910043e3,0xaa0103e0,0x2a0a03e1,0x2a1303e2,0x94000000,0xaa1f03ed,0xaa1f03e8,0x5280004e\n"
     ".inst 0xaa1403e0,0x17fffea4,0xaa0103f3,0x7100023f,0xaa0903e0,0x9a8a4201,0x94000000,0x910043e1,0xaa1303e0,0x94000000\n"
     ".inst 0xaa1303e0,0x94000000,0x910043e1,0xaa1303e0,0x94000000,0x910043e1,0xaa1303e0,0x94000000,0x17ffff7f\n"
-    ".reloc .Ltcp48+308,R_AARCH64_CALL26,.Ltcp8+0\n"
+    ".reloc .Ltcp48+308,R_AARCH64_CALL26,.Ltcp9+0\n"
     ".reloc .Ltcp48+432,R_AARCH64_ADR_PREL_PG_HI21,.Ltcp0+480\n"
     ".reloc .Ltcp48+440,R_AARCH64_LDST128_ABS_LO12_NC,.Ltcp0+480\n"
     ".reloc .Ltcp48+800,R_AARCH64_ADR_PREL_PG_HI21,.Ltcp0+496\n"
@@ -11637,8 +11641,8 @@ __asm__(
     ".inst 0xf1000529,0xf81f8548,0x54ffffc1,0x17ffffa8,0xaa1603fb,0xa941e3f9,0xb9400ff7,0xf9400be8,0xeb1b011f,0x54ffeb29\n"
     ".inst 0xf9404f88,0xeb08037f,0x54ffea23,0xeb1b011f,0x54ffe9e1,0x91022380,0x94000000,0x35ffe980,0x17ffff50,0xa9524ff4\n"
     ".inst 0xa95157f6,0xa9505ff8,0xa94f67fa,0xa94e6ffc,0xa94d7bfd,0x9104c3ff,0xd65f03c0\n"
-    ".reloc .Ltcp52+68,R_AARCH64_CALL26,.Ltcp9+0\n"
-    ".reloc .Ltcp52+100,R_AARCH64_CALL26,.Ltcp9+0\n"
+    ".reloc .Ltcp52+68,R_AARCH64_CALL26,.Ltcp10+0\n"
+    ".reloc .Ltcp52+100,R_AARCH64_CALL26,.Ltcp10+0\n"
     ".reloc .Ltcp52+176,R_AARCH64_CALL26,.Ltcp54+0\n"
     ".reloc .Ltcp52+876,R_AARCH64_CALL26,.Ltcp53+0\n"
     ".section .text.tcp.53,\"ax\",%progbits\n"
@@ -11936,8 +11940,8 @@ __asm__(
     ".inst 0x7101011f,0x1a898108,0x72001f1f,0x52804309,0x1a88012a,0x72001eff,0x12001ec9,0x1a9f07e8,0x7100393f,0x1a8b3129\n"
     ".inst 0x3940828b,0x39408a8c,0x7900026a,0x3900167f,0xf94033f9,0x7100057f,0xa15018a,0x1a9f17eb,0x3900126a,0x6a080168\n"
     ".inst 0xa94857f6,0x1a9f1129,0x39000a68,0x39000e69,0xa9494ff4,0xa9475ff8,0xa9457bfd,0x910283ff,0xd65f03c0\n"
-    ".reloc .Ltcp64+64,R_AARCH64_CALL26,.Ltcp9+0\n"
-    ".reloc .Ltcp64+128,R_AARCH64_CALL26,.Ltcp9+0\n"
+    ".reloc .Ltcp64+64,R_AARCH64_CALL26,.Ltcp10+0\n"
+    ".reloc .Ltcp64+128,R_AARCH64_CALL26,.Ltcp10+0\n"
     ".section .text.tcp.65,\"ax\",%progbits\n"
     ".balign 4\n"
     ".Ltcp65:\n"
@@ -12244,8 +12248,8 @@ __asm__(
     ".inst 0xb5fffc54,0xeb14011f,0x54000049,0xf9000674,0x52800020,0xa9494ff4,0xa9487bfd,0x910283ff,0xd65f03c0\n"
     ".reloc .Ltcp75+88,R_AARCH64_ADR_PREL_PG_HI21,.Ltcp118+0\n"
     ".reloc .Ltcp75+92,R_AARCH64_ADD_ABS_LO12_NC,.Ltcp118+0\n"
-    ".reloc .Ltcp75+116,R_AARCH64_ADR_PREL_PG_HI21,.Ltcp10+224\n"
-    ".reloc .Ltcp75+120,R_AARCH64_LDST64_ABS_LO12_NC,.Ltcp10+224\n"
+    ".reloc .Ltcp75+116,R_AARCH64_ADR_PREL_PG_HI21,.Ltcp1+312\n"
+    ".reloc .Ltcp75+120,R_AARCH64_LDST64_ABS_LO12_NC,.Ltcp1+312\n"
     ".reloc .Ltcp75+168,R_AARCH64_CALL26,.Ltcp73+0\n"
     ".reloc .Ltcp75+288,R_AARCH64_CALL26,.Ltcp77+0\n"
     ".section .text.tcp.76,\"ax\",%progbits\n"
@@ -12433,10 +12437,10 @@ __asm__(
     ".reloc .Ltcp82+268,R_AARCH64_CALL26,.Ltcp85+0\n"
     ".reloc .Ltcp82+280,R_AARCH64_ADR_PREL_PG_HI21,.Ltcp166+0\n"
     ".reloc .Ltcp82+284,R_AARCH64_ADD_ABS_LO12_NC,.Ltcp166+0\n"
-    ".reloc .Ltcp82+312,R_AARCH64_ADR_PREL_PG_HI21,.Ltcp10+320\n"
-    ".reloc .Ltcp82+316,R_AARCH64_ADR_PREL_PG_HI21,.Ltcp10+328\n"
-    ".reloc .Ltcp82+324,R_AARCH64_LDST64_ABS_LO12_NC,.Ltcp10+320\n"
-    ".reloc .Ltcp82+328,R_AARCH64_LDST64_ABS_LO12_NC,.Ltcp10+328\n"
+    ".reloc .Ltcp82+312,R_AARCH64_ADR_PREL_PG_HI21,.Ltcp1+408\n"
+    ".reloc .Ltcp82+316,R_AARCH64_ADR_PREL_PG_HI21,.Ltcp1+416\n"
+    ".reloc .Ltcp82+324,R_AARCH64_LDST64_ABS_LO12_NC,.Ltcp1+408\n"
+    ".reloc .Ltcp82+328,R_AARCH64_LDST64_ABS_LO12_NC,.Ltcp1+416\n"
     ".reloc .Ltcp82+548,R_AARCH64_ADR_PREL_PG_HI21,.Ltcp129+0\n"
     ".reloc .Ltcp82+552,R_AARCH64_ADD_ABS_LO12_NC,.Ltcp129+0\n"
     ".reloc .Ltcp82+560,R_AARCH64_ADR_PREL_PG_HI21,.Ltcp130+0\n"
@@ -12695,26 +12699,26 @@ __asm__(
     ".reloc .Ltcp88+204,R_AARCH64_ADD_ABS_LO12_NC,.Ltcp150+0\n"
     ".reloc .Ltcp88+216,R_AARCH64_ADR_PREL_PG_HI21,.Ltcp176+0\n"
     ".reloc .Ltcp88+220,R_AARCH64_ADD_ABS_LO12_NC,.Ltcp176+0\n"
-    ".reloc .Ltcp88+348,R_AARCH64_ADR_PREL_PG_HI21,.Ltcp10+336\n"
-    ".reloc .Ltcp88+352,R_AARCH64_LDST64_ABS_LO12_NC,.Ltcp10+336\n"
+    ".reloc .Ltcp88+348,R_AARCH64_ADR_PREL_PG_HI21,.Ltcp1+424\n"
+    ".reloc .Ltcp88+352,R_AARCH64_LDST64_ABS_LO12_NC,.Ltcp1+424\n"
     ".reloc .Ltcp88+404,R_AARCH64_CALL26,.Ltcp72+0\n"
-    ".reloc .Ltcp88+492,R_AARCH64_ADR_PREL_PG_HI21,.Ltcp10+344\n"
-    ".reloc .Ltcp88+500,R_AARCH64_LDST64_ABS_LO12_NC,.Ltcp10+344\n"
+    ".reloc .Ltcp88+492,R_AARCH64_ADR_PREL_PG_HI21,.Ltcp1+432\n"
+    ".reloc .Ltcp88+500,R_AARCH64_LDST64_ABS_LO12_NC,.Ltcp1+432\n"
     ".reloc .Ltcp88+532,R_AARCH64_CALL26,.Ltcp77+0\n"
     ".reloc .Ltcp88+548,R_AARCH64_ADR_PREL_PG_HI21,.Ltcp172+0\n"
     ".reloc .Ltcp88+552,R_AARCH64_ADD_ABS_LO12_NC,.Ltcp172+0\n"
     ".reloc .Ltcp88+564,R_AARCH64_CALL26,.Ltcp70+0\n"
     ".reloc .Ltcp88+588,R_AARCH64_CALL26,.Ltcp77+0\n"
     ".reloc .Ltcp88+660,R_AARCH64_CALL26,.Ltcp72+0\n"
-    ".reloc .Ltcp88+744,R_AARCH64_ADR_PREL_PG_HI21,.Ltcp10+352\n"
-    ".reloc .Ltcp88+748,R_AARCH64_LDST64_ABS_LO12_NC,.Ltcp10+352\n"
+    ".reloc .Ltcp88+744,R_AARCH64_ADR_PREL_PG_HI21,.Ltcp1+440\n"
+    ".reloc .Ltcp88+748,R_AARCH64_LDST64_ABS_LO12_NC,.Ltcp1+440\n"
     ".reloc .Ltcp88+768,R_AARCH64_ADR_PREL_PG_HI21,.Ltcp173+0\n"
     ".reloc .Ltcp88+772,R_AARCH64_ADD_ABS_LO12_NC,.Ltcp173+0\n"
     ".reloc .Ltcp88+784,R_AARCH64_CALL26,.Ltcp70+0\n"
     ".reloc .Ltcp88+808,R_AARCH64_CALL26,.Ltcp77+0\n"
     ".reloc .Ltcp88+876,R_AARCH64_CALL26,.Ltcp89+0\n"
-    ".reloc .Ltcp88+960,R_AARCH64_ADR_PREL_PG_HI21,.Ltcp10+360\n"
-    ".reloc .Ltcp88+964,R_AARCH64_LDST64_ABS_LO12_NC,.Ltcp10+360\n"
+    ".reloc .Ltcp88+960,R_AARCH64_ADR_PREL_PG_HI21,.Ltcp1+448\n"
+    ".reloc .Ltcp88+964,R_AARCH64_LDST64_ABS_LO12_NC,.Ltcp1+448\n"
     ".reloc .Ltcp88+984,R_AARCH64_ADR_PREL_PG_HI21,.Ltcp174+0\n"
     ".reloc .Ltcp88+988,R_AARCH64_ADD_ABS_LO12_NC,.Ltcp174+0\n"
     ".reloc .Ltcp88+1000,R_AARCH64_CALL26,.Ltcp70+0\n"
@@ -12722,13 +12726,13 @@ __asm__(
     ".reloc .Ltcp88+1092,R_AARCH64_CALL26,.Ltcp89+0\n"
     ".reloc .Ltcp88+1156,R_AARCH64_ADR_PREL_PG_HI21,.Ltcp175+0\n"
     ".reloc .Ltcp88+1160,R_AARCH64_ADD_ABS_LO12_NC,.Ltcp175+0\n"
-    ".reloc .Ltcp88+1184,R_AARCH64_ADR_PREL_PG_HI21,.Ltcp10+368\n"
-    ".reloc .Ltcp88+1188,R_AARCH64_LDST64_ABS_LO12_NC,.Ltcp10+368\n"
+    ".reloc .Ltcp88+1184,R_AARCH64_ADR_PREL_PG_HI21,.Ltcp1+456\n"
+    ".reloc .Ltcp88+1188,R_AARCH64_LDST64_ABS_LO12_NC,.Ltcp1+456\n"
     ".reloc .Ltcp88+1244,R_AARCH64_CALL26,.Ltcp72+0\n"
     ".reloc .Ltcp88+1424,R_AARCH64_ADR_PREL_PG_HI21,.Ltcp176+0\n"
     ".reloc .Ltcp88+1428,R_AARCH64_ADD_ABS_LO12_NC,.Ltcp176+0\n"
-    ".reloc .Ltcp88+1452,R_AARCH64_ADR_PREL_PG_HI21,.Ltcp10+376\n"
-    ".reloc .Ltcp88+1460,R_AARCH64_LDST64_ABS_LO12_NC,.Ltcp10+376\n"
+    ".reloc .Ltcp88+1452,R_AARCH64_ADR_PREL_PG_HI21,.Ltcp1+464\n"
+    ".reloc .Ltcp88+1460,R_AARCH64_LDST64_ABS_LO12_NC,.Ltcp1+464\n"
     ".reloc .Ltcp88+1632,R_AARCH64_ADR_PREL_PG_HI21,.Ltcp175+0\n"
     ".reloc .Ltcp88+1636,R_AARCH64_ADD_ABS_LO12_NC,.Ltcp175+0\n"
     ".reloc .Ltcp88+1648,R_AARCH64_CALL26,.Ltcp70+0\n"
@@ -12839,18 +12843,18 @@ __asm__(
     ".inst 0x9100816b,0x54ffff61,0xeb08005f,0x540001c0,0xb40001e9,0xaa0803ea,0x927df048,0x8b0a01cb,0xcb080149,0x8b0a002a\n"
     ".inst 0x8b0b01ab,0xfc408540,0xb1002129,0xfc008560,0x54ffffa1,0xeb08005f,0x54000061,0x2a1f03e0,0x17ffff5a,0x8b0801ca\n"
     ".inst 0xcb080049,0x8b080028,0x8b0a01aa,0x3840150b,0x2a1f03e0,0xf1000529,0x3800154b,0x54ffff81,0x17ffff50\n"
-    ".reloc .Ltcp90+260,R_AARCH64_CALL26,.Ltcp1+0\n"
-    ".reloc .Ltcp90+392,R_AARCH64_CALL26,.Ltcp2+0\n"
-    ".reloc .Ltcp90+492,R_AARCH64_CALL26,.Ltcp2+0\n"
-    ".reloc .Ltcp90+548,R_AARCH64_CALL26,.Ltcp5+0\n"
-    ".reloc .Ltcp90+580,R_AARCH64_CALL26,.Ltcp5+0\n"
-    ".reloc .Ltcp90+616,R_AARCH64_CALL26,.Ltcp7+0\n"
+    ".reloc .Ltcp90+260,R_AARCH64_CALL26,.Ltcp2+0\n"
+    ".reloc .Ltcp90+392,R_AARCH64_CALL26,.Ltcp3+0\n"
+    ".reloc .Ltcp90+492,R_AARCH64_CALL26,.Ltcp3+0\n"
+    ".reloc .Ltcp90+548,R_AARCH64_CALL26,.Ltcp6+0\n"
+    ".reloc .Ltcp90+580,R_AARCH64_CALL26,.Ltcp6+0\n"
+    ".reloc .Ltcp90+616,R_AARCH64_CALL26,.Ltcp8+0\n"
     ".reloc .Ltcp90+640,R_AARCH64_ADR_PREL_PG_HI21,.Ltcp97+0\n"
     ".reloc .Ltcp90+644,R_AARCH64_ADD_ABS_LO12_NC,.Ltcp97+0\n"
     ".reloc .Ltcp90+704,R_AARCH64_CALL26,.Ltcp11+0\n"
     ".reloc .Ltcp90+800,R_AARCH64_CALL26,.Ltcp14+0\n"
-    ".reloc .Ltcp90+868,R_AARCH64_CALL26,.Ltcp1+0\n"
-    ".reloc .Ltcp90+936,R_AARCH64_CALL26,.Ltcp2+0\n"
+    ".reloc .Ltcp90+868,R_AARCH64_CALL26,.Ltcp2+0\n"
+    ".reloc .Ltcp90+936,R_AARCH64_CALL26,.Ltcp3+0\n"
     ".reloc .Ltcp90+948,R_AARCH64_ADR_PREL_PG_HI21,.Ltcp97+0\n"
     ".reloc .Ltcp90+952,R_AARCH64_ADD_ABS_LO12_NC,.Ltcp97+0\n"
     ".reloc .Ltcp90+964,R_AARCH64_CALL26,.Ltcp12+0\n"
@@ -12862,12 +12866,12 @@ __asm__(
     ".reloc .Ltcp90+1080,R_AARCH64_ADD_ABS_LO12_NC,.Ltcp125+0\n"
     ".reloc .Ltcp90+1104,R_AARCH64_ADR_PREL_PG_HI21,.Ltcp94+0\n"
     ".reloc .Ltcp90+1108,R_AARCH64_ADD_ABS_LO12_NC,.Ltcp94+0\n"
-    ".reloc .Ltcp90+1192,R_AARCH64_ADR_PREL_PG_HI21,.Ltcp10+400\n"
-    ".reloc .Ltcp90+1196,R_AARCH64_LDST64_ABS_LO12_NC,.Ltcp10+400\n"
+    ".reloc .Ltcp90+1192,R_AARCH64_ADR_PREL_PG_HI21,.Ltcp1+488\n"
+    ".reloc .Ltcp90+1196,R_AARCH64_LDST64_ABS_LO12_NC,.Ltcp1+488\n"
     ".reloc .Ltcp90+1224,R_AARCH64_CALL26,.Ltcp11+0\n"
     ".reloc .Ltcp90+1336,R_AARCH64_CALL26,.Ltcp11+0\n"
-    ".reloc .Ltcp90+1424,R_AARCH64_ADR_PREL_PG_HI21,.Ltcp10+408\n"
-    ".reloc .Ltcp90+1432,R_AARCH64_LDST64_ABS_LO12_NC,.Ltcp10+408\n"
+    ".reloc .Ltcp90+1424,R_AARCH64_ADR_PREL_PG_HI21,.Ltcp1+496\n"
+    ".reloc .Ltcp90+1432,R_AARCH64_LDST64_ABS_LO12_NC,.Ltcp1+496\n"
     ".reloc .Ltcp90+1464,R_AARCH64_CALL26,.Ltcp23+0\n"
     ".reloc .Ltcp90+1756,R_AARCH64_ADR_PREL_PG_HI21,.Ltcp125+0\n"
     ".reloc .Ltcp90+1760,R_AARCH64_ADD_ABS_LO12_NC,.Ltcp125+0\n"
@@ -13384,7 +13388,7 @@ __asm__(
     ".quad 0x0\n"
     ".reloc .Ltcp179+0,R_AARCH64_ABS64,.Ltcp142+0\n"
     ".reloc .Ltcp179+8,R_AARCH64_ABS64,.Ltcp143+0\n"
-    ".reloc .Ltcp179+16,R_AARCH64_ABS64,.Ltcp10+440\n"
+    ".reloc .Ltcp179+16,R_AARCH64_ABS64,.Ltcp1+528\n"
     ".section .rodata.tcp.180,\"a\",%progbits\n"
     ".balign 8\n"
     ".Ltcp180:\n"
@@ -13399,14 +13403,14 @@ __asm__(
     ".quad 0x0\n"
     ".reloc .Ltcp181+0,R_AARCH64_ABS64,.Ltcp155+0\n"
     ".reloc .Ltcp181+8,R_AARCH64_ABS64,.Ltcp156+0\n"
-    ".reloc .Ltcp181+16,R_AARCH64_ABS64,.Ltcp10+448\n"
+    ".reloc .Ltcp181+16,R_AARCH64_ABS64,.Ltcp1+536\n"
     ".reloc .Ltcp181+24,R_AARCH64_ABS64,.Ltcp157+0\n"
     ".reloc .Ltcp181+32,R_AARCH64_ABS64,.Ltcp158+0\n"
     ".reloc .Ltcp181+40,R_AARCH64_ABS64,.Ltcp159+0\n"
     ".reloc .Ltcp181+48,R_AARCH64_ABS64,.Ltcp160+0\n"
     ".reloc .Ltcp181+56,R_AARCH64_ABS64,.Ltcp161+0\n"
     ".reloc .Ltcp181+64,R_AARCH64_ABS64,.Ltcp162+0\n"
-    ".reloc .Ltcp181+72,R_AARCH64_ABS64,.Ltcp10+456\n"
+    ".reloc .Ltcp181+72,R_AARCH64_ABS64,.Ltcp1+544\n"
     ".reloc .Ltcp181+80,R_AARCH64_ABS64,.Ltcp163+0\n"
     ".section .data.rel.ro.tcp.182,\"aw\",%progbits\n"
     ".balign 8\n"
@@ -13724,7 +13728,7 @@ static inline u32 i32_load8_s(const Memory *memory, u64 address)
     return byte < 128 ? byte : byte | UINT32_C(0xffffff00);
 }
 
-enum { STACK = 1048576, HEAP_BASE = 1051696, AT_DATA = 1048576 };
+enum { STACK = 1048576, HEAP_BASE = 1051872, AT_DATA = 1048576 };
 static const u8 DATA[] = {
   0x63, 0x61, 0x6d, 0x65, 0x77, 0x65, 0x6e, 0x74, 0x2d, 0x03, 0x03, 0x00, 
   0x04, 0x02, 0x6c, 0x69, 0x6e, 0x65, 0x20, 0x3a, 0x20, 0x0a, 0x20, 0x20, 
@@ -13767,20 +13771,28 @@ static const u8 DATA[] = {
   0x74, 0x20, 0x2c, 0x20, 0x61, 0x6e, 0x64, 0x20, 0x74, 0x68, 0x65, 0x20, 
   0x66, 0x69, 0x72, 0x73, 0x74, 0x20, 0x61, 0x74, 0x20, 0x20, 0x28, 0x52, 
   0x46, 0x43, 0x20, 0x39, 0x32, 0x39, 0x33, 0x2c, 0x20, 0x33, 0x2e, 0x34, 
-  0x29, 0x61, 0x6e, 0x6f, 0x74, 0x68, 0x65, 0x72, 0x20, 0x62, 0x79, 0x74, 
-  0x65, 0x20, 0x77, 0x68, 0x65, 0x72, 0x65, 0x20, 0x6f, 0x6e, 0x65, 0x20, 
-  0x77, 0x65, 0x6e, 0x74, 0x20, 0x62, 0x65, 0x66, 0x6f, 0x72, 0x65, 0x2c, 
-  0x20, 0x69, 0x6e, 0x20, 0x74, 0x68, 0x65, 0x20, 0x74, 0x65, 0x78, 0x74, 
-  0x20, 0x61, 0x74, 0x20, 0x74, 0x65, 0x78, 0x74, 0x20, 0x6f, 0x72, 0x20, 
-  0x46, 0x49, 0x4e, 0x20, 0x75, 0x70, 0x20, 0x74, 0x6f, 0x20, 0x70, 0x6f, 
-  0x73, 0x69, 0x74, 0x69, 0x6f, 0x6e, 0x20, 0x2c, 0x20, 0x61, 0x6e, 0x64, 
-  0x20, 0x74, 0x68, 0x65, 0x20, 0x46, 0x49, 0x4e, 0x20, 0x61, 0x74, 0x20, 
-  0x61, 0x6e, 0x20, 0x61, 0x63, 0x6b, 0x6e, 0x6f, 0x77, 0x6c, 0x65, 0x64, 
-  0x67, 0x65, 0x6d, 0x65, 0x6e, 0x74, 0x20, 0x6f, 0x66, 0x20, 0x2c, 0x20, 
-  0x75, 0x70, 0x20, 0x74, 0x6f, 0x20, 0x77, 0x68, 0x69, 0x63, 0x68, 0x20, 
-  0x6e, 0x6f, 0x74, 0x20, 0x61, 0x6c, 0x6c, 0x20, 0x63, 0x61, 0x6d, 0x65, 
-  0x20, 0x28, 0x52, 0x46, 0x43, 0x20, 0x39, 0x32, 0x39, 0x33, 0x2c, 0x20, 
-  0x33, 0x2e, 0x34, 0x29, 0x61, 0x20, 0x62, 0x6c, 0x6f, 0x63, 0x6b, 0x20, 
+  0x29, 0x74, 0x65, 0x78, 0x74, 0x20, 0x6f, 0x72, 0x20, 0x46, 0x49, 0x4e, 
+  0x20, 0x62, 0x65, 0x66, 0x6f, 0x72, 0x65, 0x20, 0x74, 0x68, 0x65, 0x20, 
+  0x66, 0x69, 0x72, 0x73, 0x74, 0x20, 0x62, 0x79, 0x74, 0x65, 0x20, 0x6f, 
+  0x66, 0x20, 0x74, 0x68, 0x65, 0x20, 0x73, 0x74, 0x72, 0x65, 0x61, 0x6d, 
+  0x2c, 0x20, 0x61, 0x74, 0x20, 0x61, 0x6e, 0x6f, 0x74, 0x68, 0x65, 0x72, 
+  0x20, 0x62, 0x79, 0x74, 0x65, 0x20, 0x77, 0x68, 0x65, 0x72, 0x65, 0x20, 
+  0x6f, 0x6e, 0x65, 0x20, 0x77, 0x65, 0x6e, 0x74, 0x20, 0x62, 0x65, 0x66, 
+  0x6f, 0x72, 0x65, 0x2c, 0x20, 0x69, 0x6e, 0x20, 0x74, 0x68, 0x65, 0x20, 
+  0x74, 0x65, 0x78, 0x74, 0x20, 0x61, 0x74, 0x20, 0x74, 0x65, 0x78, 0x74, 
+  0x20, 0x6f, 0x72, 0x20, 0x46, 0x49, 0x4e, 0x20, 0x75, 0x70, 0x20, 0x74, 
+  0x6f, 0x20, 0x70, 0x6f, 0x73, 0x69, 0x74, 0x69, 0x6f, 0x6e, 0x20, 0x2c, 
+  0x20, 0x61, 0x6e, 0x64, 0x20, 0x74, 0x68, 0x65, 0x20, 0x46, 0x49, 0x4e, 
+  0x20, 0x61, 0x74, 0x20, 0x61, 0x6e, 0x20, 0x61, 0x63, 0x6b, 0x6e, 0x6f, 
+  0x77, 0x6c, 0x65, 0x64, 0x67, 0x65, 0x6d, 0x65, 0x6e, 0x74, 0x20, 0x6f, 
+  0x66, 0x20, 0x2c, 0x20, 0x75, 0x70, 0x20, 0x74, 0x6f, 0x20, 0x77, 0x68, 
+  0x69, 0x63, 0x68, 0x20, 0x6e, 0x6f, 0x74, 0x20, 0x61, 0x6c, 0x6c, 0x20, 
+  0x63, 0x61, 0x6d, 0x65, 0x20, 0x28, 0x52, 0x46, 0x43, 0x20, 0x39, 0x32, 
+  0x39, 0x33, 0x2c, 0x20, 0x33, 0x2e, 0x34, 0x29, 0x2c, 0x20, 0x61, 0x6e, 
+  0x64, 0x20, 0x6f, 0x6e, 0x65, 0x20, 0x6f, 0x66, 0x20, 0x20, 0x62, 0x65, 
+  0x66, 0x6f, 0x72, 0x65, 0x20, 0x69, 0x74, 0x20, 0x28, 0x52, 0x46, 0x43, 
+  0x20, 0x39, 0x32, 0x39, 0x33, 0x2c, 0x20, 0x33, 0x2e, 0x31, 0x30, 0x2e, 
+  0x37, 0x2e, 0x34, 0x29, 0x61, 0x20, 0x62, 0x6c, 0x6f, 0x63, 0x6b, 0x20, 
   0x66, 0x72, 0x6f, 0x6d, 0x20, 0x20, 0x74, 0x6f, 0x20, 0x2c, 0x20, 0x6f, 
   0x66, 0x20, 0x77, 0x68, 0x69, 0x63, 0x68, 0x20, 0x6e, 0x6f, 0x74, 0x20, 
   0x61, 0x6c, 0x6c, 0x20, 0x63, 0x61, 0x6d, 0x65, 0x20, 0x28, 0x52, 0x46, 
@@ -13789,203 +13801,210 @@ static const u8 DATA[] = {
   0x65, 0x63, 0x6b, 0x73, 0x75, 0x6d, 0x73, 0x3a, 0x20, 0x2c, 0x20, 0x74, 
   0x68, 0x65, 0x20, 0x66, 0x69, 0x72, 0x73, 0x74, 0x20, 0x69, 0x6e, 0x20, 
   0x6c, 0x69, 0x6e, 0x65, 0x20, 0x20, 0x28, 0x52, 0x46, 0x43, 0x20, 0x39, 
-  0x32, 0x39, 0x33, 0x2c, 0x20, 0x33, 0x2e, 0x31, 0x29, 0x0a, 0x73, 0x65, 
-  0x67, 0x6d, 0x65, 0x6e, 0x74, 0x73, 0x20, 0x20, 0x66, 0x69, 0x6e, 0x64, 
-  0x69, 0x6e, 0x67, 0x73, 0x20, 0x20, 0x20, 0x61, 0x63, 0x6b, 0x20, 0x20, 
-  0x73, 0x65, 0x71, 0x20, 0x20, 0x3e, 0x20, 0x30, 0x30, 0x30, 0x31, 0x30, 
-  0x32, 0x30, 0x33, 0x30, 0x34, 0x30, 0x35, 0x30, 0x36, 0x30, 0x37, 0x30, 
-  0x38, 0x30, 0x39, 0x31, 0x30, 0x31, 0x31, 0x31, 0x32, 0x31, 0x33, 0x31, 
-  0x34, 0x31, 0x35, 0x31, 0x36, 0x31, 0x37, 0x31, 0x38, 0x31, 0x39, 0x32, 
-  0x30, 0x32, 0x31, 0x32, 0x32, 0x32, 0x33, 0x32, 0x34, 0x32, 0x35, 0x32, 
-  0x36, 0x32, 0x37, 0x32, 0x38, 0x32, 0x39, 0x33, 0x30, 0x33, 0x31, 0x33, 
-  0x32, 0x33, 0x33, 0x33, 0x34, 0x33, 0x35, 0x33, 0x36, 0x33, 0x37, 0x33, 
-  0x38, 0x33, 0x39, 0x34, 0x30, 0x34, 0x31, 0x34, 0x32, 0x34, 0x33, 0x34, 
-  0x34, 0x34, 0x35, 0x34, 0x36, 0x34, 0x37, 0x34, 0x38, 0x34, 0x39, 0x35, 
-  0x30, 0x35, 0x31, 0x35, 0x32, 0x35, 0x33, 0x35, 0x34, 0x35, 0x35, 0x35, 
-  0x36, 0x35, 0x37, 0x35, 0x38, 0x35, 0x39, 0x36, 0x30, 0x36, 0x31, 0x36, 
-  0x32, 0x36, 0x33, 0x36, 0x34, 0x36, 0x35, 0x36, 0x36, 0x36, 0x37, 0x36, 
-  0x38, 0x36, 0x39, 0x37, 0x30, 0x37, 0x31, 0x37, 0x32, 0x37, 0x33, 0x37, 
-  0x34, 0x37, 0x35, 0x37, 0x36, 0x37, 0x37, 0x37, 0x38, 0x37, 0x39, 0x38, 
-  0x30, 0x38, 0x31, 0x38, 0x32, 0x38, 0x33, 0x38, 0x34, 0x38, 0x35, 0x38, 
-  0x36, 0x38, 0x37, 0x38, 0x38, 0x38, 0x39, 0x39, 0x30, 0x39, 0x31, 0x39, 
-  0x32, 0x39, 0x33, 0x39, 0x34, 0x39, 0x35, 0x39, 0x36, 0x39, 0x37, 0x39, 
-  0x38, 0x39, 0x39, 0x20, 0x66, 0x6c, 0x61, 0x67, 0x73, 0x20, 0x20, 0x72, 
-  0x65, 0x73, 0x65, 0x72, 0x76, 0x65, 0x64, 0x20, 0x41, 0x43, 0x4b, 0x41, 
-  0x43, 0x4b, 0x2c, 0x50, 0x53, 0x48, 0x53, 0x59, 0x4e, 0x41, 0x43, 0x4b, 
-  0x2c, 0x53, 0x59, 0x4e, 0x41, 0x43, 0x4b, 0x2c, 0x46, 0x49, 0x4e, 0x41, 
-  0x43, 0x4b, 0x2c, 0x52, 0x53, 0x54, 0x43, 0x57, 0x52, 0x45, 0x43, 0x45, 
-  0x55, 0x52, 0x47, 0x50, 0x53, 0x48, 0x52, 0x53, 0x54, 0x46, 0x49, 0x4e, 
-  0x2c, 0x20, 0x77, 0x69, 0x6e, 0x64, 0x6f, 0x77, 0x20, 0x20, 0x6f, 0x70, 
-  0x74, 0x69, 0x6f, 0x6e, 0x73, 0x20, 0x6e, 0x6f, 0x70, 0x6d, 0x73, 0x73, 
-  0x3a, 0x77, 0x73, 0x3a, 0x73, 0x61, 0x63, 0x6b, 0x6f, 0x6b, 0x73, 0x61, 
-  0x63, 0x6b, 0x3a, 0x30, 0x31, 0x32, 0x33, 0x34, 0x35, 0x36, 0x37, 0x38, 
-  0x39, 0x61, 0x62, 0x63, 0x64, 0x65, 0x66, 0x20, 0x74, 0x65, 0x78, 0x74, 
-  0x20, 0x20, 0x70, 0x61, 0x64, 0x20, 0x6d, 0x61, 0x6c, 0x66, 0x6f, 0x72, 
-  0x6d, 0x65, 0x64, 0x20, 0x54, 0x6f, 0x6f, 0x53, 0x68, 0x6f, 0x72, 0x74, 
-  0x54, 0x6f, 0x6f, 0x4c, 0x6f, 0x6e, 0x67, 0x42, 0x61, 0x64, 0x43, 0x68, 
-  0x65, 0x63, 0x6b, 0x73, 0x75, 0x6d, 0x42, 0x61, 0x64, 0x4f, 0x66, 0x66, 
-  0x73, 0x65, 0x74, 0x42, 0x61, 0x64, 0x4f, 0x70, 0x74, 0x69, 0x6f, 0x6e, 
-  0x20, 0x61, 0x74, 0x20, 0x42, 0x61, 0x64, 0x50, 0x61, 0x64, 0x64, 0x69, 
-  0x6e, 0x67, 0x20, 0x61, 0x74, 0x20, 0x74, 0x6f, 0x74, 0x61, 0x6c, 0x20, 
-  0x20, 0x6d, 0x61, 0x6c, 0x66, 0x6f, 0x72, 0x6d, 0x65, 0x64, 0x20, 0x74, 
-  0x63, 0x70, 0x6b, 0x69, 0x74, 0x20, 0x33, 0x74, 0x63, 0x70, 0x6b, 0x69, 
-  0x74, 0x20, 0x32, 0x63, 0x6f, 0x6e, 0x66, 0x69, 0x67, 0x72, 0x65, 0x70, 
-  0x65, 0x61, 0x74, 0x6c, 0x69, 0x66, 0x65, 0x6c, 0x69, 0x6d, 0x69, 0x74, 
-  0x41, 0x42, 0x72, 0x75, 0x6e, 0x73, 0x63, 0x6f, 0x6e, 0x6e, 0x65, 0x63, 
-  0x74, 0x6c, 0x69, 0x73, 0x74, 0x65, 0x6e, 0x73, 0x65, 0x6e, 0x64, 0x72, 
-  0x65, 0x63, 0x65, 0x69, 0x76, 0x65, 0x63, 0x6c, 0x6f, 0x73, 0x65, 0x61, 
-  0x62, 0x6f, 0x72, 0x74, 0x61, 0x63, 0x6b, 0x6e, 0x6f, 0x77, 0x6c, 0x65, 
-  0x64, 0x67, 0x65, 0x74, 0x69, 0x6d, 0x65, 0x72, 0x65, 0x6d, 0x69, 0x74, 
-  0x65, 0x6d, 0x69, 0x74, 0x2d, 0x61, 0x63, 0x6b, 0x6e, 0x6f, 0x77, 0x6c, 
-  0x65, 0x64, 0x67, 0x65, 0x6d, 0x65, 0x6e, 0x74, 0x72, 0x65, 0x73, 0x65, 
-  0x6e, 0x64, 0x2d, 0x66, 0x69, 0x72, 0x73, 0x74, 0x64, 0x65, 0x6c, 0x69, 
-  0x76, 0x65, 0x72, 0x64, 0x61, 0x6d, 0x61, 0x67, 0x65, 0x72, 0x65, 0x74, 
-  0x72, 0x61, 0x6e, 0x73, 0x6d, 0x69, 0x74, 0x72, 0x65, 0x6f, 0x72, 0x64, 
-  0x65, 0x72, 0x74, 0x69, 0x6d, 0x65, 0x77, 0x61, 0x69, 0x74, 0x72, 0x65, 
-  0x63, 0x76, 0x73, 0x68, 0x69, 0x66, 0x74, 0x73, 0x61, 0x63, 0x6b, 0x6e, 
-  0x6f, 0x6e, 0x65, 0x6f, 0x6b, 0x20, 0x74, 0x6f, 0x6f, 0x6b, 0x20, 0x62, 
-  0x79, 0x74, 0x65, 0x73, 0x20, 0x6e, 0x6f, 0x74, 0x68, 0x69, 0x6e, 0x67, 
-  0x65, 0x6e, 0x64, 0x79, 0x65, 0x73, 0x6e, 0x6f, 0x66, 0x6c, 0x61, 0x67, 
-  0x73, 0x20, 0x20, 0x73, 0x61, 0x63, 0x6b, 0x20, 0x6e, 0x6f, 0x74, 0x2d, 
-  0x6d, 0x69, 0x6e, 0x65, 0x64, 0x72, 0x6f, 0x70, 0x70, 0x65, 0x64, 0x70, 
-  0x72, 0x6f, 0x63, 0x65, 0x73, 0x73, 0x65, 0x64, 0x43, 0x4c, 0x4f, 0x53, 
-  0x45, 0x44, 0x4c, 0x49, 0x53, 0x54, 0x45, 0x4e, 0x53, 0x59, 0x4e, 0x2d, 
-  0x53, 0x45, 0x4e, 0x54, 0x53, 0x59, 0x4e, 0x2d, 0x52, 0x45, 0x43, 0x45, 
-  0x49, 0x56, 0x45, 0x44, 0x45, 0x53, 0x54, 0x41, 0x42, 0x4c, 0x49, 0x53, 
-  0x48, 0x45, 0x44, 0x46, 0x49, 0x4e, 0x2d, 0x57, 0x41, 0x49, 0x54, 0x2d, 
-  0x31, 0x46, 0x49, 0x4e, 0x2d, 0x57, 0x41, 0x49, 0x54, 0x2d, 0x32, 0x43, 
-  0x4c, 0x4f, 0x53, 0x45, 0x2d, 0x57, 0x41, 0x49, 0x54, 0x43, 0x4c, 0x4f, 
-  0x53, 0x49, 0x4e, 0x47, 0x4c, 0x41, 0x53, 0x54, 0x2d, 0x41, 0x43, 0x4b, 
-  0x54, 0x49, 0x4d, 0x45, 0x2d, 0x57, 0x41, 0x49, 0x54, 0x72, 0x65, 0x66, 
-  0x75, 0x73, 0x65, 0x64, 0x20, 0x20, 0x72, 0x65, 0x70, 0x65, 0x61, 0x74, 
-  0x20, 0x20, 0x72, 0x65, 0x66, 0x75, 0x73, 0x65, 0x64, 0x20, 0x64, 0x6f, 
-  0x6e, 0x65, 0x20, 0x6e, 0x75, 0x6d, 0x62, 0x65, 0x72, 0x73, 0x20, 0x20, 
-  0x75, 0x6e, 0x61, 0x20, 0x2d, 0x20, 0x6e, 0x78, 0x74, 0x20, 0x2d, 0x20, 
-  0x65, 0x64, 0x67, 0x65, 0x20, 0x2d, 0x20, 0x75, 0x6e, 0x61, 0x20, 0x20, 
-  0x6e, 0x78, 0x74, 0x20, 0x20, 0x65, 0x64, 0x67, 0x65, 0x20, 0x20, 0x6e, 
-  0x65, 0x78, 0x74, 0x20, 0x2d, 0x20, 0x6c, 0x69, 0x6d, 0x69, 0x74, 0x20, 
-  0x2d, 0x20, 0x6e, 0x65, 0x78, 0x74, 0x20, 0x20, 0x6c, 0x69, 0x6d, 0x69, 
-  0x74, 0x20, 0x20, 0x72, 0x65, 0x74, 0x72, 0x61, 0x6e, 0x73, 0x6d, 0x69, 
-  0x74, 0x20, 0x20, 0x72, 0x65, 0x6f, 0x72, 0x64, 0x65, 0x72, 0x20, 0x20, 
-  0x74, 0x69, 0x6d, 0x65, 0x77, 0x61, 0x69, 0x74, 0x20, 0x74, 0x63, 0x70, 
-  0x6b, 0x69, 0x74, 0x3a, 0x20, 0x34, 0x31, 0x20, 0x6c, 0x69, 0x6e, 0x65, 
-  0x20, 0x74, 0x63, 0x70, 0x6b, 0x69, 0x74, 0x3a, 0x20, 0x63, 0x6f, 0x6e, 
-  0x66, 0x69, 0x67, 0x20, 0x65, 0x6e, 0x64, 0x20, 0x6e, 0x6f, 0x74, 0x2d, 
-  0x65, 0x6e, 0x64, 0x65, 0x64, 0x6f, 0x72, 0x64, 0x65, 0x72, 0x6c, 0x79, 
-  0x72, 0x65, 0x73, 0x65, 0x74, 0x61, 0x62, 0x6f, 0x72, 0x74, 0x65, 0x64, 
-  0x20, 0x61, 0x63, 0x63, 0x65, 0x70, 0x74, 0x65, 0x64, 0x20, 0x20, 0x64, 
-  0x65, 0x6c, 0x69, 0x76, 0x65, 0x72, 0x65, 0x64, 0x20, 0x20, 0x72, 0x65, 
-  0x6c, 0x65, 0x61, 0x73, 0x65, 0x64, 0x20, 0x20, 0x6f, 0x72, 0x64, 0x65, 
-  0x72, 0x65, 0x64, 0x20, 0x20, 0x73, 0x65, 0x6e, 0x74, 0x20, 0x20, 0x65, 
-  0x6e, 0x64, 0x65, 0x64, 0x20, 0x66, 0x6f, 0x72, 0x65, 0x69, 0x67, 0x6e, 
-  0x20, 0x33, 0x2e, 0x31, 0x30, 0x2e, 0x37, 0x72, 0x65, 0x73, 0x65, 0x74, 
-  0x2d, 0x69, 0x67, 0x6e, 0x6f, 0x72, 0x65, 0x64, 0x20, 0x33, 0x2e, 0x31, 
-  0x30, 0x2e, 0x37, 0x2e, 0x31, 0x20, 0x74, 0x6f, 0x20, 0x33, 0x2e, 0x31, 
-  0x30, 0x2e, 0x37, 0x2e, 0x34, 0x73, 0x74, 0x72, 0x61, 0x79, 0x20, 0x33, 
-  0x2e, 0x31, 0x30, 0x2e, 0x37, 0x2e, 0x31, 0x61, 0x63, 0x6b, 0x2d, 0x6f, 
-  0x66, 0x2d, 0x6c, 0x69, 0x73, 0x74, 0x65, 0x6e, 0x20, 0x33, 0x2e, 0x31, 
-  0x30, 0x2e, 0x37, 0x2e, 0x32, 0x2c, 0x20, 0x73, 0x65, 0x63, 0x6f, 0x6e, 
-  0x64, 0x6f, 0x70, 0x65, 0x6e, 0x73, 0x2d, 0x6e, 0x6f, 0x74, 0x68, 0x69, 
-  0x6e, 0x67, 0x20, 0x33, 0x2e, 0x31, 0x30, 0x2e, 0x37, 0x2e, 0x32, 0x2c, 
-  0x20, 0x66, 0x6f, 0x75, 0x72, 0x74, 0x68, 0x2c, 0x20, 0x6f, 0x72, 0x20, 
+  0x32, 0x39, 0x33, 0x2c, 0x20, 0x33, 0x2e, 0x31, 0x29, 0x0a, 0x6e, 0x6f, 
+  0x74, 0x65, 0x3a, 0x20, 0x61, 0x63, 0x6b, 0x6e, 0x6f, 0x77, 0x6c, 0x65, 
+  0x64, 0x67, 0x65, 0x6d, 0x65, 0x6e, 0x74, 0x73, 0x20, 0x61, 0x6e, 0x64, 
+  0x20, 0x62, 0x6c, 0x6f, 0x63, 0x6b, 0x73, 0x20, 0x61, 0x72, 0x65, 0x6e, 
+  0x27, 0x74, 0x20, 0x6a, 0x75, 0x64, 0x67, 0x65, 0x64, 0x2c, 0x20, 0x61, 
+  0x73, 0x20, 0x77, 0x68, 0x61, 0x74, 0x20, 0x63, 0x61, 0x6d, 0x65, 0x20, 
+  0x6d, 0x61, 0x79, 0x20, 0x62, 0x65, 0x20, 0x6d, 0x69, 0x73, 0x73, 0x69, 
+  0x6e, 0x67, 0x0a, 0x73, 0x65, 0x67, 0x6d, 0x65, 0x6e, 0x74, 0x73, 0x20, 
+  0x20, 0x66, 0x69, 0x6e, 0x64, 0x69, 0x6e, 0x67, 0x73, 0x20, 0x20, 0x20, 
+  0x61, 0x63, 0x6b, 0x20, 0x20, 0x73, 0x65, 0x71, 0x20, 0x20, 0x3e, 0x20, 
+  0x30, 0x30, 0x30, 0x31, 0x30, 0x32, 0x30, 0x33, 0x30, 0x34, 0x30, 0x35, 
+  0x30, 0x36, 0x30, 0x37, 0x30, 0x38, 0x30, 0x39, 0x31, 0x30, 0x31, 0x31, 
+  0x31, 0x32, 0x31, 0x33, 0x31, 0x34, 0x31, 0x35, 0x31, 0x36, 0x31, 0x37, 
+  0x31, 0x38, 0x31, 0x39, 0x32, 0x30, 0x32, 0x31, 0x32, 0x32, 0x32, 0x33, 
+  0x32, 0x34, 0x32, 0x35, 0x32, 0x36, 0x32, 0x37, 0x32, 0x38, 0x32, 0x39, 
+  0x33, 0x30, 0x33, 0x31, 0x33, 0x32, 0x33, 0x33, 0x33, 0x34, 0x33, 0x35, 
+  0x33, 0x36, 0x33, 0x37, 0x33, 0x38, 0x33, 0x39, 0x34, 0x30, 0x34, 0x31, 
+  0x34, 0x32, 0x34, 0x33, 0x34, 0x34, 0x34, 0x35, 0x34, 0x36, 0x34, 0x37, 
+  0x34, 0x38, 0x34, 0x39, 0x35, 0x30, 0x35, 0x31, 0x35, 0x32, 0x35, 0x33, 
+  0x35, 0x34, 0x35, 0x35, 0x35, 0x36, 0x35, 0x37, 0x35, 0x38, 0x35, 0x39, 
+  0x36, 0x30, 0x36, 0x31, 0x36, 0x32, 0x36, 0x33, 0x36, 0x34, 0x36, 0x35, 
+  0x36, 0x36, 0x36, 0x37, 0x36, 0x38, 0x36, 0x39, 0x37, 0x30, 0x37, 0x31, 
+  0x37, 0x32, 0x37, 0x33, 0x37, 0x34, 0x37, 0x35, 0x37, 0x36, 0x37, 0x37, 
+  0x37, 0x38, 0x37, 0x39, 0x38, 0x30, 0x38, 0x31, 0x38, 0x32, 0x38, 0x33, 
+  0x38, 0x34, 0x38, 0x35, 0x38, 0x36, 0x38, 0x37, 0x38, 0x38, 0x38, 0x39, 
+  0x39, 0x30, 0x39, 0x31, 0x39, 0x32, 0x39, 0x33, 0x39, 0x34, 0x39, 0x35, 
+  0x39, 0x36, 0x39, 0x37, 0x39, 0x38, 0x39, 0x39, 0x20, 0x66, 0x6c, 0x61, 
+  0x67, 0x73, 0x20, 0x20, 0x72, 0x65, 0x73, 0x65, 0x72, 0x76, 0x65, 0x64, 
+  0x20, 0x41, 0x43, 0x4b, 0x41, 0x43, 0x4b, 0x2c, 0x50, 0x53, 0x48, 0x53, 
+  0x59, 0x4e, 0x41, 0x43, 0x4b, 0x2c, 0x53, 0x59, 0x4e, 0x41, 0x43, 0x4b, 
+  0x2c, 0x46, 0x49, 0x4e, 0x41, 0x43, 0x4b, 0x2c, 0x52, 0x53, 0x54, 0x43, 
+  0x57, 0x52, 0x45, 0x43, 0x45, 0x55, 0x52, 0x47, 0x50, 0x53, 0x48, 0x52, 
+  0x53, 0x54, 0x46, 0x49, 0x4e, 0x2c, 0x20, 0x77, 0x69, 0x6e, 0x64, 0x6f, 
+  0x77, 0x20, 0x20, 0x6f, 0x70, 0x74, 0x69, 0x6f, 0x6e, 0x73, 0x20, 0x6e, 
+  0x6f, 0x70, 0x6d, 0x73, 0x73, 0x3a, 0x77, 0x73, 0x3a, 0x73, 0x61, 0x63, 
+  0x6b, 0x6f, 0x6b, 0x73, 0x61, 0x63, 0x6b, 0x3a, 0x30, 0x31, 0x32, 0x33, 
+  0x34, 0x35, 0x36, 0x37, 0x38, 0x39, 0x61, 0x62, 0x63, 0x64, 0x65, 0x66, 
+  0x20, 0x74, 0x65, 0x78, 0x74, 0x20, 0x20, 0x70, 0x61, 0x64, 0x20, 0x6d, 
+  0x61, 0x6c, 0x66, 0x6f, 0x72, 0x6d, 0x65, 0x64, 0x20, 0x54, 0x6f, 0x6f, 
+  0x53, 0x68, 0x6f, 0x72, 0x74, 0x54, 0x6f, 0x6f, 0x4c, 0x6f, 0x6e, 0x67, 
+  0x42, 0x61, 0x64, 0x43, 0x68, 0x65, 0x63, 0x6b, 0x73, 0x75, 0x6d, 0x42, 
+  0x61, 0x64, 0x4f, 0x66, 0x66, 0x73, 0x65, 0x74, 0x42, 0x61, 0x64, 0x4f, 
+  0x70, 0x74, 0x69, 0x6f, 0x6e, 0x20, 0x61, 0x74, 0x20, 0x42, 0x61, 0x64, 
+  0x50, 0x61, 0x64, 0x64, 0x69, 0x6e, 0x67, 0x20, 0x61, 0x74, 0x20, 0x74, 
+  0x6f, 0x74, 0x61, 0x6c, 0x20, 0x20, 0x6d, 0x61, 0x6c, 0x66, 0x6f, 0x72, 
+  0x6d, 0x65, 0x64, 0x20, 0x74, 0x63, 0x70, 0x6b, 0x69, 0x74, 0x20, 0x33, 
+  0x74, 0x63, 0x70, 0x6b, 0x69, 0x74, 0x20, 0x32, 0x63, 0x6f, 0x6e, 0x66, 
+  0x69, 0x67, 0x72, 0x65, 0x70, 0x65, 0x61, 0x74, 0x6c, 0x69, 0x66, 0x65, 
+  0x6c, 0x69, 0x6d, 0x69, 0x74, 0x41, 0x42, 0x72, 0x75, 0x6e, 0x73, 0x63, 
+  0x6f, 0x6e, 0x6e, 0x65, 0x63, 0x74, 0x6c, 0x69, 0x73, 0x74, 0x65, 0x6e, 
+  0x73, 0x65, 0x6e, 0x64, 0x72, 0x65, 0x63, 0x65, 0x69, 0x76, 0x65, 0x63, 
+  0x6c, 0x6f, 0x73, 0x65, 0x61, 0x62, 0x6f, 0x72, 0x74, 0x61, 0x63, 0x6b, 
+  0x6e, 0x6f, 0x77, 0x6c, 0x65, 0x64, 0x67, 0x65, 0x74, 0x69, 0x6d, 0x65, 
+  0x72, 0x65, 0x6d, 0x69, 0x74, 0x65, 0x6d, 0x69, 0x74, 0x2d, 0x61, 0x63, 
+  0x6b, 0x6e, 0x6f, 0x77, 0x6c, 0x65, 0x64, 0x67, 0x65, 0x6d, 0x65, 0x6e, 
+  0x74, 0x72, 0x65, 0x73, 0x65, 0x6e, 0x64, 0x2d, 0x66, 0x69, 0x72, 0x73, 
+  0x74, 0x64, 0x65, 0x6c, 0x69, 0x76, 0x65, 0x72, 0x64, 0x61, 0x6d, 0x61, 
+  0x67, 0x65, 0x72, 0x65, 0x74, 0x72, 0x61, 0x6e, 0x73, 0x6d, 0x69, 0x74, 
+  0x72, 0x65, 0x6f, 0x72, 0x64, 0x65, 0x72, 0x74, 0x69, 0x6d, 0x65, 0x77, 
+  0x61, 0x69, 0x74, 0x72, 0x65, 0x63, 0x76, 0x73, 0x68, 0x69, 0x66, 0x74, 
+  0x73, 0x61, 0x63, 0x6b, 0x6e, 0x6f, 0x6e, 0x65, 0x6f, 0x6b, 0x20, 0x74, 
+  0x6f, 0x6f, 0x6b, 0x20, 0x62, 0x79, 0x74, 0x65, 0x73, 0x20, 0x6e, 0x6f, 
+  0x74, 0x68, 0x69, 0x6e, 0x67, 0x65, 0x6e, 0x64, 0x79, 0x65, 0x73, 0x6e, 
+  0x6f, 0x66, 0x6c, 0x61, 0x67, 0x73, 0x20, 0x20, 0x73, 0x61, 0x63, 0x6b, 
+  0x20, 0x6e, 0x6f, 0x74, 0x2d, 0x6d, 0x69, 0x6e, 0x65, 0x64, 0x72, 0x6f, 
+  0x70, 0x70, 0x65, 0x64, 0x70, 0x72, 0x6f, 0x63, 0x65, 0x73, 0x73, 0x65, 
+  0x64, 0x43, 0x4c, 0x4f, 0x53, 0x45, 0x44, 0x4c, 0x49, 0x53, 0x54, 0x45, 
+  0x4e, 0x53, 0x59, 0x4e, 0x2d, 0x53, 0x45, 0x4e, 0x54, 0x53, 0x59, 0x4e, 
+  0x2d, 0x52, 0x45, 0x43, 0x45, 0x49, 0x56, 0x45, 0x44, 0x45, 0x53, 0x54, 
+  0x41, 0x42, 0x4c, 0x49, 0x53, 0x48, 0x45, 0x44, 0x46, 0x49, 0x4e, 0x2d, 
+  0x57, 0x41, 0x49, 0x54, 0x2d, 0x31, 0x46, 0x49, 0x4e, 0x2d, 0x57, 0x41, 
+  0x49, 0x54, 0x2d, 0x32, 0x43, 0x4c, 0x4f, 0x53, 0x45, 0x2d, 0x57, 0x41, 
+  0x49, 0x54, 0x43, 0x4c, 0x4f, 0x53, 0x49, 0x4e, 0x47, 0x4c, 0x41, 0x53, 
+  0x54, 0x2d, 0x41, 0x43, 0x4b, 0x54, 0x49, 0x4d, 0x45, 0x2d, 0x57, 0x41, 
+  0x49, 0x54, 0x72, 0x65, 0x66, 0x75, 0x73, 0x65, 0x64, 0x20, 0x20, 0x72, 
+  0x65, 0x70, 0x65, 0x61, 0x74, 0x20, 0x20, 0x72, 0x65, 0x66, 0x75, 0x73, 
+  0x65, 0x64, 0x20, 0x64, 0x6f, 0x6e, 0x65, 0x20, 0x6e, 0x75, 0x6d, 0x62, 
+  0x65, 0x72, 0x73, 0x20, 0x20, 0x75, 0x6e, 0x61, 0x20, 0x2d, 0x20, 0x6e, 
+  0x78, 0x74, 0x20, 0x2d, 0x20, 0x65, 0x64, 0x67, 0x65, 0x20, 0x2d, 0x20, 
+  0x75, 0x6e, 0x61, 0x20, 0x20, 0x6e, 0x78, 0x74, 0x20, 0x20, 0x65, 0x64, 
+  0x67, 0x65, 0x20, 0x20, 0x6e, 0x65, 0x78, 0x74, 0x20, 0x2d, 0x20, 0x6c, 
+  0x69, 0x6d, 0x69, 0x74, 0x20, 0x2d, 0x20, 0x6e, 0x65, 0x78, 0x74, 0x20, 
+  0x20, 0x6c, 0x69, 0x6d, 0x69, 0x74, 0x20, 0x20, 0x72, 0x65, 0x74, 0x72, 
+  0x61, 0x6e, 0x73, 0x6d, 0x69, 0x74, 0x20, 0x20, 0x72, 0x65, 0x6f, 0x72, 
+  0x64, 0x65, 0x72, 0x20, 0x20, 0x74, 0x69, 0x6d, 0x65, 0x77, 0x61, 0x69, 
+  0x74, 0x20, 0x74, 0x63, 0x70, 0x6b, 0x69, 0x74, 0x3a, 0x20, 0x34, 0x31, 
+  0x20, 0x6c, 0x69, 0x6e, 0x65, 0x20, 0x74, 0x63, 0x70, 0x6b, 0x69, 0x74, 
+  0x3a, 0x20, 0x63, 0x6f, 0x6e, 0x66, 0x69, 0x67, 0x20, 0x65, 0x6e, 0x64, 
+  0x20, 0x6e, 0x6f, 0x74, 0x2d, 0x65, 0x6e, 0x64, 0x65, 0x64, 0x6f, 0x72, 
+  0x64, 0x65, 0x72, 0x6c, 0x79, 0x72, 0x65, 0x73, 0x65, 0x74, 0x61, 0x62, 
+  0x6f, 0x72, 0x74, 0x65, 0x64, 0x20, 0x61, 0x63, 0x63, 0x65, 0x70, 0x74, 
+  0x65, 0x64, 0x20, 0x20, 0x64, 0x65, 0x6c, 0x69, 0x76, 0x65, 0x72, 0x65, 
+  0x64, 0x20, 0x20, 0x72, 0x65, 0x6c, 0x65, 0x61, 0x73, 0x65, 0x64, 0x20, 
+  0x20, 0x6f, 0x72, 0x64, 0x65, 0x72, 0x65, 0x64, 0x20, 0x20, 0x73, 0x65, 
+  0x6e, 0x74, 0x20, 0x20, 0x65, 0x6e, 0x64, 0x65, 0x64, 0x20, 0x66, 0x6f, 
+  0x72, 0x65, 0x69, 0x67, 0x6e, 0x20, 0x33, 0x2e, 0x31, 0x30, 0x2e, 0x37, 
+  0x72, 0x65, 0x73, 0x65, 0x74, 0x2d, 0x69, 0x67, 0x6e, 0x6f, 0x72, 0x65, 
+  0x64, 0x20, 0x33, 0x2e, 0x31, 0x30, 0x2e, 0x37, 0x2e, 0x31, 0x20, 0x74, 
+  0x6f, 0x20, 0x33, 0x2e, 0x31, 0x30, 0x2e, 0x37, 0x2e, 0x34, 0x73, 0x74, 
+  0x72, 0x61, 0x79, 0x20, 0x33, 0x2e, 0x31, 0x30, 0x2e, 0x37, 0x2e, 0x31, 
+  0x61, 0x63, 0x6b, 0x2d, 0x6f, 0x66, 0x2d, 0x6c, 0x69, 0x73, 0x74, 0x65, 
+  0x6e, 0x20, 0x33, 0x2e, 0x31, 0x30, 0x2e, 0x37, 0x2e, 0x32, 0x2c, 0x20, 
+  0x73, 0x65, 0x63, 0x6f, 0x6e, 0x64, 0x6f, 0x70, 0x65, 0x6e, 0x73, 0x2d, 
+  0x6e, 0x6f, 0x74, 0x68, 0x69, 0x6e, 0x67, 0x20, 0x33, 0x2e, 0x31, 0x30, 
+  0x2e, 0x37, 0x2e, 0x32, 0x2c, 0x20, 0x66, 0x6f, 0x75, 0x72, 0x74, 0x68, 
+  0x2c, 0x20, 0x6f, 0x72, 0x20, 0x33, 0x2e, 0x31, 0x30, 0x2e, 0x37, 0x2e, 
+  0x33, 0x2c, 0x20, 0x66, 0x69, 0x66, 0x74, 0x68, 0x70, 0x65, 0x65, 0x72, 
+  0x2d, 0x6f, 0x70, 0x65, 0x6e, 0x73, 0x20, 0x33, 0x2e, 0x31, 0x30, 0x2e, 
+  0x37, 0x2e, 0x32, 0x2c, 0x20, 0x74, 0x68, 0x69, 0x72, 0x64, 0x61, 0x63, 
+  0x6b, 0x2d, 0x6f, 0x66, 0x2d, 0x6e, 0x6f, 0x2d, 0x73, 0x79, 0x6e, 0x20, 
   0x33, 0x2e, 0x31, 0x30, 0x2e, 0x37, 0x2e, 0x33, 0x2c, 0x20, 0x66, 0x69, 
-  0x66, 0x74, 0x68, 0x70, 0x65, 0x65, 0x72, 0x2d, 0x6f, 0x70, 0x65, 0x6e, 
-  0x73, 0x20, 0x33, 0x2e, 0x31, 0x30, 0x2e, 0x37, 0x2e, 0x32, 0x2c, 0x20, 
-  0x74, 0x68, 0x69, 0x72, 0x64, 0x61, 0x63, 0x6b, 0x2d, 0x6f, 0x66, 0x2d, 
-  0x6e, 0x6f, 0x2d, 0x73, 0x79, 0x6e, 0x20, 0x33, 0x2e, 0x31, 0x30, 0x2e, 
-  0x37, 0x2e, 0x33, 0x2c, 0x20, 0x66, 0x69, 0x72, 0x73, 0x74, 0x70, 0x65, 
-  0x65, 0x72, 0x2d, 0x72, 0x65, 0x66, 0x75, 0x73, 0x65, 0x73, 0x20, 0x33, 
-  0x2e, 0x31, 0x30, 0x2e, 0x37, 0x2e, 0x33, 0x2c, 0x20, 0x73, 0x65, 0x63, 
-  0x6f, 0x6e, 0x64, 0x70, 0x65, 0x65, 0x72, 0x2d, 0x61, 0x63, 0x63, 0x65, 
-  0x70, 0x74, 0x73, 0x20, 0x33, 0x2e, 0x31, 0x30, 0x2e, 0x37, 0x2e, 0x33, 
-  0x2c, 0x20, 0x66, 0x6f, 0x75, 0x72, 0x74, 0x68, 0x75, 0x6e, 0x61, 0x63, 
-  0x63, 0x65, 0x70, 0x74, 0x61, 0x62, 0x6c, 0x65, 0x20, 0x33, 0x2e, 0x31, 
-  0x30, 0x2e, 0x37, 0x2e, 0x34, 0x2c, 0x20, 0x66, 0x69, 0x72, 0x73, 0x74, 
-  0x70, 0x65, 0x65, 0x72, 0x2d, 0x72, 0x65, 0x73, 0x65, 0x74, 0x73, 0x20, 
-  0x33, 0x2e, 0x31, 0x30, 0x2e, 0x37, 0x2e, 0x34, 0x2c, 0x20, 0x73, 0x65, 
-  0x63, 0x6f, 0x6e, 0x64, 0x72, 0x65, 0x73, 0x65, 0x74, 0x2d, 0x65, 0x6c, 
-  0x73, 0x65, 0x77, 0x68, 0x65, 0x72, 0x65, 0x20, 0x33, 0x2e, 0x31, 0x30, 
-  0x2e, 0x37, 0x2e, 0x34, 0x2c, 0x20, 0x73, 0x65, 0x63, 0x6f, 0x6e, 0x64, 
-  0x73, 0x79, 0x6e, 0x2d, 0x69, 0x6e, 0x2d, 0x77, 0x69, 0x6e, 0x64, 0x6f, 
-  0x77, 0x20, 0x33, 0x2e, 0x31, 0x30, 0x2e, 0x37, 0x2e, 0x34, 0x2c, 0x20, 
-  0x66, 0x6f, 0x75, 0x72, 0x74, 0x68, 0x6e, 0x6f, 0x2d, 0x61, 0x63, 0x6b, 
-  0x20, 0x33, 0x2e, 0x31, 0x30, 0x2e, 0x37, 0x2e, 0x34, 0x2c, 0x20, 0x66, 
-  0x69, 0x66, 0x74, 0x68, 0x61, 0x63, 0x6b, 0x73, 0x2d, 0x75, 0x6e, 0x73, 
-  0x65, 0x6e, 0x74, 0x20, 0x33, 0x2e, 0x31, 0x30, 0x2e, 0x37, 0x2e, 0x34, 
-  0x2c, 0x20, 0x66, 0x69, 0x66, 0x74, 0x68, 0x68, 0x61, 0x6e, 0x64, 0x73, 
-  0x68, 0x61, 0x6b, 0x65, 0x2d, 0x72, 0x65, 0x66, 0x75, 0x73, 0x65, 0x64, 
-  0x20, 0x33, 0x2e, 0x31, 0x30, 0x2e, 0x37, 0x2e, 0x34, 0x2c, 0x20, 0x66, 
-  0x69, 0x66, 0x74, 0x68, 0x68, 0x61, 0x6e, 0x64, 0x73, 0x68, 0x61, 0x6b, 
-  0x65, 0x2d, 0x72, 0x65, 0x66, 0x75, 0x73, 0x65, 0x64, 0x2d, 0x73, 0x68, 
-  0x75, 0x74, 0x20, 0x33, 0x2e, 0x31, 0x30, 0x2e, 0x37, 0x2e, 0x34, 0x2c, 
-  0x20, 0x66, 0x69, 0x66, 0x74, 0x68, 0x74, 0x61, 0x6b, 0x65, 0x6e, 0x20, 
-  0x33, 0x2e, 0x31, 0x30, 0x2e, 0x37, 0x2e, 0x34, 0x2c, 0x20, 0x66, 0x69, 
-  0x66, 0x74, 0x68, 0x20, 0x74, 0x6f, 0x20, 0x65, 0x69, 0x67, 0x68, 0x74, 
-  0x68, 0x74, 0x61, 0x6b, 0x65, 0x6e, 0x2d, 0x73, 0x68, 0x75, 0x74, 0x20, 
-  0x33, 0x2e, 0x31, 0x30, 0x2e, 0x37, 0x2e, 0x34, 0x2c, 0x20, 0x66, 0x69, 
-  0x72, 0x73, 0x74, 0x2e, 0x73, 0x74, 0x61, 0x74, 0x65, 0x20, 0x20, 0x71, 
-  0x75, 0x65, 0x75, 0x65, 0x64, 0x20, 0x20, 0x66, 0x6c, 0x69, 0x67, 0x68, 
-  0x74, 0x20, 0x20, 0x75, 0x6e, 0x6d, 0x61, 0x72, 0x6b, 0x65, 0x64, 0x20, 
-  0x20, 0x75, 0x6e, 0x72, 0x65, 0x61, 0x64, 0x20, 0x20, 0x68, 0x65, 0x6c, 
-  0x64, 0x20, 0x20, 0x70, 0x65, 0x65, 0x72, 0x20, 0x00, 0x00, 0x00, 0x00, 
+  0x72, 0x73, 0x74, 0x70, 0x65, 0x65, 0x72, 0x2d, 0x72, 0x65, 0x66, 0x75, 
+  0x73, 0x65, 0x73, 0x20, 0x33, 0x2e, 0x31, 0x30, 0x2e, 0x37, 0x2e, 0x33, 
+  0x2c, 0x20, 0x73, 0x65, 0x63, 0x6f, 0x6e, 0x64, 0x70, 0x65, 0x65, 0x72, 
+  0x2d, 0x61, 0x63, 0x63, 0x65, 0x70, 0x74, 0x73, 0x20, 0x33, 0x2e, 0x31, 
+  0x30, 0x2e, 0x37, 0x2e, 0x33, 0x2c, 0x20, 0x66, 0x6f, 0x75, 0x72, 0x74, 
+  0x68, 0x75, 0x6e, 0x61, 0x63, 0x63, 0x65, 0x70, 0x74, 0x61, 0x62, 0x6c, 
+  0x65, 0x20, 0x33, 0x2e, 0x31, 0x30, 0x2e, 0x37, 0x2e, 0x34, 0x2c, 0x20, 
+  0x66, 0x69, 0x72, 0x73, 0x74, 0x70, 0x65, 0x65, 0x72, 0x2d, 0x72, 0x65, 
+  0x73, 0x65, 0x74, 0x73, 0x20, 0x33, 0x2e, 0x31, 0x30, 0x2e, 0x37, 0x2e, 
+  0x34, 0x2c, 0x20, 0x73, 0x65, 0x63, 0x6f, 0x6e, 0x64, 0x72, 0x65, 0x73, 
+  0x65, 0x74, 0x2d, 0x65, 0x6c, 0x73, 0x65, 0x77, 0x68, 0x65, 0x72, 0x65, 
+  0x20, 0x33, 0x2e, 0x31, 0x30, 0x2e, 0x37, 0x2e, 0x34, 0x2c, 0x20, 0x73, 
+  0x65, 0x63, 0x6f, 0x6e, 0x64, 0x73, 0x79, 0x6e, 0x2d, 0x69, 0x6e, 0x2d, 
+  0x77, 0x69, 0x6e, 0x64, 0x6f, 0x77, 0x20, 0x33, 0x2e, 0x31, 0x30, 0x2e, 
+  0x37, 0x2e, 0x34, 0x2c, 0x20, 0x66, 0x6f, 0x75, 0x72, 0x74, 0x68, 0x6e, 
+  0x6f, 0x2d, 0x61, 0x63, 0x6b, 0x20, 0x33, 0x2e, 0x31, 0x30, 0x2e, 0x37, 
+  0x2e, 0x34, 0x2c, 0x20, 0x66, 0x69, 0x66, 0x74, 0x68, 0x61, 0x63, 0x6b, 
+  0x73, 0x2d, 0x75, 0x6e, 0x73, 0x65, 0x6e, 0x74, 0x20, 0x33, 0x2e, 0x31, 
+  0x30, 0x2e, 0x37, 0x2e, 0x34, 0x2c, 0x20, 0x66, 0x69, 0x66, 0x74, 0x68, 
+  0x68, 0x61, 0x6e, 0x64, 0x73, 0x68, 0x61, 0x6b, 0x65, 0x2d, 0x72, 0x65, 
+  0x66, 0x75, 0x73, 0x65, 0x64, 0x20, 0x33, 0x2e, 0x31, 0x30, 0x2e, 0x37, 
+  0x2e, 0x34, 0x2c, 0x20, 0x66, 0x69, 0x66, 0x74, 0x68, 0x68, 0x61, 0x6e, 
+  0x64, 0x73, 0x68, 0x61, 0x6b, 0x65, 0x2d, 0x72, 0x65, 0x66, 0x75, 0x73, 
+  0x65, 0x64, 0x2d, 0x73, 0x68, 0x75, 0x74, 0x20, 0x33, 0x2e, 0x31, 0x30, 
+  0x2e, 0x37, 0x2e, 0x34, 0x2c, 0x20, 0x66, 0x69, 0x66, 0x74, 0x68, 0x74, 
+  0x61, 0x6b, 0x65, 0x6e, 0x20, 0x33, 0x2e, 0x31, 0x30, 0x2e, 0x37, 0x2e, 
+  0x34, 0x2c, 0x20, 0x66, 0x69, 0x66, 0x74, 0x68, 0x20, 0x74, 0x6f, 0x20, 
+  0x65, 0x69, 0x67, 0x68, 0x74, 0x68, 0x74, 0x61, 0x6b, 0x65, 0x6e, 0x2d, 
+  0x73, 0x68, 0x75, 0x74, 0x20, 0x33, 0x2e, 0x31, 0x30, 0x2e, 0x37, 0x2e, 
+  0x34, 0x2c, 0x20, 0x66, 0x69, 0x72, 0x73, 0x74, 0x2e, 0x73, 0x74, 0x61, 
+  0x74, 0x65, 0x20, 0x20, 0x71, 0x75, 0x65, 0x75, 0x65, 0x64, 0x20, 0x20, 
+  0x66, 0x6c, 0x69, 0x67, 0x68, 0x74, 0x20, 0x20, 0x75, 0x6e, 0x6d, 0x61, 
+  0x72, 0x6b, 0x65, 0x64, 0x20, 0x20, 0x75, 0x6e, 0x72, 0x65, 0x61, 0x64, 
+  0x20, 0x20, 0x68, 0x65, 0x6c, 0x64, 0x20, 0x20, 0x70, 0x65, 0x65, 0x72, 
+  0x20, 0x00, 0x00, 0x00, 0x00, 0x00, 0x00, 0x00, 0x02, 0x00, 0x00, 0x00, 
+  0x00, 0x00, 0x00, 0x00, 0x02, 0x00, 0x00, 0x00, 0x00, 0x00, 0x00, 0x00, 
   0x02, 0x00, 0x00, 0x00, 0x00, 0x00, 0x00, 0x00, 0x02, 0x00, 0x00, 0x00, 
-  0x00, 0x00, 0x00, 0x00, 0x02, 0x00, 0x00, 0x00, 0x00, 0x00, 0x00, 0x00, 
+  0x00, 0x00, 0x00, 0x00, 0x03, 0x00, 0x00, 0x00, 0x00, 0x00, 0x00, 0x00, 
   0x02, 0x00, 0x00, 0x00, 0x00, 0x00, 0x00, 0x00, 0x03, 0x00, 0x00, 0x00, 
-  0x00, 0x00, 0x00, 0x00, 0x02, 0x00, 0x00, 0x00, 0x00, 0x00, 0x00, 0x00, 
-  0x03, 0x00, 0x00, 0x00, 0x00, 0x00, 0x00, 0x00, 0x03, 0x00, 0x00, 0x00, 
+  0x00, 0x00, 0x00, 0x00, 0x03, 0x00, 0x00, 0x00, 0x00, 0x00, 0x00, 0x00, 
+  0x07, 0x00, 0x00, 0x00, 0x00, 0x00, 0x00, 0x00, 0x06, 0x00, 0x00, 0x00, 
+  0x00, 0x00, 0x00, 0x00, 0x04, 0x00, 0x00, 0x00, 0x00, 0x00, 0x00, 0x00, 
+  0x07, 0x00, 0x00, 0x00, 0x00, 0x00, 0x00, 0x00, 0x05, 0x00, 0x00, 0x00, 
+  0x00, 0x00, 0x00, 0x00, 0x05, 0x00, 0x00, 0x00, 0x00, 0x00, 0x00, 0x00, 
+  0x0b, 0x00, 0x00, 0x00, 0x00, 0x00, 0x00, 0x00, 0x05, 0x00, 0x00, 0x00, 
+  0x00, 0x00, 0x00, 0x00, 0x04, 0x00, 0x00, 0x00, 0x00, 0x00, 0x00, 0x00, 
+  0x14, 0x00, 0x00, 0x00, 0x00, 0x00, 0x00, 0x00, 0x0c, 0x00, 0x00, 0x00, 
   0x00, 0x00, 0x00, 0x00, 0x07, 0x00, 0x00, 0x00, 0x00, 0x00, 0x00, 0x00, 
-  0x06, 0x00, 0x00, 0x00, 0x00, 0x00, 0x00, 0x00, 0x04, 0x00, 0x00, 0x00, 
-  0x00, 0x00, 0x00, 0x00, 0x07, 0x00, 0x00, 0x00, 0x00, 0x00, 0x00, 0x00, 
-  0x05, 0x00, 0x00, 0x00, 0x00, 0x00, 0x00, 0x00, 0x05, 0x00, 0x00, 0x00, 
-  0x00, 0x00, 0x00, 0x00, 0x0b, 0x00, 0x00, 0x00, 0x00, 0x00, 0x00, 0x00, 
-  0x05, 0x00, 0x00, 0x00, 0x00, 0x00, 0x00, 0x00, 0x04, 0x00, 0x00, 0x00, 
-  0x00, 0x00, 0x00, 0x00, 0x14, 0x00, 0x00, 0x00, 0x00, 0x00, 0x00, 0x00, 
-  0x0c, 0x00, 0x00, 0x00, 0x00, 0x00, 0x00, 0x00, 0x07, 0x00, 0x00, 0x00, 
-  0x00, 0x00, 0x00, 0x00, 0x06, 0x00, 0x00, 0x00, 0x00, 0x00, 0x00, 0x00, 
-  0xf2, 0x04, 0x10, 0x00, 0x00, 0x00, 0x00, 0x00, 0xf9, 0x04, 0x10, 0x00, 
-  0x00, 0x00, 0x00, 0x00, 0xff, 0x04, 0x10, 0x00, 0x00, 0x00, 0x00, 0x00, 
-  0x03, 0x05, 0x10, 0x00, 0x00, 0x00, 0x00, 0x00, 0x0a, 0x05, 0x10, 0x00, 
-  0x00, 0x00, 0x00, 0x00, 0x0f, 0x05, 0x10, 0x00, 0x00, 0x00, 0x00, 0x00, 
-  0x14, 0x05, 0x10, 0x00, 0x00, 0x00, 0x00, 0x00, 0x1f, 0x05, 0x10, 0x00, 
-  0x00, 0x00, 0x00, 0x00, 0x24, 0x05, 0x10, 0x00, 0x00, 0x00, 0x00, 0x00, 
-  0x28, 0x05, 0x10, 0x00, 0x00, 0x00, 0x00, 0x00, 0x3c, 0x05, 0x10, 0x00, 
-  0x00, 0x00, 0x00, 0x00, 0x48, 0x05, 0x10, 0x00, 0x00, 0x00, 0x00, 0x00, 
-  0x4f, 0x05, 0x10, 0x00, 0x00, 0x00, 0x00, 0x00, 0x0a, 0x00, 0x00, 0x00, 
-  0x00, 0x00, 0x00, 0x00, 0x07, 0x00, 0x00, 0x00, 0x00, 0x00, 0x00, 0x00, 
-  0x08, 0x00, 0x00, 0x00, 0x00, 0x00, 0x00, 0x00, 0x55, 0x05, 0x10, 0x00, 
-  0x00, 0x00, 0x00, 0x00, 0x5f, 0x05, 0x10, 0x00, 0x00, 0x00, 0x00, 0x00, 
-  0x66, 0x05, 0x10, 0x00, 0x00, 0x00, 0x00, 0x00, 0x06, 0x00, 0x00, 0x00, 
-  0x00, 0x00, 0x00, 0x00, 0x06, 0x00, 0x00, 0x00, 0x00, 0x00, 0x00, 0x00, 
-  0x08, 0x00, 0x00, 0x00, 0x00, 0x00, 0x00, 0x00, 0x0c, 0x00, 0x00, 0x00, 
-  0x00, 0x00, 0x00, 0x00, 0x0b, 0x00, 0x00, 0x00, 0x00, 0x00, 0x00, 0x00, 
-  0x0a, 0x00, 0x00, 0x00, 0x00, 0x00, 0x00, 0x00, 0x0a, 0x00, 0x00, 0x00, 
+  0x06, 0x00, 0x00, 0x00, 0x00, 0x00, 0x00, 0x00, 0x9f, 0x05, 0x10, 0x00, 
+  0x00, 0x00, 0x00, 0x00, 0xa6, 0x05, 0x10, 0x00, 0x00, 0x00, 0x00, 0x00, 
+  0xac, 0x05, 0x10, 0x00, 0x00, 0x00, 0x00, 0x00, 0xb0, 0x05, 0x10, 0x00, 
+  0x00, 0x00, 0x00, 0x00, 0xb7, 0x05, 0x10, 0x00, 0x00, 0x00, 0x00, 0x00, 
+  0xbc, 0x05, 0x10, 0x00, 0x00, 0x00, 0x00, 0x00, 0xc1, 0x05, 0x10, 0x00, 
+  0x00, 0x00, 0x00, 0x00, 0xcc, 0x05, 0x10, 0x00, 0x00, 0x00, 0x00, 0x00, 
+  0xd1, 0x05, 0x10, 0x00, 0x00, 0x00, 0x00, 0x00, 0xd5, 0x05, 0x10, 0x00, 
+  0x00, 0x00, 0x00, 0x00, 0xe9, 0x05, 0x10, 0x00, 0x00, 0x00, 0x00, 0x00, 
+  0xf5, 0x05, 0x10, 0x00, 0x00, 0x00, 0x00, 0x00, 0xfc, 0x05, 0x10, 0x00, 
   0x00, 0x00, 0x00, 0x00, 0x0a, 0x00, 0x00, 0x00, 0x00, 0x00, 0x00, 0x00, 
   0x07, 0x00, 0x00, 0x00, 0x00, 0x00, 0x00, 0x00, 0x08, 0x00, 0x00, 0x00, 
-  0x00, 0x00, 0x00, 0x00, 0x09, 0x00, 0x00, 0x00, 0x00, 0x00, 0x00, 0x00, 
-  0xc0, 0x05, 0x10, 0x00, 0x00, 0x00, 0x00, 0x00, 0xc6, 0x05, 0x10, 0x00, 
-  0x00, 0x00, 0x00, 0x00, 0xcc, 0x05, 0x10, 0x00, 0x00, 0x00, 0x00, 0x00, 
-  0xd4, 0x05, 0x10, 0x00, 0x00, 0x00, 0x00, 0x00, 0xe0, 0x05, 0x10, 0x00, 
-  0x00, 0x00, 0x00, 0x00, 0xeb, 0x05, 0x10, 0x00, 0x00, 0x00, 0x00, 0x00, 
-  0xf5, 0x05, 0x10, 0x00, 0x00, 0x00, 0x00, 0x00, 0xff, 0x05, 0x10, 0x00, 
-  0x00, 0x00, 0x00, 0x00, 0x09, 0x06, 0x10, 0x00, 0x00, 0x00, 0x00, 0x00, 
-  0x10, 0x06, 0x10, 0x00, 0x00, 0x00, 0x00, 0x00, 0x18, 0x06, 0x10, 0x00, 
-  0x00, 0x00, 0x00, 0x00, 0x09, 0x00, 0x00, 0x00, 0x00, 0x00, 0x00, 0x00, 
-  0x07, 0x00, 0x00, 0x00, 0x00, 0x00, 0x00, 0x00, 0x05, 0x00, 0x00, 0x00, 
-  0x00, 0x00, 0x00, 0x00, 0x07, 0x00, 0x00, 0x00, 0x00, 0x00, 0x00, 0x00, 
-  0xc8, 0x06, 0x10, 0x00, 0x00, 0x00, 0x00, 0x00, 0xd1, 0x06, 0x10, 0x00, 
-  0x00, 0x00, 0x00, 0x00, 0xd8, 0x06, 0x10, 0x00, 0x00, 0x00, 0x00, 0x00, 
-  0xdd, 0x06, 0x10, 0x00, 0x00, 0x00, 0x00, 0x00, 0x27, 0x07, 0x10, 0x00, 
-  0x00, 0x00, 0x00, 0x00, 0x49, 0x07, 0x10, 0x00, 0x00, 0x00, 0x00, 0x00, 
-  0x57, 0x07, 0x10, 0x00, 0x00, 0x00, 0x00, 0x00, 0x75, 0x07, 0x10, 0x00, 
-  0x00, 0x00, 0x00, 0x00, 0xa7, 0x07, 0x10, 0x00, 0x00, 0x00, 0x00, 0x00, 
-  0xc1, 0x07, 0x10, 0x00, 0x00, 0x00, 0x00, 0x00, 0xde, 0x07, 0x10, 0x00, 
-  0x00, 0x00, 0x00, 0x00, 0xfb, 0x07, 0x10, 0x00, 0x00, 0x00, 0x00, 0x00, 
-  0x22, 0x00, 0x00, 0x00, 0x00, 0x00, 0x00, 0x00, 0x0e, 0x00, 0x00, 0x00, 
-  0x00, 0x00, 0x00, 0x00, 0x1e, 0x00, 0x00, 0x00, 0x00, 0x00, 0x00, 0x00, 
-  0x32, 0x00, 0x00, 0x00, 0x00, 0x00, 0x00, 0x00, 0x1a, 0x00, 0x00, 0x00, 
-  0x00, 0x00, 0x00, 0x00, 0x1d, 0x00, 0x00, 0x00, 0x00, 0x00, 0x00, 0x00, 
+  0x00, 0x00, 0x00, 0x00, 0x02, 0x06, 0x10, 0x00, 0x00, 0x00, 0x00, 0x00, 
+  0x0c, 0x06, 0x10, 0x00, 0x00, 0x00, 0x00, 0x00, 0x13, 0x06, 0x10, 0x00, 
+  0x00, 0x00, 0x00, 0x00, 0x06, 0x00, 0x00, 0x00, 0x00, 0x00, 0x00, 0x00, 
+  0x06, 0x00, 0x00, 0x00, 0x00, 0x00, 0x00, 0x00, 0x08, 0x00, 0x00, 0x00, 
+  0x00, 0x00, 0x00, 0x00, 0x0c, 0x00, 0x00, 0x00, 0x00, 0x00, 0x00, 0x00, 
+  0x0b, 0x00, 0x00, 0x00, 0x00, 0x00, 0x00, 0x00, 0x0a, 0x00, 0x00, 0x00, 
+  0x00, 0x00, 0x00, 0x00, 0x0a, 0x00, 0x00, 0x00, 0x00, 0x00, 0x00, 0x00, 
+  0x0a, 0x00, 0x00, 0x00, 0x00, 0x00, 0x00, 0x00, 0x07, 0x00, 0x00, 0x00, 
+  0x00, 0x00, 0x00, 0x00, 0x08, 0x00, 0x00, 0x00, 0x00, 0x00, 0x00, 0x00, 
+  0x09, 0x00, 0x00, 0x00, 0x00, 0x00, 0x00, 0x00, 0x6d, 0x06, 0x10, 0x00, 
+  0x00, 0x00, 0x00, 0x00, 0x73, 0x06, 0x10, 0x00, 0x00, 0x00, 0x00, 0x00, 
+  0x79, 0x06, 0x10, 0x00, 0x00, 0x00, 0x00, 0x00, 0x81, 0x06, 0x10, 0x00, 
+  0x00, 0x00, 0x00, 0x00, 0x8d, 0x06, 0x10, 0x00, 0x00, 0x00, 0x00, 0x00, 
+  0x98, 0x06, 0x10, 0x00, 0x00, 0x00, 0x00, 0x00, 0xa2, 0x06, 0x10, 0x00, 
+  0x00, 0x00, 0x00, 0x00, 0xac, 0x06, 0x10, 0x00, 0x00, 0x00, 0x00, 0x00, 
+  0xb6, 0x06, 0x10, 0x00, 0x00, 0x00, 0x00, 0x00, 0xbd, 0x06, 0x10, 0x00, 
+  0x00, 0x00, 0x00, 0x00, 0xc5, 0x06, 0x10, 0x00, 0x00, 0x00, 0x00, 0x00, 
+  0x09, 0x00, 0x00, 0x00, 0x00, 0x00, 0x00, 0x00, 0x07, 0x00, 0x00, 0x00, 
+  0x00, 0x00, 0x00, 0x00, 0x05, 0x00, 0x00, 0x00, 0x00, 0x00, 0x00, 0x00, 
+  0x07, 0x00, 0x00, 0x00, 0x00, 0x00, 0x00, 0x00, 0x75, 0x07, 0x10, 0x00, 
+  0x00, 0x00, 0x00, 0x00, 0x7e, 0x07, 0x10, 0x00, 0x00, 0x00, 0x00, 0x00, 
+  0x85, 0x07, 0x10, 0x00, 0x00, 0x00, 0x00, 0x00, 0x8a, 0x07, 0x10, 0x00, 
+  0x00, 0x00, 0x00, 0x00, 0xd4, 0x07, 0x10, 0x00, 0x00, 0x00, 0x00, 0x00, 
+  0xf6, 0x07, 0x10, 0x00, 0x00, 0x00, 0x00, 0x00, 0x04, 0x08, 0x10, 0x00, 
+  0x00, 0x00, 0x00, 0x00, 0x22, 0x08, 0x10, 0x00, 0x00, 0x00, 0x00, 0x00, 
+  0x54, 0x08, 0x10, 0x00, 0x00, 0x00, 0x00, 0x00, 0x6e, 0x08, 0x10, 0x00, 
+  0x00, 0x00, 0x00, 0x00, 0x8b, 0x08, 0x10, 0x00, 0x00, 0x00, 0x00, 0x00, 
+  0xa8, 0x08, 0x10, 0x00, 0x00, 0x00, 0x00, 0x00, 0x22, 0x00, 0x00, 0x00, 
+  0x00, 0x00, 0x00, 0x00, 0x0e, 0x00, 0x00, 0x00, 0x00, 0x00, 0x00, 0x00, 
+  0x1e, 0x00, 0x00, 0x00, 0x00, 0x00, 0x00, 0x00, 0x32, 0x00, 0x00, 0x00, 
+  0x00, 0x00, 0x00, 0x00, 0x1a, 0x00, 0x00, 0x00, 0x00, 0x00, 0x00, 0x00, 
   0x1d, 0x00, 0x00, 0x00, 0x00, 0x00, 0x00, 0x00, 0x1d, 0x00, 0x00, 0x00, 
-  0x00, 0x00, 0x00, 0x00, 
+  0x00, 0x00, 0x00, 0x00, 0x1d, 0x00, 0x00, 0x00, 0x00, 0x00, 0x00, 0x00, 
+  
 };
 
 /* THE MODULE: crates/tcp_web and those below it, function by function, as wasm2c has written them. */
@@ -24571,7 +24590,7 @@ static void w2c_kit_text__meaning__push_meaning(Machine * instance, u64 w2c_p0, 
     w2c_j2 = 1ull;
     w2c_j1 <<= (w2c_j2 & 63);
     w2c_i1 = (u32)(w2c_j1);
-    w2c_i1 = i32_load16_u(&instance->w2c_memory, (u64)(w2c_i1) + 1049375u);
+    w2c_i1 = i32_load16_u(&instance->w2c_memory, (u64)(w2c_i1) + 1049548u);
     i32_store16(&instance->w2c_memory, (u64)(w2c_i0), w2c_i1);
     w2c_j0 = w2c_l10;
     w2c_j1 = 18446744073709551614ull;
@@ -24588,7 +24607,7 @@ static void w2c_kit_text__meaning__push_meaning(Machine * instance, u64 w2c_p0, 
     w2c_j2 = 1ull;
     w2c_j1 <<= (w2c_j2 & 63);
     w2c_i1 = (u32)(w2c_j1);
-    w2c_i1 = i32_load16_u(&instance->w2c_memory, (u64)(w2c_i1) + 1049375u);
+    w2c_i1 = i32_load16_u(&instance->w2c_memory, (u64)(w2c_i1) + 1049548u);
     i32_store16(&instance->w2c_memory, (u64)(w2c_i0), w2c_i1);
     w2c_j0 = w2c_l6;
     w2c_j1 = 18446744073709551612ull;
@@ -24643,7 +24662,7 @@ static void w2c_kit_text__meaning__push_meaning(Machine * instance, u64 w2c_p0, 
   w2c_j2 = 1ull;
   w2c_j1 <<= (w2c_j2 & 63);
   w2c_i1 = (u32)(w2c_j1);
-  w2c_i1 = i32_load16_u(&instance->w2c_memory, (u64)(w2c_i1) + 1049375u);
+  w2c_i1 = i32_load16_u(&instance->w2c_memory, (u64)(w2c_i1) + 1049548u);
   i32_store16(&instance->w2c_memory, (u64)(w2c_i0), w2c_i1);
   goto w2c_B32;
   w2c_B33:;
@@ -24673,7 +24692,7 @@ static void w2c_kit_text__meaning__push_meaning(Machine * instance, u64 w2c_p0, 
   w2c_j2 = 1ull;
   w2c_j1 <<= (w2c_j2 & 63);
   w2c_i1 = (u32)(w2c_j1);
-  w2c_i1 = i32_load16_u(&instance->w2c_memory, (u64)(w2c_i1) + 1049375u);
+  w2c_i1 = i32_load16_u(&instance->w2c_memory, (u64)(w2c_i1) + 1049548u);
   i32_store16(&instance->w2c_memory, (u64)(w2c_i0), w2c_i1);
   w2c_j0 = w2c_l8;
   w2c_j1 = 999ull;
@@ -24708,7 +24727,7 @@ static void w2c_kit_text__meaning__push_meaning(Machine * instance, u64 w2c_p0, 
   w2c_j2 = 1ull;
   w2c_j1 <<= (w2c_j2 & 63);
   w2c_i1 = (u32)(w2c_j1);
-  w2c_i1 = i32_load16_u(&instance->w2c_memory, (u64)(w2c_i1) + 1049375u);
+  w2c_i1 = i32_load16_u(&instance->w2c_memory, (u64)(w2c_i1) + 1049548u);
   i32_store16(&instance->w2c_memory, (u64)(w2c_i0), w2c_i1);
   w2c_B32:;
   w2c_j0 = w2c_l11;
@@ -24731,13 +24750,13 @@ static void w2c_kit_text__meaning__push_meaning(Machine * instance, u64 w2c_p0, 
   w2c_i0 = (u32)(w2c_j0);
   w2c_j1 = 0ull;
   w2c_i1 = (u32)(w2c_j1);
-  w2c_i1 = i32_load8_u(&instance->w2c_memory, (u64)(w2c_i1) + 1049366u);
+  w2c_i1 = i32_load8_u(&instance->w2c_memory, (u64)(w2c_i1) + 1049539u);
   i32_store8(&instance->w2c_memory, (u64)(w2c_i0) + 4, w2c_i1);
   w2c_j0 = w2c_l8;
   w2c_i0 = (u32)(w2c_j0);
   w2c_j1 = 0ull;
   w2c_i1 = (u32)(w2c_j1);
-  w2c_i1 = i32_load(&instance->w2c_memory, (u64)(w2c_i1) + 1049362u);
+  w2c_i1 = i32_load(&instance->w2c_memory, (u64)(w2c_i1) + 1049535u);
   i32_store(&instance->w2c_memory, (u64)(w2c_i0), w2c_i1);
   w2c_i0 = w2c_l24;
   w2c_j0 = (u64)(w2c_i0);
@@ -24776,7 +24795,7 @@ static void w2c_kit_text__meaning__push_meaning(Machine * instance, u64 w2c_p0, 
     w2c_j2 = 1ull;
     w2c_j1 <<= (w2c_j2 & 63);
     w2c_i1 = (u32)(w2c_j1);
-    w2c_i1 = i32_load16_u(&instance->w2c_memory, (u64)(w2c_i1) + 1049375u);
+    w2c_i1 = i32_load16_u(&instance->w2c_memory, (u64)(w2c_i1) + 1049548u);
     i32_store16(&instance->w2c_memory, (u64)(w2c_i0), w2c_i1);
     w2c_j0 = w2c_l10;
     w2c_j1 = 2ull;
@@ -24793,7 +24812,7 @@ static void w2c_kit_text__meaning__push_meaning(Machine * instance, u64 w2c_p0, 
     w2c_j2 = 1ull;
     w2c_j1 <<= (w2c_j2 & 63);
     w2c_i1 = (u32)(w2c_j1);
-    w2c_i1 = i32_load16_u(&instance->w2c_memory, (u64)(w2c_i1) + 1049375u);
+    w2c_i1 = i32_load16_u(&instance->w2c_memory, (u64)(w2c_i1) + 1049548u);
     i32_store16(&instance->w2c_memory, (u64)(w2c_i0), w2c_i1);
     w2c_j0 = w2c_l6;
     w2c_j1 = 18446744073709551612ull;
@@ -24849,7 +24868,7 @@ static void w2c_kit_text__meaning__push_meaning(Machine * instance, u64 w2c_p0, 
   w2c_j2 = 1ull;
   w2c_j1 <<= (w2c_j2 & 63);
   w2c_i1 = (u32)(w2c_j1);
-  w2c_i1 = i32_load16_u(&instance->w2c_memory, (u64)(w2c_i1) + 1049375u);
+  w2c_i1 = i32_load16_u(&instance->w2c_memory, (u64)(w2c_i1) + 1049548u);
   i32_store16(&instance->w2c_memory, (u64)(w2c_i0), w2c_i1);
   goto w2c_B38;
   w2c_B39:;
@@ -24879,7 +24898,7 @@ static void w2c_kit_text__meaning__push_meaning(Machine * instance, u64 w2c_p0, 
   w2c_j2 = 1ull;
   w2c_j1 <<= (w2c_j2 & 63);
   w2c_i1 = (u32)(w2c_j1);
-  w2c_i1 = i32_load16_u(&instance->w2c_memory, (u64)(w2c_i1) + 1049375u);
+  w2c_i1 = i32_load16_u(&instance->w2c_memory, (u64)(w2c_i1) + 1049548u);
   i32_store16(&instance->w2c_memory, (u64)(w2c_i0), w2c_i1);
   w2c_j0 = w2c_l8;
   w2c_j1 = 999ull;
@@ -24914,7 +24933,7 @@ static void w2c_kit_text__meaning__push_meaning(Machine * instance, u64 w2c_p0, 
   w2c_j2 = 1ull;
   w2c_j1 <<= (w2c_j2 & 63);
   w2c_i1 = (u32)(w2c_j1);
-  w2c_i1 = i32_load16_u(&instance->w2c_memory, (u64)(w2c_i1) + 1049375u);
+  w2c_i1 = i32_load16_u(&instance->w2c_memory, (u64)(w2c_i1) + 1049548u);
   i32_store16(&instance->w2c_memory, (u64)(w2c_i0), w2c_i1);
   w2c_B38:;
   w2c_j0 = w2c_l6;
@@ -24932,13 +24951,13 @@ static void w2c_kit_text__meaning__push_meaning(Machine * instance, u64 w2c_p0, 
   w2c_i0 = (u32)(w2c_j0);
   w2c_j1 = 0ull;
   w2c_i1 = (u32)(w2c_j1);
-  w2c_i1 = i32_load8_u(&instance->w2c_memory, (u64)(w2c_i1) + 1049371u);
+  w2c_i1 = i32_load8_u(&instance->w2c_memory, (u64)(w2c_i1) + 1049544u);
   i32_store8(&instance->w2c_memory, (u64)(w2c_i0) + 4, w2c_i1);
   w2c_j0 = w2c_l8;
   w2c_i0 = (u32)(w2c_j0);
   w2c_j1 = 0ull;
   w2c_i1 = (u32)(w2c_j1);
-  w2c_i1 = i32_load(&instance->w2c_memory, (u64)(w2c_i1) + 1049367u);
+  w2c_i1 = i32_load(&instance->w2c_memory, (u64)(w2c_i1) + 1049540u);
   i32_store(&instance->w2c_memory, (u64)(w2c_i0), w2c_i1);
   w2c_j0 = w2c_l6;
   w2c_j1 = 10000ull;
@@ -24971,7 +24990,7 @@ static void w2c_kit_text__meaning__push_meaning(Machine * instance, u64 w2c_p0, 
   w2c_j2 = 1ull;
   w2c_j1 <<= (w2c_j2 & 63);
   w2c_i1 = (u32)(w2c_j1);
-  w2c_i1 = i32_load16_u(&instance->w2c_memory, (u64)(w2c_i1) + 1049375u);
+  w2c_i1 = i32_load16_u(&instance->w2c_memory, (u64)(w2c_i1) + 1049548u);
   i32_store16(&instance->w2c_memory, (u64)(w2c_i0), w2c_i1);
   w2c_j0 = w2c_l8;
   w2c_j1 = 18446744073709551614ull;
@@ -24988,7 +25007,7 @@ static void w2c_kit_text__meaning__push_meaning(Machine * instance, u64 w2c_p0, 
   w2c_j2 = 1ull;
   w2c_j1 <<= (w2c_j2 & 63);
   w2c_i1 = (u32)(w2c_j1);
-  w2c_i1 = i32_load16_u(&instance->w2c_memory, (u64)(w2c_i1) + 1049375u);
+  w2c_i1 = i32_load16_u(&instance->w2c_memory, (u64)(w2c_i1) + 1049548u);
   i32_store16(&instance->w2c_memory, (u64)(w2c_i0), w2c_i1);
   goto w2c_B45;
   w2c_B46:;
@@ -25029,7 +25048,7 @@ static void w2c_kit_text__meaning__push_meaning(Machine * instance, u64 w2c_p0, 
   w2c_j2 = 1ull;
   w2c_j1 <<= (w2c_j2 & 63);
   w2c_i1 = (u32)(w2c_j1);
-  w2c_i1 = i32_load16_u(&instance->w2c_memory, (u64)(w2c_i1) + 1049375u);
+  w2c_i1 = i32_load16_u(&instance->w2c_memory, (u64)(w2c_i1) + 1049548u);
   i32_store16(&instance->w2c_memory, (u64)(w2c_i0), w2c_i1);
   goto w2c_B42;
   w2c_B43:;
@@ -25051,7 +25070,7 @@ static void w2c_kit_text__meaning__push_meaning(Machine * instance, u64 w2c_p0, 
   w2c_j2 = 1ull;
   w2c_j1 <<= (w2c_j2 & 63);
   w2c_i1 = (u32)(w2c_j1);
-  w2c_i1 = i32_load16_u(&instance->w2c_memory, (u64)(w2c_i1) + 1049375u);
+  w2c_i1 = i32_load16_u(&instance->w2c_memory, (u64)(w2c_i1) + 1049548u);
   i32_store16(&instance->w2c_memory, (u64)(w2c_i0), w2c_i1);
   w2c_j0 = w2c_l6;
   w2c_j1 = 999ull;
@@ -25086,7 +25105,7 @@ static void w2c_kit_text__meaning__push_meaning(Machine * instance, u64 w2c_p0, 
   w2c_j2 = 1ull;
   w2c_j1 <<= (w2c_j2 & 63);
   w2c_i1 = (u32)(w2c_j1);
-  w2c_i1 = i32_load16_u(&instance->w2c_memory, (u64)(w2c_i1) + 1049375u);
+  w2c_i1 = i32_load16_u(&instance->w2c_memory, (u64)(w2c_i1) + 1049548u);
   i32_store16(&instance->w2c_memory, (u64)(w2c_i0), w2c_i1);
   w2c_B42:;
   w2c_j0 = w2c_l7;
@@ -25101,13 +25120,13 @@ static void w2c_kit_text__meaning__push_meaning(Machine * instance, u64 w2c_p0, 
   w2c_i0 = (u32)(w2c_j0);
   w2c_j1 = 0ull;
   w2c_i1 = (u32)(w2c_j1);
-  w2c_i1 = i32_load8_u(&instance->w2c_memory, (u64)(w2c_i1) + 1049374u);
+  w2c_i1 = i32_load8_u(&instance->w2c_memory, (u64)(w2c_i1) + 1049547u);
   i32_store8(&instance->w2c_memory, (u64)(w2c_i0) + 2, w2c_i1);
   w2c_j0 = w2c_l9;
   w2c_i0 = (u32)(w2c_j0);
   w2c_j1 = 0ull;
   w2c_i1 = (u32)(w2c_j1);
-  w2c_i1 = i32_load16_u(&instance->w2c_memory, (u64)(w2c_i1) + 1049372u);
+  w2c_i1 = i32_load16_u(&instance->w2c_memory, (u64)(w2c_i1) + 1049545u);
   i32_store16(&instance->w2c_memory, (u64)(w2c_i0), w2c_i1);
   w2c_i0 = w2c_l32;
   w2c_i1 = 8u;
@@ -25148,7 +25167,7 @@ static void w2c_kit_text__meaning__push_meaning(Machine * instance, u64 w2c_p0, 
   w2c_j2 = 1ull;
   w2c_j1 <<= (w2c_j2 & 63);
   w2c_i1 = (u32)(w2c_j1);
-  w2c_i1 = i32_load16_u(&instance->w2c_memory, (u64)(w2c_i1) + 1049375u);
+  w2c_i1 = i32_load16_u(&instance->w2c_memory, (u64)(w2c_i1) + 1049548u);
   i32_store16(&instance->w2c_memory, (u64)(w2c_i0), w2c_i1);
   w2c_j0 = w2c_l9;
   w2c_j1 = 18446744073709551614ull;
@@ -25165,7 +25184,7 @@ static void w2c_kit_text__meaning__push_meaning(Machine * instance, u64 w2c_p0, 
   w2c_j2 = 1ull;
   w2c_j1 <<= (w2c_j2 & 63);
   w2c_i1 = (u32)(w2c_j1);
-  w2c_i1 = i32_load16_u(&instance->w2c_memory, (u64)(w2c_i1) + 1049375u);
+  w2c_i1 = i32_load16_u(&instance->w2c_memory, (u64)(w2c_i1) + 1049548u);
   i32_store16(&instance->w2c_memory, (u64)(w2c_i0), w2c_i1);
   goto w2c_B51;
   w2c_B52:;
@@ -25207,7 +25226,7 @@ static void w2c_kit_text__meaning__push_meaning(Machine * instance, u64 w2c_p0, 
   w2c_j2 = 1ull;
   w2c_j1 <<= (w2c_j2 & 63);
   w2c_i1 = (u32)(w2c_j1);
-  w2c_i1 = i32_load16_u(&instance->w2c_memory, (u64)(w2c_i1) + 1049375u);
+  w2c_i1 = i32_load16_u(&instance->w2c_memory, (u64)(w2c_i1) + 1049548u);
   i32_store16(&instance->w2c_memory, (u64)(w2c_i0), w2c_i1);
   goto w2c_B48;
   w2c_B49:;
@@ -25229,7 +25248,7 @@ static void w2c_kit_text__meaning__push_meaning(Machine * instance, u64 w2c_p0, 
   w2c_j2 = 1ull;
   w2c_j1 <<= (w2c_j2 & 63);
   w2c_i1 = (u32)(w2c_j1);
-  w2c_i1 = i32_load16_u(&instance->w2c_memory, (u64)(w2c_i1) + 1049375u);
+  w2c_i1 = i32_load16_u(&instance->w2c_memory, (u64)(w2c_i1) + 1049548u);
   i32_store16(&instance->w2c_memory, (u64)(w2c_i0), w2c_i1);
   w2c_i0 = w2c_l24;
   w2c_i1 = 999u;
@@ -25264,7 +25283,7 @@ static void w2c_kit_text__meaning__push_meaning(Machine * instance, u64 w2c_p0, 
   w2c_j2 = 1ull;
   w2c_j1 <<= (w2c_j2 & 63);
   w2c_i1 = (u32)(w2c_j1);
-  w2c_i1 = i32_load16_u(&instance->w2c_memory, (u64)(w2c_i1) + 1049375u);
+  w2c_i1 = i32_load16_u(&instance->w2c_memory, (u64)(w2c_i1) + 1049548u);
   i32_store16(&instance->w2c_memory, (u64)(w2c_i0), w2c_i1);
   w2c_B48:;
   w2c_j0 = 128ull;
@@ -25480,13 +25499,13 @@ static void w2c_kit_text__meaning__push_meaning(Machine * instance, u64 w2c_p0, 
   w2c_i0 = (u32)(w2c_j0);
   w2c_j1 = 0ull;
   w2c_i1 = (u32)(w2c_j1);
-  w2c_i1 = i32_load(&instance->w2c_memory, (u64)(w2c_i1) + 1049578u);
+  w2c_i1 = i32_load(&instance->w2c_memory, (u64)(w2c_i1) + 1049751u);
   i32_store(&instance->w2c_memory, (u64)(w2c_i0) + 196, w2c_i1);
   w2c_j0 = w2c_l7;
   w2c_i0 = (u32)(w2c_j0);
   w2c_j1 = 0ull;
   w2c_i1 = (u32)(w2c_j1);
-  w2c_i1 = i32_load(&instance->w2c_memory, (u64)(w2c_i1) + 1049575u);
+  w2c_i1 = i32_load(&instance->w2c_memory, (u64)(w2c_i1) + 1049748u);
   i32_store(&instance->w2c_memory, (u64)(w2c_i0) + 193, w2c_i1);
   w2c_i0 = w2c_l24;
   w2c_i1 = 9u;
@@ -25512,11 +25531,11 @@ static void w2c_kit_text__meaning__push_meaning(Machine * instance, u64 w2c_p0, 
   w2c_j1 <<= (w2c_j2 & 63);
   w2c_l6 = w2c_j1;
   w2c_i1 = (u32)(w2c_j1);
-  w2c_i1 = i32_load8_u(&instance->w2c_memory, (u64)(w2c_i1) + 1049375u);
+  w2c_i1 = i32_load8_u(&instance->w2c_memory, (u64)(w2c_i1) + 1049548u);
   i32_store8(&instance->w2c_memory, (u64)(w2c_i0) + 191, w2c_i1);
   w2c_j0 = w2c_l6;
   w2c_i0 = (u32)(w2c_j0);
-  w2c_i0 = i32_load8_u(&instance->w2c_memory, (u64)(w2c_i0) + 1049376u);
+  w2c_i0 = i32_load8_u(&instance->w2c_memory, (u64)(w2c_i0) + 1049549u);
   w2c_l24 = w2c_i0;
   w2c_j0 = w2c_l7;
   w2c_j1 = 181ull;
@@ -25529,13 +25548,13 @@ static void w2c_kit_text__meaning__push_meaning(Machine * instance, u64 w2c_p0, 
   w2c_i0 = (u32)(w2c_j0);
   w2c_j1 = 0ull;
   w2c_i1 = (u32)(w2c_j1);
-  w2c_j1 = i64_load(&instance->w2c_memory, (u64)(w2c_i1) + 1049582u);
+  w2c_j1 = i64_load(&instance->w2c_memory, (u64)(w2c_i1) + 1049755u);
   i64_store(&instance->w2c_memory, (u64)(w2c_i0), w2c_j1);
   w2c_j0 = w2c_l9;
   w2c_i0 = (u32)(w2c_j0);
   w2c_j1 = 0ull;
   w2c_i1 = (u32)(w2c_j1);
-  w2c_i1 = i32_load16_u(&instance->w2c_memory, (u64)(w2c_i1) + 1049590u);
+  w2c_i1 = i32_load16_u(&instance->w2c_memory, (u64)(w2c_i1) + 1049763u);
   i32_store16(&instance->w2c_memory, (u64)(w2c_i0) + 8, w2c_i1);
   w2c_j0 = w2c_l7;
   w2c_i0 = (u32)(w2c_j0);
@@ -25601,7 +25620,7 @@ static void w2c_kit_text__meaning__push_meaning(Machine * instance, u64 w2c_p0, 
   w2c_i0 = (u32)(w2c_j0);
   w2c_j1 = w2c_l20;
   i64_store(&instance->w2c_memory, (u64)(w2c_i0), w2c_j1);
-  w2c_j0 = 1049592ull;
+  w2c_j0 = 1049765ull;
   w2c_l9 = w2c_j0;
   w2c_j0 = 3ull;
   w2c_l6 = w2c_j0;
@@ -25637,23 +25656,23 @@ static void w2c_kit_text__meaning__push_meaning(Machine * instance, u64 w2c_p0, 
     default: goto w2c_B65;
   }
   w2c_B72:;
-  w2c_j0 = 1049595ull;
+  w2c_j0 = 1049768ull;
   w2c_l9 = w2c_j0;
   goto w2c_B67;
   w2c_B71:;
-  w2c_j0 = 1049602ull;
+  w2c_j0 = 1049775ull;
   w2c_l9 = w2c_j0;
   goto w2c_B66;
   w2c_B70:;
-  w2c_j0 = 1049605ull;
+  w2c_j0 = 1049778ull;
   w2c_l9 = w2c_j0;
   goto w2c_B67;
   w2c_B69:;
-  w2c_j0 = 1049612ull;
+  w2c_j0 = 1049785ull;
   w2c_l9 = w2c_j0;
   goto w2c_B67;
   w2c_B68:;
-  w2c_j0 = 1049619ull;
+  w2c_j0 = 1049792ull;
   w2c_l9 = w2c_j0;
   w2c_B67:;
   w2c_j0 = 7ull;
@@ -25841,7 +25860,7 @@ static void w2c_kit_text__meaning__push_meaning(Machine * instance, u64 w2c_p0, 
   i64_store(&instance->w2c_memory, (u64)(w2c_i0) + 256, w2c_j1);
   w2c_j0 = w2c_l7;
   w2c_i0 = (u32)(w2c_j0);
-  w2c_j1 = 1049641ull;
+  w2c_j1 = 1049814ull;
   i64_store(&instance->w2c_memory, (u64)(w2c_i0) + 248, w2c_j1);
   w2c_j0 = w2c_l7;
   w2c_i0 = (u32)(w2c_j0);
@@ -25855,7 +25874,7 @@ static void w2c_kit_text__meaning__push_meaning(Machine * instance, u64 w2c_p0, 
   i64_store(&instance->w2c_memory, (u64)(w2c_i0) + 232, w2c_j1);
   w2c_j0 = w2c_l7;
   w2c_i0 = (u32)(w2c_j0);
-  w2c_j1 = 1049602ull;
+  w2c_j1 = 1049775ull;
   i64_store(&instance->w2c_memory, (u64)(w2c_i0) + 224, w2c_j1);
   w2c_j0 = w2c_l7;
   w2c_i0 = (u32)(w2c_j0);
@@ -25871,7 +25890,7 @@ static void w2c_kit_text__meaning__push_meaning(Machine * instance, u64 w2c_p0, 
   i64_store(&instance->w2c_memory, (u64)(w2c_i0) + 208, w2c_j1);
   w2c_j0 = w2c_l7;
   w2c_i0 = (u32)(w2c_j0);
-  w2c_j1 = 1049638ull;
+  w2c_j1 = 1049811ull;
   i64_store(&instance->w2c_memory, (u64)(w2c_i0) + 200, w2c_j1);
   w2c_j0 = w2c_l7;
   w2c_i0 = (u32)(w2c_j0);
@@ -25887,7 +25906,7 @@ static void w2c_kit_text__meaning__push_meaning(Machine * instance, u64 w2c_p0, 
   i64_store(&instance->w2c_memory, (u64)(w2c_i0) + 184, w2c_j1);
   w2c_j0 = w2c_l7;
   w2c_i0 = (u32)(w2c_j0);
-  w2c_j1 = 1049635ull;
+  w2c_j1 = 1049808ull;
   i64_store(&instance->w2c_memory, (u64)(w2c_i0) + 176, w2c_j1);
   w2c_j0 = w2c_l7;
   w2c_i0 = (u32)(w2c_j0);
@@ -25903,7 +25922,7 @@ static void w2c_kit_text__meaning__push_meaning(Machine * instance, u64 w2c_p0, 
   i64_store(&instance->w2c_memory, (u64)(w2c_i0) + 160, w2c_j1);
   w2c_j0 = w2c_l7;
   w2c_i0 = (u32)(w2c_j0);
-  w2c_j1 = 1049592ull;
+  w2c_j1 = 1049765ull;
   i64_store(&instance->w2c_memory, (u64)(w2c_i0) + 152, w2c_j1);
   w2c_j0 = w2c_l7;
   w2c_i0 = (u32)(w2c_j0);
@@ -25919,7 +25938,7 @@ static void w2c_kit_text__meaning__push_meaning(Machine * instance, u64 w2c_p0, 
   i64_store(&instance->w2c_memory, (u64)(w2c_i0) + 136, w2c_j1);
   w2c_j0 = w2c_l7;
   w2c_i0 = (u32)(w2c_j0);
-  w2c_j1 = 1049632ull;
+  w2c_j1 = 1049805ull;
   i64_store(&instance->w2c_memory, (u64)(w2c_i0) + 128, w2c_j1);
   w2c_j0 = w2c_l7;
   w2c_i0 = (u32)(w2c_j0);
@@ -25935,7 +25954,7 @@ static void w2c_kit_text__meaning__push_meaning(Machine * instance, u64 w2c_p0, 
   i64_store(&instance->w2c_memory, (u64)(w2c_i0) + 112, w2c_j1);
   w2c_j0 = w2c_l7;
   w2c_i0 = (u32)(w2c_j0);
-  w2c_j1 = 1049629ull;
+  w2c_j1 = 1049802ull;
   i64_store(&instance->w2c_memory, (u64)(w2c_i0) + 104, w2c_j1);
   w2c_j0 = w2c_l7;
   w2c_i0 = (u32)(w2c_j0);
@@ -25951,7 +25970,7 @@ static void w2c_kit_text__meaning__push_meaning(Machine * instance, u64 w2c_p0, 
   i64_store(&instance->w2c_memory, (u64)(w2c_i0) + 88, w2c_j1);
   w2c_j0 = w2c_l7;
   w2c_i0 = (u32)(w2c_j0);
-  w2c_j1 = 1049626ull;
+  w2c_j1 = 1049799ull;
   i64_store(&instance->w2c_memory, (u64)(w2c_i0) + 80, w2c_j1);
   w2c_j0 = w2c_l7;
   w2c_i0 = (u32)(w2c_j0);
@@ -26090,7 +26109,7 @@ static void w2c_kit_text__meaning__push_meaning(Machine * instance, u64 w2c_p0, 
     goto w2c_B80;
     w2c_B81:;
     w2c_j0 = w2c_l7;
-    w2c_j1 = 1049644ull;
+    w2c_j1 = 1049817ull;
     w2c_j2 = 1ull;
     w2c_i0 = w2c_core__fmt__formatter__Formatter__write_indented____c443fc42141e8c95_(instance, w2c_j0, w2c_j1, w2c_j2);
     w2c_i1 = 255u;
@@ -26591,7 +26610,7 @@ static void w2c_kit_text__meaning__push_meaning(Machine * instance, u64 w2c_p0, 
   w2c_j2 = 1ull;
   w2c_j1 <<= (w2c_j2 & 63);
   w2c_i1 = (u32)(w2c_j1);
-  w2c_i1 = i32_load16_u(&instance->w2c_memory, (u64)(w2c_i1) + 1049375u);
+  w2c_i1 = i32_load16_u(&instance->w2c_memory, (u64)(w2c_i1) + 1049548u);
   i32_store16(&instance->w2c_memory, (u64)(w2c_i0) + 196, w2c_i1);
   w2c_j0 = w2c_l7;
   w2c_i0 = (u32)(w2c_j0);
@@ -26606,7 +26625,7 @@ static void w2c_kit_text__meaning__push_meaning(Machine * instance, u64 w2c_p0, 
   w2c_j2 = 1ull;
   w2c_j1 <<= (w2c_j2 & 63);
   w2c_i1 = (u32)(w2c_j1);
-  w2c_i1 = i32_load16_u(&instance->w2c_memory, (u64)(w2c_i1) + 1049375u);
+  w2c_i1 = i32_load16_u(&instance->w2c_memory, (u64)(w2c_i1) + 1049548u);
   i32_store16(&instance->w2c_memory, (u64)(w2c_i0) + 198, w2c_i1);
   w2c_j0 = 123ull;
   w2c_l6 = w2c_j0;
@@ -26644,7 +26663,7 @@ static void w2c_kit_text__meaning__push_meaning(Machine * instance, u64 w2c_p0, 
   w2c_j2 = 1ull;
   w2c_j1 <<= (w2c_j2 & 63);
   w2c_i1 = (u32)(w2c_j1);
-  w2c_i1 = i32_load16_u(&instance->w2c_memory, (u64)(w2c_i1) + 1049375u);
+  w2c_i1 = i32_load16_u(&instance->w2c_memory, (u64)(w2c_i1) + 1049548u);
   i32_store16(&instance->w2c_memory, (u64)(w2c_i0) + 198, w2c_i1);
   w2c_j0 = 126ull;
   w2c_l6 = w2c_j0;
@@ -26669,7 +26688,7 @@ static void w2c_kit_text__meaning__push_meaning(Machine * instance, u64 w2c_p0, 
   w2c_j2 = 1ull;
   w2c_j1 <<= (w2c_j2 & 63);
   w2c_i1 = (u32)(w2c_j1);
-  w2c_i1 = i32_load16_u(&instance->w2c_memory, (u64)(w2c_i1) + 1049375u);
+  w2c_i1 = i32_load16_u(&instance->w2c_memory, (u64)(w2c_i1) + 1049548u);
   i32_store16(&instance->w2c_memory, (u64)(w2c_i0) + 198, w2c_i1);
   w2c_i0 = w2c_l26;
   w2c_i1 = 999u;
@@ -26692,7 +26711,7 @@ static void w2c_kit_text__meaning__push_meaning(Machine * instance, u64 w2c_p0, 
   w2c_j2 = 1ull;
   w2c_j1 <<= (w2c_j2 & 63);
   w2c_i1 = (u32)(w2c_j1);
-  w2c_i1 = i32_load16_u(&instance->w2c_memory, (u64)(w2c_i1) + 1049375u);
+  w2c_i1 = i32_load16_u(&instance->w2c_memory, (u64)(w2c_i1) + 1049548u);
   i32_store16(&instance->w2c_memory, (u64)(w2c_i0) + 196, w2c_i1);
   w2c_j0 = 124ull;
   w2c_l6 = w2c_j0;
@@ -26743,7 +26762,7 @@ static void w2c_kit_text__meaning__push_meaning(Machine * instance, u64 w2c_p0, 
   w2c_j2 = 1ull;
   w2c_j1 <<= (w2c_j2 & 63);
   w2c_i1 = (u32)(w2c_j1);
-  w2c_i1 = i32_load16_u(&instance->w2c_memory, (u64)(w2c_i1) + 1049375u);
+  w2c_i1 = i32_load16_u(&instance->w2c_memory, (u64)(w2c_i1) + 1049548u);
   i32_store16(&instance->w2c_memory, (u64)(w2c_i0), w2c_i1);
   w2c_j0 = w2c_l8;
   w2c_j1 = 18446744073709551614ull;
@@ -26760,7 +26779,7 @@ static void w2c_kit_text__meaning__push_meaning(Machine * instance, u64 w2c_p0, 
   w2c_j2 = 1ull;
   w2c_j1 <<= (w2c_j2 & 63);
   w2c_i1 = (u32)(w2c_j1);
-  w2c_i1 = i32_load16_u(&instance->w2c_memory, (u64)(w2c_i1) + 1049375u);
+  w2c_i1 = i32_load16_u(&instance->w2c_memory, (u64)(w2c_i1) + 1049548u);
   i32_store16(&instance->w2c_memory, (u64)(w2c_i0), w2c_i1);
   goto w2c_B101;
   w2c_B102:;
@@ -26804,7 +26823,7 @@ static void w2c_kit_text__meaning__push_meaning(Machine * instance, u64 w2c_p0, 
   w2c_j2 = 1ull;
   w2c_j1 <<= (w2c_j2 & 63);
   w2c_i1 = (u32)(w2c_j1);
-  w2c_i1 = i32_load16_u(&instance->w2c_memory, (u64)(w2c_i1) + 1049375u);
+  w2c_i1 = i32_load16_u(&instance->w2c_memory, (u64)(w2c_i1) + 1049548u);
   i32_store16(&instance->w2c_memory, (u64)(w2c_i0), w2c_i1);
   goto w2c_B98;
   w2c_B99:;
@@ -26829,7 +26848,7 @@ static void w2c_kit_text__meaning__push_meaning(Machine * instance, u64 w2c_p0, 
   w2c_j2 = 1ull;
   w2c_j1 <<= (w2c_j2 & 63);
   w2c_i1 = (u32)(w2c_j1);
-  w2c_i1 = i32_load16_u(&instance->w2c_memory, (u64)(w2c_i1) + 1049375u);
+  w2c_i1 = i32_load16_u(&instance->w2c_memory, (u64)(w2c_i1) + 1049548u);
   i32_store16(&instance->w2c_memory, (u64)(w2c_i0), w2c_i1);
   w2c_i0 = w2c_l25;
   w2c_i1 = 999u;
@@ -26864,7 +26883,7 @@ static void w2c_kit_text__meaning__push_meaning(Machine * instance, u64 w2c_p0, 
   w2c_j2 = 1ull;
   w2c_j1 <<= (w2c_j2 & 63);
   w2c_i1 = (u32)(w2c_j1);
-  w2c_i1 = i32_load16_u(&instance->w2c_memory, (u64)(w2c_i1) + 1049375u);
+  w2c_i1 = i32_load16_u(&instance->w2c_memory, (u64)(w2c_i1) + 1049548u);
   i32_store16(&instance->w2c_memory, (u64)(w2c_i0), w2c_i1);
   w2c_B98:;
   w2c_j0 = w2c_l7;
@@ -26991,7 +27010,7 @@ static void w2c_kit_text__meaning__push_meaning(Machine * instance, u64 w2c_p0, 
   w2c_j1 = w2c_l10;
   w2c_j0 += w2c_j1;
   w2c_l10 = w2c_j0;
-  w2c_j1 = 1049653ull;
+  w2c_j1 = 1049826ull;
   w2c_j0 -= w2c_j1;
   w2c_j1 = 8ull;
   w2c_i0 = w2c_j0 > w2c_j1;
@@ -27010,13 +27029,13 @@ static void w2c_kit_text__meaning__push_meaning(Machine * instance, u64 w2c_p0, 
   w2c_i0 = (u32)(w2c_j0);
   w2c_j1 = 0ull;
   w2c_i1 = (u32)(w2c_j1);
-  w2c_i1 = i32_load8_u(&instance->w2c_memory, (u64)(w2c_i1) + 1049661u);
+  w2c_i1 = i32_load8_u(&instance->w2c_memory, (u64)(w2c_i1) + 1049834u);
   i32_store8(&instance->w2c_memory, (u64)(w2c_i0) + 8, w2c_i1);
   w2c_j0 = w2c_l10;
   w2c_i0 = (u32)(w2c_j0);
   w2c_j1 = 0ull;
   w2c_i1 = (u32)(w2c_j1);
-  w2c_j1 = i64_load(&instance->w2c_memory, (u64)(w2c_i1) + 1049653u);
+  w2c_j1 = i64_load(&instance->w2c_memory, (u64)(w2c_i1) + 1049826u);
   i64_store(&instance->w2c_memory, (u64)(w2c_i0), w2c_j1);
   w2c_B107:;
   w2c_j0 = w2c_p1;
@@ -27377,13 +27396,13 @@ static void w2c_kit_text__meaning__push_meaning(Machine * instance, u64 w2c_p0, 
   w2c_i0 = (u32)(w2c_j0);
   w2c_j1 = 0ull;
   w2c_i1 = (u32)(w2c_j1);
-  w2c_i1 = i32_load16_u(&instance->w2c_memory, (u64)(w2c_i1) + 1049703u);
+  w2c_i1 = i32_load16_u(&instance->w2c_memory, (u64)(w2c_i1) + 1049876u);
   i32_store16(&instance->w2c_memory, (u64)(w2c_i0) + 198, w2c_i1);
   w2c_j0 = w2c_l7;
   w2c_i0 = (u32)(w2c_j0);
   w2c_j1 = 0ull;
   w2c_i1 = (u32)(w2c_j1);
-  w2c_i1 = i32_load(&instance->w2c_memory, (u64)(w2c_i1) + 1049699u);
+  w2c_i1 = i32_load(&instance->w2c_memory, (u64)(w2c_i1) + 1049872u);
   i32_store(&instance->w2c_memory, (u64)(w2c_i0) + 194, w2c_i1);
   w2c_j0 = w2c_l7;
   w2c_j1 = 188ull;
@@ -27455,13 +27474,13 @@ static void w2c_kit_text__meaning__push_meaning(Machine * instance, u64 w2c_p0, 
   w2c_i0 = (u32)(w2c_j0);
   w2c_j1 = 0ull;
   w2c_i1 = (u32)(w2c_j1);
-  w2c_i1 = i32_load16_u(&instance->w2c_memory, (u64)(w2c_i1) + 1049703u);
+  w2c_i1 = i32_load16_u(&instance->w2c_memory, (u64)(w2c_i1) + 1049876u);
   i32_store16(&instance->w2c_memory, (u64)(w2c_i0) + 198, w2c_i1);
   w2c_j0 = w2c_l7;
   w2c_i0 = (u32)(w2c_j0);
   w2c_j1 = 0ull;
   w2c_i1 = (u32)(w2c_j1);
-  w2c_i1 = i32_load(&instance->w2c_memory, (u64)(w2c_i1) + 1049699u);
+  w2c_i1 = i32_load(&instance->w2c_memory, (u64)(w2c_i1) + 1049872u);
   i32_store(&instance->w2c_memory, (u64)(w2c_i0) + 194, w2c_i1);
   w2c_j0 = w2c_l7;
   w2c_j1 = 188ull;
@@ -27481,13 +27500,13 @@ static void w2c_kit_text__meaning__push_meaning(Machine * instance, u64 w2c_p0, 
   w2c_i0 = (u32)(w2c_j0);
   w2c_j1 = 0ull;
   w2c_i1 = (u32)(w2c_j1);
-  w2c_i1 = i32_load16_u(&instance->w2c_memory, (u64)(w2c_i1) + 1049703u);
+  w2c_i1 = i32_load16_u(&instance->w2c_memory, (u64)(w2c_i1) + 1049876u);
   i32_store16(&instance->w2c_memory, (u64)(w2c_i0) + 198, w2c_i1);
   w2c_j0 = w2c_l7;
   w2c_i0 = (u32)(w2c_j0);
   w2c_j1 = 0ull;
   w2c_i1 = (u32)(w2c_j1);
-  w2c_i1 = i32_load(&instance->w2c_memory, (u64)(w2c_i1) + 1049699u);
+  w2c_i1 = i32_load(&instance->w2c_memory, (u64)(w2c_i1) + 1049872u);
   i32_store(&instance->w2c_memory, (u64)(w2c_i0) + 194, w2c_i1);
   w2c_j0 = w2c_l12;
   w2c_i0 = (u32)(w2c_j0);
@@ -27529,7 +27548,7 @@ static void w2c_kit_text__meaning__push_meaning(Machine * instance, u64 w2c_p0, 
   w2c_j2 = 254ull;
   w2c_j1 &= w2c_j2;
   w2c_i1 = (u32)(w2c_j1);
-  w2c_i1 = i32_load16_u(&instance->w2c_memory, (u64)(w2c_i1) + 1049375u);
+  w2c_i1 = i32_load16_u(&instance->w2c_memory, (u64)(w2c_i1) + 1049548u);
   i32_store16(&instance->w2c_memory, (u64)(w2c_i0) + 192, w2c_i1);
   w2c_j0 = 13ull;
   w2c_l6 = w2c_j0;
@@ -27557,7 +27576,7 @@ static void w2c_kit_text__meaning__push_meaning(Machine * instance, u64 w2c_p0, 
   w2c_j2 = 1ull;
   w2c_j1 <<= (w2c_j2 & 63);
   w2c_i1 = (u32)(w2c_j1);
-  w2c_i1 = i32_load16_u(&instance->w2c_memory, (u64)(w2c_i1) + 1049375u);
+  w2c_i1 = i32_load16_u(&instance->w2c_memory, (u64)(w2c_i1) + 1049548u);
   i32_store16(&instance->w2c_memory, (u64)(w2c_i0) + 192, w2c_i1);
   w2c_j0 = w2c_l7;
   w2c_j1 = 186ull;
@@ -27570,13 +27589,13 @@ static void w2c_kit_text__meaning__push_meaning(Machine * instance, u64 w2c_p0, 
   w2c_i0 = (u32)(w2c_j0);
   w2c_j1 = 0ull;
   w2c_i1 = (u32)(w2c_j1);
-  w2c_i1 = i32_load8_u(&instance->w2c_memory, (u64)(w2c_i1) + 1049709u);
+  w2c_i1 = i32_load8_u(&instance->w2c_memory, (u64)(w2c_i1) + 1049882u);
   i32_store8(&instance->w2c_memory, (u64)(w2c_i0) + 4, w2c_i1);
   w2c_j0 = w2c_l9;
   w2c_i0 = (u32)(w2c_j0);
   w2c_j1 = 0ull;
   w2c_i1 = (u32)(w2c_j1);
-  w2c_i1 = i32_load(&instance->w2c_memory, (u64)(w2c_i1) + 1049705u);
+  w2c_i1 = i32_load(&instance->w2c_memory, (u64)(w2c_i1) + 1049878u);
   i32_store(&instance->w2c_memory, (u64)(w2c_i0), w2c_i1);
   w2c_j0 = w2c_l6;
   w2c_j1 = w2c_p1;
@@ -27693,7 +27712,7 @@ static void w2c_kit_text__meaning__push_meaning(Machine * instance, u64 w2c_p0, 
   i64_store(&instance->w2c_memory, (u64)(w2c_i0) + 80, w2c_j1);
   w2c_j0 = w2c_l7;
   w2c_i0 = (u32)(w2c_j0);
-  w2c_j1 = 1049710ull;
+  w2c_j1 = 1049883ull;
   i64_store(&instance->w2c_memory, (u64)(w2c_i0) + 72, w2c_j1);
   w2c_j0 = w2c_l7;
   w2c_i0 = (u32)(w2c_j0);
@@ -27812,7 +27831,7 @@ static void w2c_kit_text__meaning__push_meaning(Machine * instance, u64 w2c_p0, 
   w2c_j1 = w2c_p5;
   w2c_j0 += w2c_j1;
   w2c_p5 = w2c_j0;
-  w2c_j1 = 1049720ull;
+  w2c_j1 = 1049893ull;
   w2c_j0 -= w2c_j1;
   w2c_j1 = 7ull;
   w2c_i0 = w2c_j0 > w2c_j1;
@@ -27882,7 +27901,7 @@ static void w2c_kit_text__meaning__push_meaning(Machine * instance, u64 w2c_p0, 
   w2c_j1 = w2c_p5;
   w2c_j0 += w2c_j1;
   w2c_p5 = w2c_j0;
-  w2c_j1 = 1049728ull;
+  w2c_j1 = 1049901ull;
   w2c_j0 -= w2c_j1;
   w2c_j1 = 6ull;
   w2c_i0 = w2c_j0 > w2c_j1;
@@ -27905,13 +27924,13 @@ static void w2c_kit_text__meaning__push_meaning(Machine * instance, u64 w2c_p0, 
   w2c_i0 = (u32)(w2c_j0);
   w2c_j1 = 0ull;
   w2c_i1 = (u32)(w2c_j1);
-  w2c_i1 = i32_load(&instance->w2c_memory, (u64)(w2c_i1) + 1049731u);
+  w2c_i1 = i32_load(&instance->w2c_memory, (u64)(w2c_i1) + 1049904u);
   i32_store(&instance->w2c_memory, (u64)(w2c_i0) + 3, w2c_i1);
   w2c_j0 = w2c_p5;
   w2c_i0 = (u32)(w2c_j0);
   w2c_j1 = 0ull;
   w2c_i1 = (u32)(w2c_j1);
-  w2c_i1 = i32_load(&instance->w2c_memory, (u64)(w2c_i1) + 1049728u);
+  w2c_i1 = i32_load(&instance->w2c_memory, (u64)(w2c_i1) + 1049901u);
   i32_store(&instance->w2c_memory, (u64)(w2c_i0), w2c_i1);
   w2c_B138:;
   w2c_j0 = w2c_p1;
@@ -27968,7 +27987,7 @@ static void w2c_kit_text__meaning__push_meaning(Machine * instance, u64 w2c_p0, 
   w2c_j1 = w2c_p5;
   w2c_j0 += w2c_j1;
   w2c_p5 = w2c_j0;
-  w2c_j1 = 1049735ull;
+  w2c_j1 = 1049908ull;
   w2c_j0 -= w2c_j1;
   w2c_j1 = 10ull;
   w2c_i0 = w2c_j0 > w2c_j1;
@@ -27991,13 +28010,13 @@ static void w2c_kit_text__meaning__push_meaning(Machine * instance, u64 w2c_p0, 
   w2c_i0 = (u32)(w2c_j0);
   w2c_j1 = 0ull;
   w2c_i1 = (u32)(w2c_j1);
-  w2c_i1 = i32_load(&instance->w2c_memory, (u64)(w2c_i1) + 1049742u);
+  w2c_i1 = i32_load(&instance->w2c_memory, (u64)(w2c_i1) + 1049915u);
   i32_store(&instance->w2c_memory, (u64)(w2c_i0) + 7, w2c_i1);
   w2c_j0 = w2c_p5;
   w2c_i0 = (u32)(w2c_j0);
   w2c_j1 = 0ull;
   w2c_i1 = (u32)(w2c_j1);
-  w2c_j1 = i64_load(&instance->w2c_memory, (u64)(w2c_i1) + 1049735u);
+  w2c_j1 = i64_load(&instance->w2c_memory, (u64)(w2c_i1) + 1049908u);
   i64_store(&instance->w2c_memory, (u64)(w2c_i0), w2c_j1);
   w2c_B141:;
   w2c_j0 = w2c_p1;
@@ -28054,7 +28073,7 @@ static void w2c_kit_text__meaning__push_meaning(Machine * instance, u64 w2c_p0, 
   w2c_j1 = w2c_p5;
   w2c_j0 += w2c_j1;
   w2c_p5 = w2c_j0;
-  w2c_j1 = 1049746ull;
+  w2c_j1 = 1049919ull;
   w2c_j0 -= w2c_j1;
   w2c_j1 = 8ull;
   w2c_i0 = w2c_j0 > w2c_j1;
@@ -28073,13 +28092,13 @@ static void w2c_kit_text__meaning__push_meaning(Machine * instance, u64 w2c_p0, 
   w2c_i0 = (u32)(w2c_j0);
   w2c_j1 = 0ull;
   w2c_i1 = (u32)(w2c_j1);
-  w2c_i1 = i32_load8_u(&instance->w2c_memory, (u64)(w2c_i1) + 1049754u);
+  w2c_i1 = i32_load8_u(&instance->w2c_memory, (u64)(w2c_i1) + 1049927u);
   i32_store8(&instance->w2c_memory, (u64)(w2c_i0) + 8, w2c_i1);
   w2c_j0 = w2c_p5;
   w2c_i0 = (u32)(w2c_j0);
   w2c_j1 = 0ull;
   w2c_i1 = (u32)(w2c_j1);
-  w2c_j1 = i64_load(&instance->w2c_memory, (u64)(w2c_i1) + 1049746u);
+  w2c_j1 = i64_load(&instance->w2c_memory, (u64)(w2c_i1) + 1049919u);
   i64_store(&instance->w2c_memory, (u64)(w2c_i0), w2c_j1);
   w2c_B144:;
   w2c_j0 = w2c_p1;
@@ -28106,7 +28125,7 @@ static void w2c_kit_text__meaning__push_meaning(Machine * instance, u64 w2c_p0, 
   i64_store(&instance->w2c_memory, (u64)(w2c_i0) + 8, w2c_j1);
   w2c_j0 = w2c_l7;
   w2c_i0 = (u32)(w2c_j0);
-  w2c_j1 = 1049768ull;
+  w2c_j1 = 1049941ull;
   i64_store(&instance->w2c_memory, (u64)(w2c_i0), w2c_j1);
   w2c_j0 = w2c_l7;
   w2c_i0 = (u32)(w2c_j0);
@@ -28132,7 +28151,7 @@ static void w2c_kit_text__meaning__push_meaning(Machine * instance, u64 w2c_p0, 
   i64_store(&instance->w2c_memory, (u64)(w2c_i0) + 80, w2c_j1);
   w2c_j0 = w2c_l7;
   w2c_i0 = (u32)(w2c_j0);
-  w2c_j1 = 1049755ull;
+  w2c_j1 = 1049928ull;
   i64_store(&instance->w2c_memory, (u64)(w2c_i0) + 72, w2c_j1);
   w2c_j0 = w2c_l7;
   w2c_i0 = (u32)(w2c_j0);
@@ -28494,7 +28513,7 @@ static u32 w2c_kit_text__options__push_option(Machine * instance, u64 w2c_p0, u6
   w2c_j1 = w2c_p1;
   w2c_j0 += w2c_j1;
   w2c_p1 = w2c_j0;
-  w2c_j1 = 1049662ull;
+  w2c_j1 = 1049835ull;
   w2c_j0 -= w2c_j1;
   w2c_j1 = 2ull;
   w2c_i0 = w2c_j0 > w2c_j1;
@@ -28513,13 +28532,13 @@ static u32 w2c_kit_text__options__push_option(Machine * instance, u64 w2c_p0, u6
   w2c_i0 = (u32)(w2c_j0);
   w2c_j1 = 0ull;
   w2c_i1 = (u32)(w2c_j1);
-  w2c_i1 = i32_load8_u(&instance->w2c_memory, (u64)(w2c_i1) + 1049664u);
+  w2c_i1 = i32_load8_u(&instance->w2c_memory, (u64)(w2c_i1) + 1049837u);
   i32_store8(&instance->w2c_memory, (u64)(w2c_i0) + 2, w2c_i1);
   w2c_j0 = w2c_p1;
   w2c_i0 = (u32)(w2c_j0);
   w2c_j1 = 0ull;
   w2c_i1 = (u32)(w2c_j1);
-  w2c_i1 = i32_load16_u(&instance->w2c_memory, (u64)(w2c_i1) + 1049662u);
+  w2c_i1 = i32_load16_u(&instance->w2c_memory, (u64)(w2c_i1) + 1049835u);
   i32_store16(&instance->w2c_memory, (u64)(w2c_i0), w2c_i1);
   w2c_B10:;
   w2c_j0 = w2c_p0;
@@ -28681,7 +28700,7 @@ static u32 w2c_kit_text__options__push_option(Machine * instance, u64 w2c_p0, u6
   w2c_j1 = w2c_l3;
   w2c_j0 += w2c_j1;
   w2c_l3 = w2c_j0;
-  w2c_j1 = 1049665ull;
+  w2c_j1 = 1049838ull;
   w2c_j0 -= w2c_j1;
   w2c_j1 = 3ull;
   w2c_i0 = w2c_j0 > w2c_j1;
@@ -29117,7 +29136,7 @@ static u32 w2c_kit_text__options__push_option(Machine * instance, u64 w2c_p0, u6
   i64_store(&instance->w2c_memory, (u64)(w2c_i0) + 8, w2c_j1);
   w2c_j0 = w2c_l2;
   w2c_i0 = (u32)(w2c_j0);
-  w2c_j1 = 1049669ull;
+  w2c_j1 = 1049842ull;
   i64_store(&instance->w2c_memory, (u64)(w2c_i0), w2c_j1);
   w2c_j0 = w2c_l2;
   w2c_i0 = (u32)(w2c_j0);
@@ -29178,7 +29197,7 @@ static u32 w2c_kit_text__options__push_option(Machine * instance, u64 w2c_p0, u6
   w2c_j1 = w2c_p1;
   w2c_j0 += w2c_j1;
   w2c_p1 = w2c_j0;
-  w2c_j1 = 1049672ull;
+  w2c_j1 = 1049845ull;
   w2c_j0 -= w2c_j1;
   w2c_j1 = 5ull;
   w2c_i0 = w2c_j0 > w2c_j1;
@@ -29197,13 +29216,13 @@ static u32 w2c_kit_text__options__push_option(Machine * instance, u64 w2c_p0, u6
   w2c_i0 = (u32)(w2c_j0);
   w2c_j1 = 0ull;
   w2c_i1 = (u32)(w2c_j1);
-  w2c_i1 = i32_load16_u(&instance->w2c_memory, (u64)(w2c_i1) + 1049676u);
+  w2c_i1 = i32_load16_u(&instance->w2c_memory, (u64)(w2c_i1) + 1049849u);
   i32_store16(&instance->w2c_memory, (u64)(w2c_i0) + 4, w2c_i1);
   w2c_j0 = w2c_p1;
   w2c_i0 = (u32)(w2c_j0);
   w2c_j1 = 0ull;
   w2c_i1 = (u32)(w2c_j1);
-  w2c_i1 = i32_load(&instance->w2c_memory, (u64)(w2c_i1) + 1049672u);
+  w2c_i1 = i32_load(&instance->w2c_memory, (u64)(w2c_i1) + 1049845u);
   i32_store(&instance->w2c_memory, (u64)(w2c_i0), w2c_i1);
   w2c_B28:;
   w2c_j0 = w2c_p0;
@@ -29271,7 +29290,7 @@ static u32 w2c_kit_text__options__push_option(Machine * instance, u64 w2c_p0, u6
   w2c_j1 = w2c_l4;
   w2c_j0 += w2c_j1;
   w2c_l4 = w2c_j0;
-  w2c_j1 = 1049678ull;
+  w2c_j1 = 1049851ull;
   w2c_j0 -= w2c_j1;
   w2c_j1 = 4ull;
   w2c_i0 = w2c_j0 > w2c_j1;
@@ -29290,13 +29309,13 @@ static u32 w2c_kit_text__options__push_option(Machine * instance, u64 w2c_p0, u6
   w2c_i0 = (u32)(w2c_j0);
   w2c_j1 = 0ull;
   w2c_i1 = (u32)(w2c_j1);
-  w2c_i1 = i32_load8_u(&instance->w2c_memory, (u64)(w2c_i1) + 1049682u);
+  w2c_i1 = i32_load8_u(&instance->w2c_memory, (u64)(w2c_i1) + 1049855u);
   i32_store8(&instance->w2c_memory, (u64)(w2c_i0) + 4, w2c_i1);
   w2c_j0 = w2c_l4;
   w2c_i0 = (u32)(w2c_j0);
   w2c_j1 = 0ull;
   w2c_i1 = (u32)(w2c_j1);
-  w2c_i1 = i32_load(&instance->w2c_memory, (u64)(w2c_i1) + 1049678u);
+  w2c_i1 = i32_load(&instance->w2c_memory, (u64)(w2c_i1) + 1049851u);
   i32_store(&instance->w2c_memory, (u64)(w2c_i0), w2c_i1);
   w2c_B31:;
   w2c_j0 = w2c_p0;
@@ -29532,7 +29551,7 @@ static u32 w2c_kit_text__options__push_option(Machine * instance, u64 w2c_p0, u6
   w2c_j2 = 1ull;
   w2c_j1 <<= (w2c_j2 & 63);
   w2c_i1 = (u32)(w2c_j1);
-  w2c_i1 = i32_load16_u(&instance->w2c_memory, (u64)(w2c_i1) + 1049375u);
+  w2c_i1 = i32_load16_u(&instance->w2c_memory, (u64)(w2c_i1) + 1049548u);
   i32_store16(&instance->w2c_memory, (u64)(w2c_i0) + 205, w2c_i1);
   w2c_j0 = 7ull;
   w2c_l3 = w2c_j0;
@@ -29560,7 +29579,7 @@ static u32 w2c_kit_text__options__push_option(Machine * instance, u64 w2c_p0, u6
   w2c_j2 = 1ull;
   w2c_j1 <<= (w2c_j2 & 63);
   w2c_i1 = (u32)(w2c_j1);
-  w2c_i1 = i32_load16_u(&instance->w2c_memory, (u64)(w2c_i1) + 1049375u);
+  w2c_i1 = i32_load16_u(&instance->w2c_memory, (u64)(w2c_i1) + 1049548u);
   i32_store16(&instance->w2c_memory, (u64)(w2c_i0) + 205, w2c_i1);
   w2c_j0 = w2c_l2;
   w2c_j1 = 200ull;
@@ -30949,7 +30968,7 @@ static u32 w2c_kit_text__bytes__push_bytes(Machine * instance, u64 w2c_p0, u64 w
     w2c_j2 = 15ull;
     w2c_j1 &= w2c_j2;
     w2c_i1 = (u32)(w2c_j1);
-    w2c_i1 = i32_load8_u(&instance->w2c_memory, (u64)(w2c_i1) + 1049683u);
+    w2c_i1 = i32_load8_u(&instance->w2c_memory, (u64)(w2c_i1) + 1049856u);
     i32_store8(&instance->w2c_memory, (u64)(w2c_i0), w2c_i1);
     w2c_j0 = w2c_l3;
     w2c_i0 = (u32)(w2c_j0);
@@ -30957,7 +30976,7 @@ static u32 w2c_kit_text__bytes__push_bytes(Machine * instance, u64 w2c_p0, u64 w
     w2c_j2 = 4ull;
     w2c_j1 >>= (w2c_j2 & 63);
     w2c_i1 = (u32)(w2c_j1);
-    w2c_i1 = i32_load8_u(&instance->w2c_memory, (u64)(w2c_i1) + 1049683u);
+    w2c_i1 = i32_load8_u(&instance->w2c_memory, (u64)(w2c_i1) + 1049856u);
     i32_store8(&instance->w2c_memory, (u64)(w2c_i0), w2c_i1);
     w2c_j0 = w2c_l6;
     w2c_j1 = 1ull;
@@ -32840,7 +32859,7 @@ static u32 w2c_kit_text__options__push_block____2684e1456f717445_(Machine * inst
     w2c_j2 = 1ull;
     w2c_j1 <<= (w2c_j2 & 63);
     w2c_i1 = (u32)(w2c_j1);
-    w2c_i1 = i32_load16_u(&instance->w2c_memory, (u64)(w2c_i1) + 1049375u);
+    w2c_i1 = i32_load16_u(&instance->w2c_memory, (u64)(w2c_i1) + 1049548u);
     i32_store16(&instance->w2c_memory, (u64)(w2c_i0), w2c_i1);
     w2c_j0 = w2c_l5;
     w2c_j1 = 18446744073709551614ull;
@@ -32857,7 +32876,7 @@ static u32 w2c_kit_text__options__push_block____2684e1456f717445_(Machine * inst
     w2c_j2 = 1ull;
     w2c_j1 <<= (w2c_j2 & 63);
     w2c_i1 = (u32)(w2c_j1);
-    w2c_i1 = i32_load16_u(&instance->w2c_memory, (u64)(w2c_i1) + 1049375u);
+    w2c_i1 = i32_load16_u(&instance->w2c_memory, (u64)(w2c_i1) + 1049548u);
     i32_store16(&instance->w2c_memory, (u64)(w2c_i0), w2c_i1);
     w2c_j0 = w2c_l2;
     w2c_j1 = 18446744073709551612ull;
@@ -32901,7 +32920,7 @@ static u32 w2c_kit_text__options__push_block____2684e1456f717445_(Machine * inst
   w2c_j2 = 1ull;
   w2c_j1 <<= (w2c_j2 & 63);
   w2c_i1 = (u32)(w2c_j1);
-  w2c_i1 = i32_load16_u(&instance->w2c_memory, (u64)(w2c_i1) + 1049375u);
+  w2c_i1 = i32_load16_u(&instance->w2c_memory, (u64)(w2c_i1) + 1049548u);
   i32_store16(&instance->w2c_memory, (u64)(w2c_i0), w2c_i1);
   goto w2c_B3;
   w2c_B4:;
@@ -32929,7 +32948,7 @@ static u32 w2c_kit_text__options__push_block____2684e1456f717445_(Machine * inst
   w2c_j2 = 1ull;
   w2c_j1 <<= (w2c_j2 & 63);
   w2c_i1 = (u32)(w2c_j1);
-  w2c_i1 = i32_load16_u(&instance->w2c_memory, (u64)(w2c_i1) + 1049375u);
+  w2c_i1 = i32_load16_u(&instance->w2c_memory, (u64)(w2c_i1) + 1049548u);
   i32_store16(&instance->w2c_memory, (u64)(w2c_i0), w2c_i1);
   w2c_j0 = w2c_l4;
   w2c_j1 = 999ull;
@@ -32960,7 +32979,7 @@ static u32 w2c_kit_text__options__push_block____2684e1456f717445_(Machine * inst
   w2c_j2 = 1ull;
   w2c_j1 <<= (w2c_j2 & 63);
   w2c_i1 = (u32)(w2c_j1);
-  w2c_i1 = i32_load16_u(&instance->w2c_memory, (u64)(w2c_i1) + 1049375u);
+  w2c_i1 = i32_load16_u(&instance->w2c_memory, (u64)(w2c_i1) + 1049548u);
   i32_store16(&instance->w2c_memory, (u64)(w2c_i0), w2c_i1);
   w2c_B3:;
   w2c_j0 = w2c_l3;
@@ -33009,7 +33028,7 @@ static u32 w2c_kit_text__options__push_block____2684e1456f717445_(Machine * inst
     w2c_j2 = 1ull;
     w2c_j1 <<= (w2c_j2 & 63);
     w2c_i1 = (u32)(w2c_j1);
-    w2c_i1 = i32_load16_u(&instance->w2c_memory, (u64)(w2c_i1) + 1049375u);
+    w2c_i1 = i32_load16_u(&instance->w2c_memory, (u64)(w2c_i1) + 1049548u);
     i32_store16(&instance->w2c_memory, (u64)(w2c_i0), w2c_i1);
     w2c_j0 = w2c_l5;
     w2c_j1 = 2ull;
@@ -33026,7 +33045,7 @@ static u32 w2c_kit_text__options__push_block____2684e1456f717445_(Machine * inst
     w2c_j2 = 1ull;
     w2c_j1 <<= (w2c_j2 & 63);
     w2c_i1 = (u32)(w2c_j1);
-    w2c_i1 = i32_load16_u(&instance->w2c_memory, (u64)(w2c_i1) + 1049375u);
+    w2c_i1 = i32_load16_u(&instance->w2c_memory, (u64)(w2c_i1) + 1049548u);
     i32_store16(&instance->w2c_memory, (u64)(w2c_i0), w2c_i1);
     w2c_j0 = w2c_l2;
     w2c_j1 = 18446744073709551612ull;
@@ -33074,7 +33093,7 @@ static u32 w2c_kit_text__options__push_block____2684e1456f717445_(Machine * inst
   w2c_j2 = 1ull;
   w2c_j1 <<= (w2c_j2 & 63);
   w2c_i1 = (u32)(w2c_j1);
-  w2c_i1 = i32_load16_u(&instance->w2c_memory, (u64)(w2c_i1) + 1049375u);
+  w2c_i1 = i32_load16_u(&instance->w2c_memory, (u64)(w2c_i1) + 1049548u);
   i32_store16(&instance->w2c_memory, (u64)(w2c_i0), w2c_i1);
   goto w2c_B9;
   w2c_B10:;
@@ -33102,7 +33121,7 @@ static u32 w2c_kit_text__options__push_block____2684e1456f717445_(Machine * inst
   w2c_j2 = 1ull;
   w2c_j1 <<= (w2c_j2 & 63);
   w2c_i1 = (u32)(w2c_j1);
-  w2c_i1 = i32_load16_u(&instance->w2c_memory, (u64)(w2c_i1) + 1049375u);
+  w2c_i1 = i32_load16_u(&instance->w2c_memory, (u64)(w2c_i1) + 1049548u);
   i32_store16(&instance->w2c_memory, (u64)(w2c_i0), w2c_i1);
   w2c_j0 = w2c_l4;
   w2c_j1 = 999ull;
@@ -33133,7 +33152,7 @@ static u32 w2c_kit_text__options__push_block____2684e1456f717445_(Machine * inst
   w2c_j2 = 1ull;
   w2c_j1 <<= (w2c_j2 & 63);
   w2c_i1 = (u32)(w2c_j1);
-  w2c_i1 = i32_load16_u(&instance->w2c_memory, (u64)(w2c_i1) + 1049375u);
+  w2c_i1 = i32_load16_u(&instance->w2c_memory, (u64)(w2c_i1) + 1049548u);
   i32_store16(&instance->w2c_memory, (u64)(w2c_i0), w2c_i1);
   w2c_B9:;
   w2c_j0 = 128ull;
@@ -33596,7 +33615,7 @@ static void w2c_kit_script__script__read_script_bytes(Machine * instance, u64 w2
   if (w2c_i0) {goto w2c_B13;}
   w2c_j0 = w2c_p2;
   w2c_j1 = 8ull;
-  w2c_j2 = 1049799ull;
+  w2c_j2 = 1049972ull;
   w2c_i0 = w2c_core__cmp__slices__groups_equal___i8_31_core__cmp__numbers__U8PartialEq___(instance, w2c_j0, w2c_j1, w2c_j2);
   if (w2c_i0) {goto w2c_B9;}
   w2c_B13:;
@@ -33793,7 +33812,7 @@ static void w2c_kit_script__script__read_script_bytes(Machine * instance, u64 w2
   if (w2c_i0) {goto w2c_B6;}
   w2c_j0 = w2c_p2;
   w2c_j1 = 8ull;
-  w2c_j2 = 1049807ull;
+  w2c_j2 = 1049980ull;
   w2c_i0 = w2c_core__cmp__slices__groups_equal___i8_31_core__cmp__numbers__U8PartialEq___(instance, w2c_j0, w2c_j1, w2c_j2);
   w2c_i0 = !(w2c_i0);
   if (w2c_i0) {goto w2c_B6;}
@@ -34360,7 +34379,7 @@ static void w2c_kit_script__script__read_script_bytes(Machine * instance, u64 w2
     if (w2c_i0) {goto w2c_B60;}
     w2c_j0 = w2c_l8;
     w2c_j1 = 6ull;
-    w2c_j2 = 1049815ull;
+    w2c_j2 = 1049988ull;
     w2c_i0 = w2c_core__cmp__slices__groups_equal___i8_31_core__cmp__numbers__U8PartialEq___(instance, w2c_j0, w2c_j1, w2c_j2);
     w2c_i0 = !(w2c_i0);
     if (w2c_i0) {goto w2c_B60;}
@@ -34593,7 +34612,7 @@ static void w2c_kit_script__script__read_script_bytes(Machine * instance, u64 w2
     if (w2c_i0) {goto w2c_B46;}
     w2c_j0 = w2c_l17;
     w2c_j1 = 5ull;
-    w2c_j2 = 1049831ull;
+    w2c_j2 = 1050004ull;
     w2c_i0 = w2c_core__cmp__slices__groups_equal___i8_31_core__cmp__numbers__U8PartialEq___(instance, w2c_j0, w2c_j1, w2c_j2);
     w2c_l27 = w2c_i0;
     w2c_j0 = w2c_l15;
@@ -34658,7 +34677,7 @@ static void w2c_kit_script__script__read_script_bytes(Machine * instance, u64 w2
     if (w2c_i0) {goto w2c_B71;}
     w2c_j0 = w2c_l7;
     w2c_j1 = 4ull;
-    w2c_j2 = 1049827ull;
+    w2c_j2 = 1050000ull;
     w2c_i0 = w2c_core__cmp__slices__groups_equal___i8_31_core__cmp__numbers__U8PartialEq___(instance, w2c_j0, w2c_j1, w2c_j2);
     if (w2c_i0) {goto w2c_B70;}
     w2c_B71:;
@@ -34890,7 +34909,7 @@ static void w2c_kit_script__script__read_script_bytes(Machine * instance, u64 w2
     if (w2c_i0) {goto w2c_B53;}
     w2c_j0 = w2c_l8;
     w2c_j1 = 6ull;
-    w2c_j2 = 1049821ull;
+    w2c_j2 = 1049994ull;
     w2c_i0 = w2c_core__cmp__slices__groups_equal___i8_31_core__cmp__numbers__U8PartialEq___(instance, w2c_j0, w2c_j1, w2c_j2);
     w2c_i0 = !(w2c_i0);
     if (w2c_i0) {goto w2c_B53;}
@@ -35500,7 +35519,7 @@ static void w2c_kit_script__script__read_script_bytes(Machine * instance, u64 w2
     if (w2c_i0) {goto w2c_B46;}
     w2c_j0 = w2c_l17;
     w2c_j1 = 4ull;
-    w2c_j2 = 1049838ull;
+    w2c_j2 = 1050011ull;
     w2c_i0 = w2c_core__cmp__slices__groups_equal___i8_31_core__cmp__numbers__U8PartialEq___(instance, w2c_j0, w2c_j1, w2c_j2);
     w2c_i0 = !(w2c_i0);
     if (w2c_i0) {goto w2c_B46;}
@@ -35925,7 +35944,7 @@ static void w2c_kit_script__script__read_script_bytes(Machine * instance, u64 w2
     w2c_l7 = w2c_j0;
     w2c_j0 = w2c_l8;
     w2c_j1 = 6ull;
-    w2c_j2 = 1049815ull;
+    w2c_j2 = 1049988ull;
     w2c_i0 = w2c_core__cmp__slices__groups_equal___i8_31_core__cmp__numbers__U8PartialEq___(instance, w2c_j0, w2c_j1, w2c_j2);
     w2c_i0 = !(w2c_i0);
     if (w2c_i0) {goto w2c_B97;}
@@ -37088,7 +37107,7 @@ static void w2c_kit_script__events__read_event(Machine * instance, u64 w2c_p0, u
   w2c_l18 = w2c_i0;
   w2c_j0 = w2c_p2;
   w2c_j1 = 7ull;
-  w2c_j2 = 1049842ull;
+  w2c_j2 = 1050015ull;
   w2c_i0 = w2c_core__cmp__slices__groups_equal___i8_31_core__cmp__numbers__U8PartialEq___(instance, w2c_j0, w2c_j1, w2c_j2);
   if (w2c_i0) {goto w2c_B11;}
   w2c_B21:;
@@ -37117,7 +37136,7 @@ static void w2c_kit_script__events__read_event(Machine * instance, u64 w2c_p0, u
   if (w2c_i0) {goto w2c_B13;}
   w2c_j0 = w2c_p2;
   w2c_j1 = 7ull;
-  w2c_j2 = 1049859ull;
+  w2c_j2 = 1050032ull;
   w2c_i0 = w2c_core__cmp__slices__groups_equal___i8_31_core__cmp__numbers__U8PartialEq___(instance, w2c_j0, w2c_j1, w2c_j2);
   w2c_i0 = !(w2c_i0);
   if (w2c_i0) {goto w2c_B10;}
@@ -37173,7 +37192,7 @@ static void w2c_kit_script__events__read_event(Machine * instance, u64 w2c_p0, u
   if (w2c_i0) {goto w2c_B16;}
   w2c_j0 = w2c_p2;
   w2c_j1 = 5ull;
-  w2c_j2 = 1049866ull;
+  w2c_j2 = 1050039ull;
   w2c_i0 = w2c_core__cmp__slices__groups_equal___i8_31_core__cmp__numbers__U8PartialEq___(instance, w2c_j0, w2c_j1, w2c_j2);
   w2c_i0 = !(w2c_i0);
   if (w2c_i0) {goto w2c_B15;}
@@ -37228,7 +37247,7 @@ static void w2c_kit_script__events__read_event(Machine * instance, u64 w2c_p0, u
   if (w2c_i0) {goto w2c_B14;}
   w2c_j0 = w2c_p2;
   w2c_j1 = 4ull;
-  w2c_j2 = 1049855ull;
+  w2c_j2 = 1050028ull;
   w2c_i0 = w2c_core__cmp__slices__groups_equal___i8_31_core__cmp__numbers__U8PartialEq___(instance, w2c_j0, w2c_j1, w2c_j2);
   w2c_i0 = !(w2c_i0);
   if (w2c_i0) {goto w2c_B14;}
@@ -37283,7 +37302,7 @@ static void w2c_kit_script__events__read_event(Machine * instance, u64 w2c_p0, u
   if (w2c_i0) {goto w2c_B12;}
   w2c_j0 = w2c_p2;
   w2c_j1 = 6ull;
-  w2c_j2 = 1049849ull;
+  w2c_j2 = 1050022ull;
   w2c_i0 = w2c_core__cmp__slices__groups_equal___i8_31_core__cmp__numbers__U8PartialEq___(instance, w2c_j0, w2c_j1, w2c_j2);
   w2c_i0 = !(w2c_i0);
   if (w2c_i0) {goto w2c_B12;}
@@ -37315,7 +37334,7 @@ static void w2c_kit_script__events__read_event(Machine * instance, u64 w2c_p0, u
   if (w2c_i0) {goto w2c_B15;}
   w2c_j0 = w2c_p2;
   w2c_j1 = 5ull;
-  w2c_j2 = 1049871ull;
+  w2c_j2 = 1050044ull;
   w2c_i0 = w2c_core__cmp__slices__groups_equal___i8_31_core__cmp__numbers__U8PartialEq___(instance, w2c_j0, w2c_j1, w2c_j2);
   w2c_i0 = !(w2c_i0);
   if (w2c_i0) {goto w2c_B15;}
@@ -37349,7 +37368,7 @@ static void w2c_kit_script__events__read_event(Machine * instance, u64 w2c_p0, u
   if (w2c_i0) {goto w2c_B10;}
   w2c_j0 = w2c_p2;
   w2c_j1 = 5ull;
-  w2c_j2 = 1049887ull;
+  w2c_j2 = 1050060ull;
   w2c_i0 = w2c_core__cmp__slices__groups_equal___i8_31_core__cmp__numbers__U8PartialEq___(instance, w2c_j0, w2c_j1, w2c_j2);
   w2c_i0 = !(w2c_i0);
   if (w2c_i0) {goto w2c_B10;}
@@ -37383,7 +37402,7 @@ static void w2c_kit_script__events__read_event(Machine * instance, u64 w2c_p0, u
   if (w2c_i0) {goto w2c_B10;}
   w2c_j0 = w2c_p2;
   w2c_j1 = 4ull;
-  w2c_j2 = 1049892ull;
+  w2c_j2 = 1050065ull;
   w2c_i0 = w2c_core__cmp__slices__groups_equal___i8_31_core__cmp__numbers__U8PartialEq___(instance, w2c_j0, w2c_j1, w2c_j2);
   w2c_i0 = !(w2c_i0);
   if (w2c_i0) {goto w2c_B10;}
@@ -37413,7 +37432,7 @@ static void w2c_kit_script__events__read_event(Machine * instance, u64 w2c_p0, u
   if (w2c_i0) {goto w2c_B10;}
   w2c_j0 = w2c_p2;
   w2c_j1 = 7ull;
-  w2c_j2 = 1049928ull;
+  w2c_j2 = 1050101ull;
   w2c_i0 = w2c_core__cmp__slices__groups_equal___i8_31_core__cmp__numbers__U8PartialEq___(instance, w2c_j0, w2c_j1, w2c_j2);
   w2c_i0 = !(w2c_i0);
   if (w2c_i0) {goto w2c_B10;}
@@ -37447,7 +37466,7 @@ static void w2c_kit_script__events__read_event(Machine * instance, u64 w2c_p0, u
   if (w2c_i0) {goto w2c_B10;}
   w2c_j0 = w2c_p2;
   w2c_j1 = 6ull;
-  w2c_j2 = 1049935ull;
+  w2c_j2 = 1050108ull;
   w2c_i0 = w2c_core__cmp__slices__groups_equal___i8_31_core__cmp__numbers__U8PartialEq___(instance, w2c_j0, w2c_j1, w2c_j2);
   w2c_i0 = !(w2c_i0);
   if (w2c_i0) {goto w2c_B10;}
@@ -38058,7 +38077,7 @@ static void w2c_kit_script__events__read_event(Machine * instance, u64 w2c_p0, u
   if (w2c_i0) {goto w2c_B5;}
   w2c_j0 = w2c_l6;
   w2c_j1 = 8ull;
-  w2c_j2 = 1049958ull;
+  w2c_j2 = 1050131ull;
   w2c_i0 = w2c_core__cmp__slices__groups_equal___i8_31_core__cmp__numbers__U8PartialEq___(instance, w2c_j0, w2c_j1, w2c_j2);
   w2c_i0 = !(w2c_i0);
   if (w2c_i0) {goto w2c_B5;}
@@ -38104,7 +38123,7 @@ static void w2c_kit_script__events__read_event(Machine * instance, u64 w2c_p0, u
   if (w2c_i0) {goto w2c_B5;}
   w2c_j0 = w2c_l6;
   w2c_j1 = 7ull;
-  w2c_j2 = 1049951ull;
+  w2c_j2 = 1050124ull;
   w2c_i0 = w2c_core__cmp__slices__groups_equal___i8_31_core__cmp__numbers__U8PartialEq___(instance, w2c_j0, w2c_j1, w2c_j2);
   w2c_i0 = !(w2c_i0);
   if (w2c_i0) {goto w2c_B5;}
@@ -38150,7 +38169,7 @@ static void w2c_kit_script__events__read_event(Machine * instance, u64 w2c_p0, u
   if (w2c_i0) {goto w2c_B5;}
   w2c_j0 = w2c_l6;
   w2c_j1 = 10ull;
-  w2c_j2 = 1049941ull;
+  w2c_j2 = 1050114ull;
   w2c_i0 = w2c_core__cmp__slices__groups_equal___i8_31_core__cmp__numbers__U8PartialEq___(instance, w2c_j0, w2c_j1, w2c_j2);
   w2c_i0 = !(w2c_i0);
   if (w2c_i0) {goto w2c_B5;}
@@ -39105,7 +39124,7 @@ static void w2c_kit_script__settings__read_setting(Machine * instance, u64 w2c_p
   if (w2c_i0) {goto w2c_B7;}
   w2c_j0 = w2c_p1;
   w2c_j1 = w2c_p2;
-  w2c_j2 = 1049970ull;
+  w2c_j2 = 1050143ull;
   w2c_i0 = w2c_core__cmp__slices__groups_equal___i8_31_core__cmp__numbers__U8PartialEq___(instance, w2c_j0, w2c_j1, w2c_j2);
   w2c_i0 = !(w2c_i0);
   if (w2c_i0) {goto w2c_B7;}
@@ -39405,7 +39424,7 @@ static void w2c_kit_script__settings__read_setting(Machine * instance, u64 w2c_p
   if (w2c_i0) {goto w2c_B24;}
   w2c_j0 = w2c_p1;
   w2c_j1 = w2c_p2;
-  w2c_j2 = 1049855ull;
+  w2c_j2 = 1050028ull;
   w2c_i0 = w2c_core__cmp__slices__groups_equal___i8_31_core__cmp__numbers__U8PartialEq___(instance, w2c_j0, w2c_j1, w2c_j2);
   w2c_i0 = !(w2c_i0);
   if (w2c_i0) {goto w2c_B7;}
@@ -39520,7 +39539,7 @@ static void w2c_kit_script__settings__read_setting(Machine * instance, u64 w2c_p
   if (w2c_i0) {goto w2c_B8;}
   w2c_j0 = w2c_p1;
   w2c_j1 = w2c_p2;
-  w2c_j2 = 1049966ull;
+  w2c_j2 = 1050139ull;
   w2c_i0 = w2c_core__cmp__slices__groups_equal___i8_31_core__cmp__numbers__U8PartialEq___(instance, w2c_j0, w2c_j1, w2c_j2);
   w2c_i0 = !(w2c_i0);
   if (w2c_i0) {goto w2c_B7;}
@@ -39654,7 +39673,7 @@ static void w2c_kit_script__settings__read_setting(Machine * instance, u64 w2c_p
   w2c_l8 = w2c_i0;
   w2c_j0 = w2c_p3;
   w2c_j1 = 4ull;
-  w2c_j2 = 1049979ull;
+  w2c_j2 = 1050152ull;
   w2c_i0 = w2c_core__cmp__slices__groups_equal___i8_31_core__cmp__numbers__U8PartialEq___(instance, w2c_j0, w2c_j1, w2c_j2);
   w2c_i0 = !(w2c_i0);
   if (w2c_i0) {goto w2c_B10;}
@@ -39790,7 +39809,7 @@ static void w2c_kit_script__settings__read_setting(Machine * instance, u64 w2c_p
   if (w2c_i0) {goto w2c_B7;}
   w2c_j0 = w2c_p1;
   w2c_j1 = w2c_p2;
-  w2c_j2 = 1049975ull;
+  w2c_j2 = 1050148ull;
   w2c_i0 = w2c_core__cmp__slices__groups_equal___i8_31_core__cmp__numbers__U8PartialEq___(instance, w2c_j0, w2c_j1, w2c_j2);
   w2c_i0 = !(w2c_i0);
   if (w2c_i0) {goto w2c_B7;}
@@ -43335,11 +43354,11 @@ static void w2c_kit_report__turns__push_turn_line(Machine * instance, u64 w2c_p0
   i64_store(&instance->w2c_memory, (u64)(w2c_i0) + 248, w2c_j1);
   w2c_j0 = w2c_l5;
   w2c_i0 = (u32)(w2c_j0);
-  w2c_j1 = 1049361ull;
+  w2c_j1 = 1049534ull;
   i64_store(&instance->w2c_memory, (u64)(w2c_i0) + 240, w2c_j1);
   w2c_j0 = w2c_l5;
   w2c_i0 = (u32)(w2c_j0);
-  w2c_j1 = 1050153ull;
+  w2c_j1 = 1050326ull;
   i64_store(&instance->w2c_memory, (u64)(w2c_i0) + 216, w2c_j1);
   w2c_j0 = w2c_l5;
   w2c_i0 = (u32)(w2c_j0);
@@ -43485,7 +43504,7 @@ static void w2c_kit_report__turns__push_turn_line(Machine * instance, u64 w2c_p0
   w2c_j1 = w2c_l13;
   w2c_j0 += w2c_j1;
   w2c_l13 = w2c_j0;
-  w2c_j1 = 1050153ull;
+  w2c_j1 = 1050326ull;
   w2c_j0 -= w2c_j1;
   w2c_j1 = 7ull;
   w2c_i0 = w2c_j0 > w2c_j1;
@@ -43514,7 +43533,7 @@ static void w2c_kit_report__turns__push_turn_line(Machine * instance, u64 w2c_p0
   w2c_j0 = w2c_l5;
   w2c_j1 = 280ull;
   w2c_j0 += w2c_j1;
-  w2c_j1 = 1050153ull;
+  w2c_j1 = 1050326ull;
   w2c_j2 = 8ull;
   w2c_i0 = w2c_core__fmt__formatter__Formatter__write_indented____66b2f40cbd927778_(instance, w2c_j0, w2c_j1, w2c_j2);
   w2c_i1 = 255u;
@@ -43723,7 +43742,7 @@ static void w2c_kit_report__turns__push_turn_line(Machine * instance, u64 w2c_p0
   w2c_j0 = w2c_l5;
   w2c_j1 = 280ull;
   w2c_j0 += w2c_j1;
-  w2c_j1 = 1049361ull;
+  w2c_j1 = 1049534ull;
   w2c_j2 = 1ull;
   w2c_i0 = w2c_core__fmt__formatter__Formatter__write_indented____66b2f40cbd927778_(instance, w2c_j0, w2c_j1, w2c_j2);
   w2c_l23 = w2c_i0;
@@ -43878,7 +43897,7 @@ static void w2c_kit_report__turns__push_turn_line(Machine * instance, u64 w2c_p0
   i64_store(&instance->w2c_memory, (u64)(w2c_i0) + 64, w2c_j1);
   w2c_j0 = w2c_l5;
   w2c_i0 = (u32)(w2c_j0);
-  w2c_j1 = 1049986ull;
+  w2c_j1 = 1050159ull;
   i64_store(&instance->w2c_memory, (u64)(w2c_i0) + 56, w2c_j1);
   w2c_j0 = w2c_l5;
   w2c_i0 = (u32)(w2c_j0);
@@ -44019,7 +44038,7 @@ static void w2c_kit_report__turns__push_turn_line(Machine * instance, u64 w2c_p0
   w2c_j1 = w2c_p2;
   w2c_j0 += w2c_j1;
   w2c_p2 = w2c_j0;
-  w2c_j1 = 1049986ull;
+  w2c_j1 = 1050159ull;
   w2c_j0 -= w2c_j1;
   w2c_j1 = 4ull;
   w2c_i0 = w2c_j0 > w2c_j1;
@@ -44038,13 +44057,13 @@ static void w2c_kit_report__turns__push_turn_line(Machine * instance, u64 w2c_p0
   w2c_i0 = (u32)(w2c_j0);
   w2c_j1 = 0ull;
   w2c_i1 = (u32)(w2c_j1);
-  w2c_i1 = i32_load8_u(&instance->w2c_memory, (u64)(w2c_i1) + 1049990u);
+  w2c_i1 = i32_load8_u(&instance->w2c_memory, (u64)(w2c_i1) + 1050163u);
   i32_store8(&instance->w2c_memory, (u64)(w2c_i0) + 4, w2c_i1);
   w2c_j0 = w2c_p2;
   w2c_i0 = (u32)(w2c_j0);
   w2c_j1 = 0ull;
   w2c_i1 = (u32)(w2c_j1);
-  w2c_i1 = i32_load(&instance->w2c_memory, (u64)(w2c_i1) + 1049986u);
+  w2c_i1 = i32_load(&instance->w2c_memory, (u64)(w2c_i1) + 1050159u);
   i32_store(&instance->w2c_memory, (u64)(w2c_i0), w2c_i1);
   w2c_B41:;
   w2c_j0 = w2c_l5;
@@ -44167,7 +44186,7 @@ static void w2c_kit_report__turns__push_turn_line(Machine * instance, u64 w2c_p0
   i64_store(&instance->w2c_memory, (u64)(w2c_i0) + 184, w2c_j1);
   w2c_j0 = w2c_l5;
   w2c_i0 = (u32)(w2c_j0);
-  w2c_j1 = 1050170ull;
+  w2c_j1 = 1050343ull;
   i64_store(&instance->w2c_memory, (u64)(w2c_i0) + 176, w2c_j1);
   w2c_j0 = w2c_l5;
   w2c_i0 = (u32)(w2c_j0);
@@ -44210,7 +44229,7 @@ static void w2c_kit_report__turns__push_turn_line(Machine * instance, u64 w2c_p0
   i64_store(&instance->w2c_memory, (u64)(w2c_i0) + 16, w2c_j1);
   w2c_j0 = w2c_l5;
   w2c_i0 = (u32)(w2c_j0);
-  w2c_j1 = 1050161ull;
+  w2c_j1 = 1050334ull;
   i64_store(&instance->w2c_memory, (u64)(w2c_i0) + 8, w2c_j1);
   w2c_j0 = w2c_l5;
   w2c_i0 = (u32)(w2c_j0);
@@ -44566,7 +44585,7 @@ static void w2c_kit_report__turns__push_turn_line(Machine * instance, u64 w2c_p0
   w2c_j1 = w2c_p4;
   w2c_j0 += w2c_j1;
   w2c_p2 = w2c_j0;
-  w2c_j1 = 1049983ull;
+  w2c_j1 = 1050156ull;
   w2c_j0 -= w2c_j1;
   w2c_j1 = 2ull;
   w2c_i0 = w2c_j0 > w2c_j1;
@@ -44585,13 +44604,13 @@ static void w2c_kit_report__turns__push_turn_line(Machine * instance, u64 w2c_p0
   w2c_i0 = (u32)(w2c_j0);
   w2c_j1 = 0ull;
   w2c_i1 = (u32)(w2c_j1);
-  w2c_i1 = i32_load8_u(&instance->w2c_memory, (u64)(w2c_i1) + 1049985u);
+  w2c_i1 = i32_load8_u(&instance->w2c_memory, (u64)(w2c_i1) + 1050158u);
   i32_store8(&instance->w2c_memory, (u64)(w2c_i0) + 2, w2c_i1);
   w2c_j0 = w2c_p2;
   w2c_i0 = (u32)(w2c_j0);
   w2c_j1 = 0ull;
   w2c_i1 = (u32)(w2c_j1);
-  w2c_i1 = i32_load16_u(&instance->w2c_memory, (u64)(w2c_i1) + 1049983u);
+  w2c_i1 = i32_load16_u(&instance->w2c_memory, (u64)(w2c_i1) + 1050156u);
   i32_store16(&instance->w2c_memory, (u64)(w2c_i0), w2c_i1);
   w2c_B59:;
   w2c_j0 = w2c_p1;
@@ -44615,11 +44634,11 @@ static void w2c_kit_report__turns__push_turn_line(Machine * instance, u64 w2c_p0
   w2c_j0 <<= (w2c_j1 & 63);
   w2c_p2 = w2c_j0;
   w2c_i0 = (u32)(w2c_j0);
-  w2c_j0 = i64_load(&instance->w2c_memory, (u64)(w2c_i0) + 1051408u);
+  w2c_j0 = i64_load(&instance->w2c_memory, (u64)(w2c_i0) + 1051584u);
   w2c_l9 = w2c_j0;
   w2c_j0 = w2c_p2;
   w2c_i0 = (u32)(w2c_j0);
-  w2c_j0 = i64_load(&instance->w2c_memory, (u64)(w2c_i0) + 1051320u);
+  w2c_j0 = i64_load(&instance->w2c_memory, (u64)(w2c_i0) + 1051496u);
   w2c_p4 = w2c_j0;
   w2c_j1 = w2c_p3;
   w2c_j2 = w2c_l8;
@@ -44803,7 +44822,7 @@ static void w2c_kit_report__turns__push_turn_line(Machine * instance, u64 w2c_p0
   w2c_i0 = w2c_l23;
   if (w2c_i0) {goto w2c_B66;}
   w2c_j0 = w2c_p1;
-  w2c_j1 = 1049986ull;
+  w2c_j1 = 1050159ull;
   w2c_j2 = 5ull;
   w2c_j3 = w2c_l8;
   w2c_i0 = w2c_kit_text__numbers__push_word_number(instance, w2c_j0, w2c_j1, w2c_j2, w2c_j3);
@@ -44906,7 +44925,7 @@ static void w2c_kit_report__turns__push_turn_line(Machine * instance, u64 w2c_p0
   w2c_j1 = w2c_p4;
   w2c_j0 += w2c_j1;
   w2c_p2 = w2c_j0;
-  w2c_j1 = 1049991ull;
+  w2c_j1 = 1050164ull;
   w2c_j0 -= w2c_j1;
   w2c_j1 = 5ull;
   w2c_i0 = w2c_j0 > w2c_j1;
@@ -44925,13 +44944,13 @@ static void w2c_kit_report__turns__push_turn_line(Machine * instance, u64 w2c_p0
   w2c_i0 = (u32)(w2c_j0);
   w2c_j1 = 0ull;
   w2c_i1 = (u32)(w2c_j1);
-  w2c_i1 = i32_load16_u(&instance->w2c_memory, (u64)(w2c_i1) + 1049995u);
+  w2c_i1 = i32_load16_u(&instance->w2c_memory, (u64)(w2c_i1) + 1050168u);
   i32_store16(&instance->w2c_memory, (u64)(w2c_i0) + 4, w2c_i1);
   w2c_j0 = w2c_p2;
   w2c_i0 = (u32)(w2c_j0);
   w2c_j1 = 0ull;
   w2c_i1 = (u32)(w2c_j1);
-  w2c_i1 = i32_load(&instance->w2c_memory, (u64)(w2c_i1) + 1049991u);
+  w2c_i1 = i32_load(&instance->w2c_memory, (u64)(w2c_i1) + 1050164u);
   i32_store(&instance->w2c_memory, (u64)(w2c_i0), w2c_i1);
   w2c_B71:;
   w2c_j0 = w2c_p1;
@@ -44994,7 +45013,7 @@ static void w2c_kit_report__turns__push_turn_line(Machine * instance, u64 w2c_p0
   w2c_j1 = w2c_p4;
   w2c_j0 += w2c_j1;
   w2c_p2 = w2c_j0;
-  w2c_j1 = 1049997ull;
+  w2c_j1 = 1050170ull;
   w2c_j0 -= w2c_j1;
   w2c_j1 = 6ull;
   w2c_i0 = w2c_j0 > w2c_j1;
@@ -45017,13 +45036,13 @@ static void w2c_kit_report__turns__push_turn_line(Machine * instance, u64 w2c_p0
   w2c_i0 = (u32)(w2c_j0);
   w2c_j1 = 0ull;
   w2c_i1 = (u32)(w2c_j1);
-  w2c_i1 = i32_load(&instance->w2c_memory, (u64)(w2c_i1) + 1050000u);
+  w2c_i1 = i32_load(&instance->w2c_memory, (u64)(w2c_i1) + 1050173u);
   i32_store(&instance->w2c_memory, (u64)(w2c_i0) + 3, w2c_i1);
   w2c_j0 = w2c_p2;
   w2c_i0 = (u32)(w2c_j0);
   w2c_j1 = 0ull;
   w2c_i1 = (u32)(w2c_j1);
-  w2c_i1 = i32_load(&instance->w2c_memory, (u64)(w2c_i1) + 1049997u);
+  w2c_i1 = i32_load(&instance->w2c_memory, (u64)(w2c_i1) + 1050170u);
   i32_store(&instance->w2c_memory, (u64)(w2c_i0), w2c_i1);
   w2c_B74:;
   w2c_j0 = w2c_p1;
@@ -45078,7 +45097,7 @@ static void w2c_kit_report__turns__push_turn_line(Machine * instance, u64 w2c_p0
   w2c_j1 = w2c_p4;
   w2c_j0 += w2c_j1;
   w2c_p2 = w2c_j0;
-  w2c_j1 = 1050004ull;
+  w2c_j1 = 1050177ull;
   w2c_j0 -= w2c_j1;
   w2c_j1 = 2ull;
   w2c_i0 = w2c_j0 > w2c_j1;
@@ -45097,13 +45116,13 @@ static void w2c_kit_report__turns__push_turn_line(Machine * instance, u64 w2c_p0
   w2c_i0 = (u32)(w2c_j0);
   w2c_j1 = 0ull;
   w2c_i1 = (u32)(w2c_j1);
-  w2c_i1 = i32_load8_u(&instance->w2c_memory, (u64)(w2c_i1) + 1050006u);
+  w2c_i1 = i32_load8_u(&instance->w2c_memory, (u64)(w2c_i1) + 1050179u);
   i32_store8(&instance->w2c_memory, (u64)(w2c_i0) + 2, w2c_i1);
   w2c_j0 = w2c_p2;
   w2c_i0 = (u32)(w2c_j0);
   w2c_j1 = 0ull;
   w2c_i1 = (u32)(w2c_j1);
-  w2c_i1 = i32_load16_u(&instance->w2c_memory, (u64)(w2c_i1) + 1050004u);
+  w2c_i1 = i32_load16_u(&instance->w2c_memory, (u64)(w2c_i1) + 1050177u);
   i32_store16(&instance->w2c_memory, (u64)(w2c_i0), w2c_i1);
   w2c_B77:;
   w2c_j0 = w2c_p1;
@@ -45167,8 +45186,8 @@ static void w2c_kit_report__turns__push_turn_line(Machine * instance, u64 w2c_p0
   w2c_j1 = w2c_p4;
   w2c_j0 += w2c_j1;
   w2c_p4 = w2c_j0;
-  w2c_j1 = 1050007ull;
-  w2c_j2 = 1050010ull;
+  w2c_j1 = 1050180ull;
+  w2c_j2 = 1050183ull;
   w2c_i3 = w2c_l23;
   w2c_j1 = w2c_i3 ? w2c_j1 : w2c_j2;
   w2c_l8 = w2c_j1;
@@ -45312,7 +45331,7 @@ static void w2c_kit_report__turns__push_turn_line(Machine * instance, u64 w2c_p0
   w2c_j1 = w2c_p4;
   w2c_j0 += w2c_j1;
   w2c_p2 = w2c_j0;
-  w2c_j1 = 1049979ull;
+  w2c_j1 = 1050152ull;
   w2c_j0 -= w2c_j1;
   w2c_j1 = 3ull;
   w2c_i0 = w2c_j0 > w2c_j1;
@@ -46296,7 +46315,7 @@ static void w2c_kit_report__turns__push_turn_line(Machine * instance, u64 w2c_p0
   w2c_j1 = w2c_p2;
   w2c_j0 += w2c_j1;
   w2c_p2 = w2c_j0;
-  w2c_j1 = 1050012ull;
+  w2c_j1 = 1050185ull;
   w2c_j0 -= w2c_j1;
   w2c_j1 = 5ull;
   w2c_i0 = w2c_j0 > w2c_j1;
@@ -46315,13 +46334,13 @@ static void w2c_kit_report__turns__push_turn_line(Machine * instance, u64 w2c_p0
   w2c_i0 = (u32)(w2c_j0);
   w2c_j1 = 0ull;
   w2c_i1 = (u32)(w2c_j1);
-  w2c_i1 = i32_load16_u(&instance->w2c_memory, (u64)(w2c_i1) + 1050016u);
+  w2c_i1 = i32_load16_u(&instance->w2c_memory, (u64)(w2c_i1) + 1050189u);
   i32_store16(&instance->w2c_memory, (u64)(w2c_i0) + 4, w2c_i1);
   w2c_j0 = w2c_p2;
   w2c_i0 = (u32)(w2c_j0);
   w2c_j1 = 0ull;
   w2c_i1 = (u32)(w2c_j1);
-  w2c_i1 = i32_load(&instance->w2c_memory, (u64)(w2c_i1) + 1050012u);
+  w2c_i1 = i32_load(&instance->w2c_memory, (u64)(w2c_i1) + 1050185u);
   i32_store(&instance->w2c_memory, (u64)(w2c_i0), w2c_i1);
   w2c_B113:;
   w2c_j0 = w2c_p1;
@@ -46340,7 +46359,7 @@ static void w2c_kit_report__turns__push_turn_line(Machine * instance, u64 w2c_p0
   w2c_i0 = (u32)(w2c_j0);
   w2c_j1 = w2c_l16;
   i64_store(&instance->w2c_memory, (u64)(w2c_i0), w2c_j1);
-  w2c_j0 = 1049592ull;
+  w2c_j0 = 1049765ull;
   w2c_p3 = w2c_j0;
   w2c_j0 = 3ull;
   w2c_p2 = w2c_j0;
@@ -46376,23 +46395,23 @@ static void w2c_kit_report__turns__push_turn_line(Machine * instance, u64 w2c_p0
     default: goto w2c_B115;
   }
   w2c_B122:;
-  w2c_j0 = 1049595ull;
+  w2c_j0 = 1049768ull;
   w2c_p3 = w2c_j0;
   goto w2c_B117;
   w2c_B121:;
-  w2c_j0 = 1049602ull;
+  w2c_j0 = 1049775ull;
   w2c_p3 = w2c_j0;
   goto w2c_B116;
   w2c_B120:;
-  w2c_j0 = 1049605ull;
+  w2c_j0 = 1049778ull;
   w2c_p3 = w2c_j0;
   goto w2c_B117;
   w2c_B119:;
-  w2c_j0 = 1049612ull;
+  w2c_j0 = 1049785ull;
   w2c_p3 = w2c_j0;
   goto w2c_B117;
   w2c_B118:;
-  w2c_j0 = 1049619ull;
+  w2c_j0 = 1049792ull;
   w2c_p3 = w2c_j0;
   w2c_B117:;
   w2c_j0 = 7ull;
@@ -46580,7 +46599,7 @@ static void w2c_kit_report__turns__push_turn_line(Machine * instance, u64 w2c_p0
   i64_store(&instance->w2c_memory, (u64)(w2c_i0) + 464, w2c_j1);
   w2c_j0 = w2c_l5;
   w2c_i0 = (u32)(w2c_j0);
-  w2c_j1 = 1049641ull;
+  w2c_j1 = 1049814ull;
   i64_store(&instance->w2c_memory, (u64)(w2c_i0) + 456, w2c_j1);
   w2c_j0 = w2c_l5;
   w2c_i0 = (u32)(w2c_j0);
@@ -46594,7 +46613,7 @@ static void w2c_kit_report__turns__push_turn_line(Machine * instance, u64 w2c_p0
   i64_store(&instance->w2c_memory, (u64)(w2c_i0) + 440, w2c_j1);
   w2c_j0 = w2c_l5;
   w2c_i0 = (u32)(w2c_j0);
-  w2c_j1 = 1049602ull;
+  w2c_j1 = 1049775ull;
   i64_store(&instance->w2c_memory, (u64)(w2c_i0) + 432, w2c_j1);
   w2c_j0 = w2c_l5;
   w2c_i0 = (u32)(w2c_j0);
@@ -46610,7 +46629,7 @@ static void w2c_kit_report__turns__push_turn_line(Machine * instance, u64 w2c_p0
   i64_store(&instance->w2c_memory, (u64)(w2c_i0) + 416, w2c_j1);
   w2c_j0 = w2c_l5;
   w2c_i0 = (u32)(w2c_j0);
-  w2c_j1 = 1049638ull;
+  w2c_j1 = 1049811ull;
   i64_store(&instance->w2c_memory, (u64)(w2c_i0) + 408, w2c_j1);
   w2c_j0 = w2c_l5;
   w2c_i0 = (u32)(w2c_j0);
@@ -46626,7 +46645,7 @@ static void w2c_kit_report__turns__push_turn_line(Machine * instance, u64 w2c_p0
   i64_store(&instance->w2c_memory, (u64)(w2c_i0) + 392, w2c_j1);
   w2c_j0 = w2c_l5;
   w2c_i0 = (u32)(w2c_j0);
-  w2c_j1 = 1049635ull;
+  w2c_j1 = 1049808ull;
   i64_store(&instance->w2c_memory, (u64)(w2c_i0) + 384, w2c_j1);
   w2c_j0 = w2c_l5;
   w2c_i0 = (u32)(w2c_j0);
@@ -46642,7 +46661,7 @@ static void w2c_kit_report__turns__push_turn_line(Machine * instance, u64 w2c_p0
   i64_store(&instance->w2c_memory, (u64)(w2c_i0) + 368, w2c_j1);
   w2c_j0 = w2c_l5;
   w2c_i0 = (u32)(w2c_j0);
-  w2c_j1 = 1049592ull;
+  w2c_j1 = 1049765ull;
   i64_store(&instance->w2c_memory, (u64)(w2c_i0) + 360, w2c_j1);
   w2c_j0 = w2c_l5;
   w2c_i0 = (u32)(w2c_j0);
@@ -46658,7 +46677,7 @@ static void w2c_kit_report__turns__push_turn_line(Machine * instance, u64 w2c_p0
   i64_store(&instance->w2c_memory, (u64)(w2c_i0) + 344, w2c_j1);
   w2c_j0 = w2c_l5;
   w2c_i0 = (u32)(w2c_j0);
-  w2c_j1 = 1049632ull;
+  w2c_j1 = 1049805ull;
   i64_store(&instance->w2c_memory, (u64)(w2c_i0) + 336, w2c_j1);
   w2c_j0 = w2c_l5;
   w2c_i0 = (u32)(w2c_j0);
@@ -46674,7 +46693,7 @@ static void w2c_kit_report__turns__push_turn_line(Machine * instance, u64 w2c_p0
   i64_store(&instance->w2c_memory, (u64)(w2c_i0) + 320, w2c_j1);
   w2c_j0 = w2c_l5;
   w2c_i0 = (u32)(w2c_j0);
-  w2c_j1 = 1049629ull;
+  w2c_j1 = 1049802ull;
   i64_store(&instance->w2c_memory, (u64)(w2c_i0) + 312, w2c_j1);
   w2c_j0 = w2c_l5;
   w2c_i0 = (u32)(w2c_j0);
@@ -46690,7 +46709,7 @@ static void w2c_kit_report__turns__push_turn_line(Machine * instance, u64 w2c_p0
   i64_store(&instance->w2c_memory, (u64)(w2c_i0) + 296, w2c_j1);
   w2c_j0 = w2c_l5;
   w2c_i0 = (u32)(w2c_j0);
-  w2c_j1 = 1049626ull;
+  w2c_j1 = 1049799ull;
   i64_store(&instance->w2c_memory, (u64)(w2c_i0) + 288, w2c_j1);
   w2c_j0 = w2c_l5;
   w2c_i0 = (u32)(w2c_j0);
@@ -46833,7 +46852,7 @@ static void w2c_kit_report__turns__push_turn_line(Machine * instance, u64 w2c_p0
     w2c_j0 = w2c_l5;
     w2c_j1 = 208ull;
     w2c_j0 += w2c_j1;
-    w2c_j1 = 1049644ull;
+    w2c_j1 = 1049817ull;
     w2c_j2 = 1ull;
     w2c_i0 = w2c_core__fmt__formatter__Formatter__write_indented____66b2f40cbd927778_(instance, w2c_j0, w2c_j1, w2c_j2);
     w2c_i1 = 255u;
@@ -47402,7 +47421,7 @@ static void w2c_kit_report__turns__push_turn_line(Machine * instance, u64 w2c_p0
   w2c_j1 = w2c_p4;
   w2c_j0 += w2c_j1;
   w2c_p4 = w2c_j0;
-  w2c_j1 = 1050024ull;
+  w2c_j1 = 1050197ull;
   w2c_j0 -= w2c_j1;
   w2c_j1 = 7ull;
   w2c_i0 = w2c_j0 > w2c_j1;
@@ -47472,7 +47491,7 @@ static void w2c_kit_report__turns__push_turn_line(Machine * instance, u64 w2c_p0
   w2c_j1 = w2c_p4;
   w2c_j0 += w2c_j1;
   w2c_p4 = w2c_j0;
-  w2c_j1 = 1050032ull;
+  w2c_j1 = 1050205ull;
   w2c_j0 -= w2c_j1;
   w2c_j1 = 6ull;
   w2c_i0 = w2c_j0 > w2c_j1;
@@ -47495,13 +47514,13 @@ static void w2c_kit_report__turns__push_turn_line(Machine * instance, u64 w2c_p0
   w2c_i0 = (u32)(w2c_j0);
   w2c_j1 = 0ull;
   w2c_i1 = (u32)(w2c_j1);
-  w2c_i1 = i32_load(&instance->w2c_memory, (u64)(w2c_i1) + 1050035u);
+  w2c_i1 = i32_load(&instance->w2c_memory, (u64)(w2c_i1) + 1050208u);
   i32_store(&instance->w2c_memory, (u64)(w2c_i0) + 3, w2c_i1);
   w2c_j0 = w2c_p4;
   w2c_i0 = (u32)(w2c_j0);
   w2c_j1 = 0ull;
   w2c_i1 = (u32)(w2c_j1);
-  w2c_i1 = i32_load(&instance->w2c_memory, (u64)(w2c_i1) + 1050032u);
+  w2c_i1 = i32_load(&instance->w2c_memory, (u64)(w2c_i1) + 1050205u);
   i32_store(&instance->w2c_memory, (u64)(w2c_i0), w2c_i1);
   w2c_B154:;
   w2c_j0 = w2c_p1;
@@ -47558,7 +47577,7 @@ static void w2c_kit_report__turns__push_turn_line(Machine * instance, u64 w2c_p0
   w2c_j1 = w2c_p4;
   w2c_j0 += w2c_j1;
   w2c_p4 = w2c_j0;
-  w2c_j1 = 1050039ull;
+  w2c_j1 = 1050212ull;
   w2c_j0 -= w2c_j1;
   w2c_j1 = 8ull;
   w2c_i0 = w2c_j0 > w2c_j1;
@@ -47577,13 +47596,13 @@ static void w2c_kit_report__turns__push_turn_line(Machine * instance, u64 w2c_p0
   w2c_i0 = (u32)(w2c_j0);
   w2c_j1 = 0ull;
   w2c_i1 = (u32)(w2c_j1);
-  w2c_i1 = i32_load8_u(&instance->w2c_memory, (u64)(w2c_i1) + 1050047u);
+  w2c_i1 = i32_load8_u(&instance->w2c_memory, (u64)(w2c_i1) + 1050220u);
   i32_store8(&instance->w2c_memory, (u64)(w2c_i0) + 8, w2c_i1);
   w2c_j0 = w2c_p4;
   w2c_i0 = (u32)(w2c_j0);
   w2c_j1 = 0ull;
   w2c_i1 = (u32)(w2c_j1);
-  w2c_j1 = i64_load(&instance->w2c_memory, (u64)(w2c_i1) + 1050039u);
+  w2c_j1 = i64_load(&instance->w2c_memory, (u64)(w2c_i1) + 1050212u);
   i64_store(&instance->w2c_memory, (u64)(w2c_i0), w2c_j1);
   w2c_B157:;
   w2c_j0 = w2c_p1;
@@ -47690,11 +47709,11 @@ static void w2c_kit_report__turns__push_turn_line(Machine * instance, u64 w2c_p0
   w2c_j0 <<= (w2c_j1 & 63);
   w2c_p2 = w2c_j0;
   w2c_i0 = (u32)(w2c_j0);
-  w2c_j0 = i64_load(&instance->w2c_memory, (u64)(w2c_i0) + 1051408u);
+  w2c_j0 = i64_load(&instance->w2c_memory, (u64)(w2c_i0) + 1051584u);
   w2c_l8 = w2c_j0;
   w2c_j0 = w2c_p2;
   w2c_i0 = (u32)(w2c_j0);
-  w2c_j0 = i64_load(&instance->w2c_memory, (u64)(w2c_i0) + 1051320u);
+  w2c_j0 = i64_load(&instance->w2c_memory, (u64)(w2c_i0) + 1051496u);
   w2c_p4 = w2c_j0;
   w2c_j1 = w2c_p3;
   w2c_j2 = w2c_l6;
@@ -47943,13 +47962,13 @@ static void w2c_kit_report__turns__push_turn_line(Machine * instance, u64 w2c_p0
   w2c_i0 = (u32)(w2c_j0);
   w2c_j1 = 0ull;
   w2c_i1 = (u32)(w2c_j1);
-  w2c_i1 = i32_load16_u(&instance->w2c_memory, (u64)(w2c_i1) + 1050022u);
+  w2c_i1 = i32_load16_u(&instance->w2c_memory, (u64)(w2c_i1) + 1050195u);
   i32_store16(&instance->w2c_memory, (u64)(w2c_i0) + 406, w2c_i1);
   w2c_j0 = w2c_l5;
   w2c_i0 = (u32)(w2c_j0);
   w2c_j1 = 0ull;
   w2c_i1 = (u32)(w2c_j1);
-  w2c_i1 = i32_load(&instance->w2c_memory, (u64)(w2c_i1) + 1050018u);
+  w2c_i1 = i32_load(&instance->w2c_memory, (u64)(w2c_i1) + 1050191u);
   i32_store(&instance->w2c_memory, (u64)(w2c_i0) + 402, w2c_i1);
   w2c_j0 = w2c_p4;
   w2c_j1 = w2c_l14;
@@ -47990,7 +48009,7 @@ static void w2c_kit_report__turns__push_turn_line(Machine * instance, u64 w2c_p0
     w2c_j2 = 1ull;
     w2c_j1 <<= (w2c_j2 & 63);
     w2c_i1 = (u32)(w2c_j1);
-    w2c_i1 = i32_load16_u(&instance->w2c_memory, (u64)(w2c_i1) + 1049375u);
+    w2c_i1 = i32_load16_u(&instance->w2c_memory, (u64)(w2c_i1) + 1049548u);
     i32_store16(&instance->w2c_memory, (u64)(w2c_i0), w2c_i1);
     w2c_j0 = w2c_l13;
     w2c_j1 = 18446744073709551614ull;
@@ -48007,7 +48026,7 @@ static void w2c_kit_report__turns__push_turn_line(Machine * instance, u64 w2c_p0
     w2c_j2 = 1ull;
     w2c_j1 <<= (w2c_j2 & 63);
     w2c_i1 = (u32)(w2c_j1);
-    w2c_i1 = i32_load16_u(&instance->w2c_memory, (u64)(w2c_i1) + 1049375u);
+    w2c_i1 = i32_load16_u(&instance->w2c_memory, (u64)(w2c_i1) + 1049548u);
     i32_store16(&instance->w2c_memory, (u64)(w2c_i0), w2c_i1);
     w2c_j0 = w2c_p2;
     w2c_j1 = 18446744073709551612ull;
@@ -48067,7 +48086,7 @@ static void w2c_kit_report__turns__push_turn_line(Machine * instance, u64 w2c_p0
   w2c_j2 = 1ull;
   w2c_j1 <<= (w2c_j2 & 63);
   w2c_i1 = (u32)(w2c_j1);
-  w2c_i1 = i32_load16_u(&instance->w2c_memory, (u64)(w2c_i1) + 1049375u);
+  w2c_i1 = i32_load16_u(&instance->w2c_memory, (u64)(w2c_i1) + 1049548u);
   i32_store16(&instance->w2c_memory, (u64)(w2c_i0), w2c_i1);
   goto w2c_B167;
   w2c_B168:;
@@ -48097,7 +48116,7 @@ static void w2c_kit_report__turns__push_turn_line(Machine * instance, u64 w2c_p0
   w2c_j2 = 1ull;
   w2c_j1 <<= (w2c_j2 & 63);
   w2c_i1 = (u32)(w2c_j1);
-  w2c_i1 = i32_load16_u(&instance->w2c_memory, (u64)(w2c_i1) + 1049375u);
+  w2c_i1 = i32_load16_u(&instance->w2c_memory, (u64)(w2c_i1) + 1049548u);
   i32_store16(&instance->w2c_memory, (u64)(w2c_i0), w2c_i1);
   w2c_j0 = w2c_p4;
   w2c_j1 = 999ull;
@@ -48132,7 +48151,7 @@ static void w2c_kit_report__turns__push_turn_line(Machine * instance, u64 w2c_p0
   w2c_j2 = 1ull;
   w2c_j1 <<= (w2c_j2 & 63);
   w2c_i1 = (u32)(w2c_j1);
-  w2c_i1 = i32_load16_u(&instance->w2c_memory, (u64)(w2c_i1) + 1049375u);
+  w2c_i1 = i32_load16_u(&instance->w2c_memory, (u64)(w2c_i1) + 1049548u);
   i32_store16(&instance->w2c_memory, (u64)(w2c_i0), w2c_i1);
   w2c_B167:;
   w2c_i0 = w2c_l26;
@@ -48159,13 +48178,13 @@ static void w2c_kit_report__turns__push_turn_line(Machine * instance, u64 w2c_p0
   w2c_i0 = (u32)(w2c_j0);
   w2c_j1 = 0ull;
   w2c_i1 = (u32)(w2c_j1);
-  w2c_i1 = i32_load16_u(&instance->w2c_memory, (u64)(w2c_i1) + 1049703u);
+  w2c_i1 = i32_load16_u(&instance->w2c_memory, (u64)(w2c_i1) + 1049876u);
   i32_store16(&instance->w2c_memory, (u64)(w2c_i0) + 4, w2c_i1);
   w2c_j0 = w2c_p3;
   w2c_i0 = (u32)(w2c_j0);
   w2c_j1 = 0ull;
   w2c_i1 = (u32)(w2c_j1);
-  w2c_i1 = i32_load(&instance->w2c_memory, (u64)(w2c_i1) + 1049699u);
+  w2c_i1 = i32_load(&instance->w2c_memory, (u64)(w2c_i1) + 1049872u);
   i32_store(&instance->w2c_memory, (u64)(w2c_i0), w2c_i1);
   w2c_i0 = w2c_l23;
   w2c_i1 = 65535u;
@@ -48201,7 +48220,7 @@ static void w2c_kit_report__turns__push_turn_line(Machine * instance, u64 w2c_p0
   w2c_j2 = 1ull;
   w2c_j1 <<= (w2c_j2 & 63);
   w2c_i1 = (u32)(w2c_j1);
-  w2c_i1 = i32_load16_u(&instance->w2c_memory, (u64)(w2c_i1) + 1049375u);
+  w2c_i1 = i32_load16_u(&instance->w2c_memory, (u64)(w2c_i1) + 1049548u);
   i32_store16(&instance->w2c_memory, (u64)(w2c_i0), w2c_i1);
   w2c_j0 = w2c_p3;
   w2c_j1 = 18446744073709551614ull;
@@ -48218,7 +48237,7 @@ static void w2c_kit_report__turns__push_turn_line(Machine * instance, u64 w2c_p0
   w2c_j2 = 1ull;
   w2c_j1 <<= (w2c_j2 & 63);
   w2c_i1 = (u32)(w2c_j1);
-  w2c_i1 = i32_load16_u(&instance->w2c_memory, (u64)(w2c_i1) + 1049375u);
+  w2c_i1 = i32_load16_u(&instance->w2c_memory, (u64)(w2c_i1) + 1049548u);
   i32_store16(&instance->w2c_memory, (u64)(w2c_i0), w2c_i1);
   goto w2c_B174;
   w2c_B175:;
@@ -48262,7 +48281,7 @@ static void w2c_kit_report__turns__push_turn_line(Machine * instance, u64 w2c_p0
   w2c_j2 = 1ull;
   w2c_j1 <<= (w2c_j2 & 63);
   w2c_i1 = (u32)(w2c_j1);
-  w2c_i1 = i32_load16_u(&instance->w2c_memory, (u64)(w2c_i1) + 1049375u);
+  w2c_i1 = i32_load16_u(&instance->w2c_memory, (u64)(w2c_i1) + 1049548u);
   i32_store16(&instance->w2c_memory, (u64)(w2c_i0), w2c_i1);
   goto w2c_B171;
   w2c_B172:;
@@ -48287,7 +48306,7 @@ static void w2c_kit_report__turns__push_turn_line(Machine * instance, u64 w2c_p0
   w2c_j2 = 1ull;
   w2c_j1 <<= (w2c_j2 & 63);
   w2c_i1 = (u32)(w2c_j1);
-  w2c_i1 = i32_load16_u(&instance->w2c_memory, (u64)(w2c_i1) + 1049375u);
+  w2c_i1 = i32_load16_u(&instance->w2c_memory, (u64)(w2c_i1) + 1049548u);
   i32_store16(&instance->w2c_memory, (u64)(w2c_i0), w2c_i1);
   w2c_i0 = w2c_l25;
   w2c_i1 = 999u;
@@ -48322,7 +48341,7 @@ static void w2c_kit_report__turns__push_turn_line(Machine * instance, u64 w2c_p0
   w2c_j2 = 1ull;
   w2c_j1 <<= (w2c_j2 & 63);
   w2c_i1 = (u32)(w2c_j1);
-  w2c_i1 = i32_load16_u(&instance->w2c_memory, (u64)(w2c_i1) + 1049375u);
+  w2c_i1 = i32_load16_u(&instance->w2c_memory, (u64)(w2c_i1) + 1049548u);
   i32_store16(&instance->w2c_memory, (u64)(w2c_i0), w2c_i1);
   w2c_B171:;
   w2c_i0 = w2c_l30;
@@ -48381,7 +48400,7 @@ static void w2c_kit_report__turns__push_turn_line(Machine * instance, u64 w2c_p0
     w2c_j2 = 1ull;
     w2c_j1 <<= (w2c_j2 & 63);
     w2c_i1 = (u32)(w2c_j1);
-    w2c_i1 = i32_load16_u(&instance->w2c_memory, (u64)(w2c_i1) + 1049375u);
+    w2c_i1 = i32_load16_u(&instance->w2c_memory, (u64)(w2c_i1) + 1049548u);
     i32_store16(&instance->w2c_memory, (u64)(w2c_i0), w2c_i1);
     w2c_j0 = w2c_l13;
     w2c_j1 = 2ull;
@@ -48398,7 +48417,7 @@ static void w2c_kit_report__turns__push_turn_line(Machine * instance, u64 w2c_p0
     w2c_j2 = 1ull;
     w2c_j1 <<= (w2c_j2 & 63);
     w2c_i1 = (u32)(w2c_j1);
-    w2c_i1 = i32_load16_u(&instance->w2c_memory, (u64)(w2c_i1) + 1049375u);
+    w2c_i1 = i32_load16_u(&instance->w2c_memory, (u64)(w2c_i1) + 1049548u);
     i32_store16(&instance->w2c_memory, (u64)(w2c_i0), w2c_i1);
     w2c_j0 = w2c_p2;
     w2c_j1 = 18446744073709551612ull;
@@ -48454,7 +48473,7 @@ static void w2c_kit_report__turns__push_turn_line(Machine * instance, u64 w2c_p0
   w2c_j2 = 1ull;
   w2c_j1 <<= (w2c_j2 & 63);
   w2c_i1 = (u32)(w2c_j1);
-  w2c_i1 = i32_load16_u(&instance->w2c_memory, (u64)(w2c_i1) + 1049375u);
+  w2c_i1 = i32_load16_u(&instance->w2c_memory, (u64)(w2c_i1) + 1049548u);
   i32_store16(&instance->w2c_memory, (u64)(w2c_i0), w2c_i1);
   goto w2c_B179;
   w2c_B180:;
@@ -48484,7 +48503,7 @@ static void w2c_kit_report__turns__push_turn_line(Machine * instance, u64 w2c_p0
   w2c_j2 = 1ull;
   w2c_j1 <<= (w2c_j2 & 63);
   w2c_i1 = (u32)(w2c_j1);
-  w2c_i1 = i32_load16_u(&instance->w2c_memory, (u64)(w2c_i1) + 1049375u);
+  w2c_i1 = i32_load16_u(&instance->w2c_memory, (u64)(w2c_i1) + 1049548u);
   i32_store16(&instance->w2c_memory, (u64)(w2c_i0), w2c_i1);
   w2c_j0 = w2c_p4;
   w2c_j1 = 999ull;
@@ -48519,7 +48538,7 @@ static void w2c_kit_report__turns__push_turn_line(Machine * instance, u64 w2c_p0
   w2c_j2 = 1ull;
   w2c_j1 <<= (w2c_j2 & 63);
   w2c_i1 = (u32)(w2c_j1);
-  w2c_i1 = i32_load16_u(&instance->w2c_memory, (u64)(w2c_i1) + 1049375u);
+  w2c_i1 = i32_load16_u(&instance->w2c_memory, (u64)(w2c_i1) + 1049548u);
   i32_store16(&instance->w2c_memory, (u64)(w2c_i0), w2c_i1);
   w2c_B179:;
   w2c_j0 = w2c_l5;
@@ -48534,13 +48553,13 @@ static void w2c_kit_report__turns__push_turn_line(Machine * instance, u64 w2c_p0
   w2c_i0 = (u32)(w2c_j0);
   w2c_j1 = 0ull;
   w2c_i1 = (u32)(w2c_j1);
-  w2c_i1 = i32_load8_u(&instance->w2c_memory, (u64)(w2c_i1) + 1049366u);
+  w2c_i1 = i32_load8_u(&instance->w2c_memory, (u64)(w2c_i1) + 1049539u);
   i32_store8(&instance->w2c_memory, (u64)(w2c_i0) + 4, w2c_i1);
   w2c_j0 = w2c_p4;
   w2c_i0 = (u32)(w2c_j0);
   w2c_j1 = 0ull;
   w2c_i1 = (u32)(w2c_j1);
-  w2c_i1 = i32_load(&instance->w2c_memory, (u64)(w2c_i1) + 1049362u);
+  w2c_i1 = i32_load(&instance->w2c_memory, (u64)(w2c_i1) + 1049535u);
   i32_store(&instance->w2c_memory, (u64)(w2c_i0), w2c_i1);
   w2c_i0 = w2c_l23;
   w2c_j0 = (u64)(w2c_i0);
@@ -48579,7 +48598,7 @@ static void w2c_kit_report__turns__push_turn_line(Machine * instance, u64 w2c_p0
     w2c_j2 = 1ull;
     w2c_j1 <<= (w2c_j2 & 63);
     w2c_i1 = (u32)(w2c_j1);
-    w2c_i1 = i32_load16_u(&instance->w2c_memory, (u64)(w2c_i1) + 1049375u);
+    w2c_i1 = i32_load16_u(&instance->w2c_memory, (u64)(w2c_i1) + 1049548u);
     i32_store16(&instance->w2c_memory, (u64)(w2c_i0), w2c_i1);
     w2c_j0 = w2c_l13;
     w2c_j1 = 2ull;
@@ -48596,7 +48615,7 @@ static void w2c_kit_report__turns__push_turn_line(Machine * instance, u64 w2c_p0
     w2c_j2 = 1ull;
     w2c_j1 <<= (w2c_j2 & 63);
     w2c_i1 = (u32)(w2c_j1);
-    w2c_i1 = i32_load16_u(&instance->w2c_memory, (u64)(w2c_i1) + 1049375u);
+    w2c_i1 = i32_load16_u(&instance->w2c_memory, (u64)(w2c_i1) + 1049548u);
     i32_store16(&instance->w2c_memory, (u64)(w2c_i0), w2c_i1);
     w2c_j0 = w2c_p2;
     w2c_j1 = 18446744073709551612ull;
@@ -48648,7 +48667,7 @@ static void w2c_kit_report__turns__push_turn_line(Machine * instance, u64 w2c_p0
   w2c_j2 = 1ull;
   w2c_j1 <<= (w2c_j2 & 63);
   w2c_i1 = (u32)(w2c_j1);
-  w2c_i1 = i32_load16_u(&instance->w2c_memory, (u64)(w2c_i1) + 1049375u);
+  w2c_i1 = i32_load16_u(&instance->w2c_memory, (u64)(w2c_i1) + 1049548u);
   i32_store16(&instance->w2c_memory, (u64)(w2c_i0), w2c_i1);
   goto w2c_B185;
   w2c_B186:;
@@ -48678,7 +48697,7 @@ static void w2c_kit_report__turns__push_turn_line(Machine * instance, u64 w2c_p0
   w2c_j2 = 1ull;
   w2c_j1 <<= (w2c_j2 & 63);
   w2c_i1 = (u32)(w2c_j1);
-  w2c_i1 = i32_load16_u(&instance->w2c_memory, (u64)(w2c_i1) + 1049375u);
+  w2c_i1 = i32_load16_u(&instance->w2c_memory, (u64)(w2c_i1) + 1049548u);
   i32_store16(&instance->w2c_memory, (u64)(w2c_i0), w2c_i1);
   w2c_j0 = w2c_p4;
   w2c_j1 = 999ull;
@@ -48713,7 +48732,7 @@ static void w2c_kit_report__turns__push_turn_line(Machine * instance, u64 w2c_p0
   w2c_j2 = 1ull;
   w2c_j1 <<= (w2c_j2 & 63);
   w2c_i1 = (u32)(w2c_j1);
-  w2c_i1 = i32_load16_u(&instance->w2c_memory, (u64)(w2c_i1) + 1049375u);
+  w2c_i1 = i32_load16_u(&instance->w2c_memory, (u64)(w2c_i1) + 1049548u);
   i32_store16(&instance->w2c_memory, (u64)(w2c_i0), w2c_i1);
   w2c_B185:;
   w2c_j0 = w2c_l5;
@@ -48728,13 +48747,13 @@ static void w2c_kit_report__turns__push_turn_line(Machine * instance, u64 w2c_p0
   w2c_i0 = (u32)(w2c_j0);
   w2c_j1 = 0ull;
   w2c_i1 = (u32)(w2c_j1);
-  w2c_i1 = i32_load8_u(&instance->w2c_memory, (u64)(w2c_i1) + 1049371u);
+  w2c_i1 = i32_load8_u(&instance->w2c_memory, (u64)(w2c_i1) + 1049544u);
   i32_store8(&instance->w2c_memory, (u64)(w2c_i0) + 4, w2c_i1);
   w2c_j0 = w2c_p3;
   w2c_i0 = (u32)(w2c_j0);
   w2c_j1 = 0ull;
   w2c_i1 = (u32)(w2c_j1);
-  w2c_i1 = i32_load(&instance->w2c_memory, (u64)(w2c_i1) + 1049367u);
+  w2c_i1 = i32_load(&instance->w2c_memory, (u64)(w2c_i1) + 1049540u);
   i32_store(&instance->w2c_memory, (u64)(w2c_i0), w2c_i1);
   w2c_j0 = 133ull;
   w2c_j1 = w2c_l11;
@@ -54266,11 +54285,11 @@ static u32 w2c_kit_report__events__push_event(Machine * instance, u64 w2c_p0, u6
   w2c_j0 <<= (w2c_j1 & 63);
   w2c_l2 = w2c_j0;
   w2c_i0 = (u32)(w2c_j0);
-  w2c_j0 = i64_load(&instance->w2c_memory, (u64)(w2c_i0) + 1051168u);
+  w2c_j0 = i64_load(&instance->w2c_memory, (u64)(w2c_i0) + 1051344u);
   w2c_l5 = w2c_j0;
   w2c_j0 = w2c_l2;
   w2c_i0 = (u32)(w2c_j0);
-  w2c_j0 = i64_load(&instance->w2c_memory, (u64)(w2c_i0) + 1051064u);
+  w2c_j0 = i64_load(&instance->w2c_memory, (u64)(w2c_i0) + 1051240u);
   w2c_l6 = w2c_j0;
   w2c_j1 = w2c_p0;
   w2c_j2 = 16ull;
@@ -54594,7 +54613,7 @@ static u32 w2c_kit_report__events__push_event(Machine * instance, u64 w2c_p0, u6
   }
   w2c_B13:;
   w2c_j0 = w2c_p0;
-  w2c_j1 = 1049361ull;
+  w2c_j1 = 1049534ull;
   w2c_j2 = 1ull;
   w2c_j3 = w2c_p1;
   w2c_j4 = 8ull;
@@ -54671,11 +54690,11 @@ static u32 w2c_kit_report__events__push_event(Machine * instance, u64 w2c_p0, u6
   w2c_j0 <<= (w2c_j1 & 63);
   w2c_l2 = w2c_j0;
   w2c_i0 = (u32)(w2c_j0);
-  w2c_j0 = i64_load(&instance->w2c_memory, (u64)(w2c_i0) + 1051296u);
+  w2c_j0 = i64_load(&instance->w2c_memory, (u64)(w2c_i0) + 1051472u);
   w2c_l5 = w2c_j0;
   w2c_j0 = w2c_l2;
   w2c_i0 = (u32)(w2c_j0);
-  w2c_j0 = i64_load(&instance->w2c_memory, (u64)(w2c_i0) + 1051272u);
+  w2c_j0 = i64_load(&instance->w2c_memory, (u64)(w2c_i0) + 1051448u);
   w2c_l2 = w2c_j0;
   w2c_j1 = w2c_l7;
   w2c_j2 = w2c_l6;
@@ -54847,7 +54866,7 @@ static u32 w2c_kit_report__events__push_event(Machine * instance, u64 w2c_p0, u6
   goto w2c_B1;
   w2c_B11:;
   w2c_j0 = w2c_p0;
-  w2c_j1 = 1049361ull;
+  w2c_j1 = 1049534ull;
   w2c_j2 = 1ull;
   w2c_j3 = w2c_p1;
   w2c_j4 = 8ull;
@@ -54866,7 +54885,7 @@ static u32 w2c_kit_report__events__push_event(Machine * instance, u64 w2c_p0, u6
   i64_store(&instance->w2c_memory, (u64)(w2c_i0) + 192, w2c_j1);
   w2c_j0 = w2c_l3;
   w2c_i0 = (u32)(w2c_j0);
-  w2c_j1 = 1049361ull;
+  w2c_j1 = 1049534ull;
   i64_store(&instance->w2c_memory, (u64)(w2c_i0) + 184, w2c_j1);
   w2c_j0 = w2c_l3;
   w2c_i0 = (u32)(w2c_j0);
@@ -54874,7 +54893,7 @@ static u32 w2c_kit_report__events__push_event(Machine * instance, u64 w2c_p0, u6
   i64_store(&instance->w2c_memory, (u64)(w2c_i0) + 168, w2c_j1);
   w2c_j0 = w2c_l3;
   w2c_i0 = (u32)(w2c_j0);
-  w2c_j1 = 1049361ull;
+  w2c_j1 = 1049534ull;
   i64_store(&instance->w2c_memory, (u64)(w2c_i0) + 160, w2c_j1);
   w2c_j0 = w2c_l3;
   w2c_i0 = (u32)(w2c_j0);
@@ -54882,7 +54901,7 @@ static u32 w2c_kit_report__events__push_event(Machine * instance, u64 w2c_p0, u6
   i64_store(&instance->w2c_memory, (u64)(w2c_i0) + 144, w2c_j1);
   w2c_j0 = w2c_l3;
   w2c_i0 = (u32)(w2c_j0);
-  w2c_j1 = 1049361ull;
+  w2c_j1 = 1049534ull;
   i64_store(&instance->w2c_memory, (u64)(w2c_i0) + 136, w2c_j1);
   w2c_j0 = w2c_l3;
   w2c_i0 = (u32)(w2c_j0);
@@ -55077,7 +55096,7 @@ static u32 w2c_kit_report__events__push_event(Machine * instance, u64 w2c_p0, u6
   w2c_j0 = w2c_l3;
   w2c_j1 = 64ull;
   w2c_j0 += w2c_j1;
-  w2c_j1 = 1049361ull;
+  w2c_j1 = 1049534ull;
   w2c_j2 = 1ull;
   w2c_i0 = w2c_core__fmt__formatter__Formatter__write_indented____66b2f40cbd927778_(instance, w2c_j0, w2c_j1, w2c_j2);
   w2c_i1 = 255u;
@@ -55165,7 +55184,7 @@ static u32 w2c_kit_report__events__push_event(Machine * instance, u64 w2c_p0, u6
   w2c_j0 = w2c_l3;
   w2c_j1 = 64ull;
   w2c_j0 += w2c_j1;
-  w2c_j1 = 1049361ull;
+  w2c_j1 = 1049534ull;
   w2c_j2 = 1ull;
   w2c_i0 = w2c_core__fmt__formatter__Formatter__write_indented____66b2f40cbd927778_(instance, w2c_j0, w2c_j1, w2c_j2);
   w2c_i1 = 255u;
@@ -56524,7 +56543,7 @@ static u32 w2c_kit_text__numbers__push_number_word(Machine * instance, u64 w2c_p
     w2c_j2 = 1ull;
     w2c_j1 <<= (w2c_j2 & 63);
     w2c_i1 = (u32)(w2c_j1);
-    w2c_i1 = i32_load16_u(&instance->w2c_memory, (u64)(w2c_i1) + 1049375u);
+    w2c_i1 = i32_load16_u(&instance->w2c_memory, (u64)(w2c_i1) + 1049548u);
     i32_store16(&instance->w2c_memory, (u64)(w2c_i0), w2c_i1);
     w2c_j0 = w2c_l4;
     w2c_j1 = 18446744073709551614ull;
@@ -56541,7 +56560,7 @@ static u32 w2c_kit_text__numbers__push_number_word(Machine * instance, u64 w2c_p
     w2c_j2 = 1ull;
     w2c_j1 <<= (w2c_j2 & 63);
     w2c_i1 = (u32)(w2c_j1);
-    w2c_i1 = i32_load16_u(&instance->w2c_memory, (u64)(w2c_i1) + 1049375u);
+    w2c_i1 = i32_load16_u(&instance->w2c_memory, (u64)(w2c_i1) + 1049548u);
     i32_store16(&instance->w2c_memory, (u64)(w2c_i0), w2c_i1);
     w2c_j0 = w2c_l2;
     w2c_j1 = 18446744073709551612ull;
@@ -56585,7 +56604,7 @@ static u32 w2c_kit_text__numbers__push_number_word(Machine * instance, u64 w2c_p
   w2c_j2 = 1ull;
   w2c_j1 <<= (w2c_j2 & 63);
   w2c_i1 = (u32)(w2c_j1);
-  w2c_i1 = i32_load16_u(&instance->w2c_memory, (u64)(w2c_i1) + 1049375u);
+  w2c_i1 = i32_load16_u(&instance->w2c_memory, (u64)(w2c_i1) + 1049548u);
   i32_store16(&instance->w2c_memory, (u64)(w2c_i0), w2c_i1);
   goto w2c_B3;
   w2c_B4:;
@@ -56613,7 +56632,7 @@ static u32 w2c_kit_text__numbers__push_number_word(Machine * instance, u64 w2c_p
   w2c_j2 = 1ull;
   w2c_j1 <<= (w2c_j2 & 63);
   w2c_i1 = (u32)(w2c_j1);
-  w2c_i1 = i32_load16_u(&instance->w2c_memory, (u64)(w2c_i1) + 1049375u);
+  w2c_i1 = i32_load16_u(&instance->w2c_memory, (u64)(w2c_i1) + 1049548u);
   i32_store16(&instance->w2c_memory, (u64)(w2c_i0), w2c_i1);
   w2c_j0 = w2c_p1;
   w2c_j1 = 999ull;
@@ -56644,7 +56663,7 @@ static u32 w2c_kit_text__numbers__push_number_word(Machine * instance, u64 w2c_p
   w2c_j2 = 1ull;
   w2c_j1 <<= (w2c_j2 & 63);
   w2c_i1 = (u32)(w2c_j1);
-  w2c_i1 = i32_load16_u(&instance->w2c_memory, (u64)(w2c_i1) + 1049375u);
+  w2c_i1 = i32_load16_u(&instance->w2c_memory, (u64)(w2c_i1) + 1049548u);
   i32_store16(&instance->w2c_memory, (u64)(w2c_i0), w2c_i1);
   w2c_B3:;
   w2c_j0 = 128ull;
@@ -56795,7 +56814,7 @@ static u32 w2c_kit_text__numbers__push_word_number(Machine * instance, u64 w2c_p
     w2c_j2 = 1ull;
     w2c_j1 <<= (w2c_j2 & 63);
     w2c_i1 = (u32)(w2c_j1);
-    w2c_i1 = i32_load16_u(&instance->w2c_memory, (u64)(w2c_i1) + 1049375u);
+    w2c_i1 = i32_load16_u(&instance->w2c_memory, (u64)(w2c_i1) + 1049548u);
     i32_store16(&instance->w2c_memory, (u64)(w2c_i0), w2c_i1);
     w2c_j0 = w2c_l6;
     w2c_j1 = 18446744073709551614ull;
@@ -56812,7 +56831,7 @@ static u32 w2c_kit_text__numbers__push_word_number(Machine * instance, u64 w2c_p
     w2c_j2 = 1ull;
     w2c_j1 <<= (w2c_j2 & 63);
     w2c_i1 = (u32)(w2c_j1);
-    w2c_i1 = i32_load16_u(&instance->w2c_memory, (u64)(w2c_i1) + 1049375u);
+    w2c_i1 = i32_load16_u(&instance->w2c_memory, (u64)(w2c_i1) + 1049548u);
     i32_store16(&instance->w2c_memory, (u64)(w2c_i0), w2c_i1);
     w2c_j0 = w2c_l4;
     w2c_j1 = 18446744073709551612ull;
@@ -56856,7 +56875,7 @@ static u32 w2c_kit_text__numbers__push_word_number(Machine * instance, u64 w2c_p
   w2c_j2 = 1ull;
   w2c_j1 <<= (w2c_j2 & 63);
   w2c_i1 = (u32)(w2c_j1);
-  w2c_i1 = i32_load16_u(&instance->w2c_memory, (u64)(w2c_i1) + 1049375u);
+  w2c_i1 = i32_load16_u(&instance->w2c_memory, (u64)(w2c_i1) + 1049548u);
   i32_store16(&instance->w2c_memory, (u64)(w2c_i0), w2c_i1);
   goto w2c_B3;
   w2c_B4:;
@@ -56884,7 +56903,7 @@ static u32 w2c_kit_text__numbers__push_word_number(Machine * instance, u64 w2c_p
   w2c_j2 = 1ull;
   w2c_j1 <<= (w2c_j2 & 63);
   w2c_i1 = (u32)(w2c_j1);
-  w2c_i1 = i32_load16_u(&instance->w2c_memory, (u64)(w2c_i1) + 1049375u);
+  w2c_i1 = i32_load16_u(&instance->w2c_memory, (u64)(w2c_i1) + 1049548u);
   i32_store16(&instance->w2c_memory, (u64)(w2c_i0), w2c_i1);
   w2c_j0 = w2c_p3;
   w2c_j1 = 999ull;
@@ -56915,7 +56934,7 @@ static u32 w2c_kit_text__numbers__push_word_number(Machine * instance, u64 w2c_p
   w2c_j2 = 1ull;
   w2c_j1 <<= (w2c_j2 & 63);
   w2c_i1 = (u32)(w2c_j1);
-  w2c_i1 = i32_load16_u(&instance->w2c_memory, (u64)(w2c_i1) + 1049375u);
+  w2c_i1 = i32_load16_u(&instance->w2c_memory, (u64)(w2c_i1) + 1049548u);
   i32_store16(&instance->w2c_memory, (u64)(w2c_i0), w2c_i1);
   w2c_B3:;
   w2c_j0 = w2c_l5;
@@ -57177,7 +57196,7 @@ static u32 w2c_kit_report__answers__push_refused(Machine * instance, u64 w2c_p0,
   w2c_j1 = w2c_l3;
   w2c_j0 += w2c_j1;
   w2c_l3 = w2c_j0;
-  w2c_j1 = 1050145ull;
+  w2c_j1 = 1050318ull;
   w2c_j0 -= w2c_j1;
   w2c_j1 = 7ull;
   w2c_i0 = w2c_j0 > w2c_j1;
@@ -57475,7 +57494,7 @@ static u32 w2c_kit_text__faults__push_fault(Machine * instance, u64 w2c_p0, u32 
   w2c_j1 = w2c_l3;
   w2c_j0 += w2c_j1;
   w2c_l3 = w2c_j0;
-  w2c_j1 = 1049710ull;
+  w2c_j1 = 1049883ull;
   w2c_j0 -= w2c_j1;
   w2c_j1 = 9ull;
   w2c_i0 = w2c_j0 > w2c_j1;
@@ -57494,13 +57513,13 @@ static u32 w2c_kit_text__faults__push_fault(Machine * instance, u64 w2c_p0, u32 
   w2c_i0 = (u32)(w2c_j0);
   w2c_j1 = 0ull;
   w2c_i1 = (u32)(w2c_j1);
-  w2c_i1 = i32_load16_u(&instance->w2c_memory, (u64)(w2c_i1) + 1049718u);
+  w2c_i1 = i32_load16_u(&instance->w2c_memory, (u64)(w2c_i1) + 1049891u);
   i32_store16(&instance->w2c_memory, (u64)(w2c_i0) + 8, w2c_i1);
   w2c_j0 = w2c_l3;
   w2c_i0 = (u32)(w2c_j0);
   w2c_j1 = 0ull;
   w2c_i1 = (u32)(w2c_j1);
-  w2c_j1 = i64_load(&instance->w2c_memory, (u64)(w2c_i1) + 1049710u);
+  w2c_j1 = i64_load(&instance->w2c_memory, (u64)(w2c_i1) + 1049883u);
   i64_store(&instance->w2c_memory, (u64)(w2c_i0), w2c_j1);
   w2c_B5:;
   w2c_j0 = w2c_l2;
@@ -57693,7 +57712,7 @@ static u32 w2c_kit_text__options__push_block____fc995fe602e3aacb_(Machine * inst
     w2c_j2 = 1ull;
     w2c_j1 <<= (w2c_j2 & 63);
     w2c_i1 = (u32)(w2c_j1);
-    w2c_i1 = i32_load16_u(&instance->w2c_memory, (u64)(w2c_i1) + 1049375u);
+    w2c_i1 = i32_load16_u(&instance->w2c_memory, (u64)(w2c_i1) + 1049548u);
     i32_store16(&instance->w2c_memory, (u64)(w2c_i0), w2c_i1);
     w2c_j0 = w2c_l5;
     w2c_j1 = 18446744073709551614ull;
@@ -57710,7 +57729,7 @@ static u32 w2c_kit_text__options__push_block____fc995fe602e3aacb_(Machine * inst
     w2c_j2 = 1ull;
     w2c_j1 <<= (w2c_j2 & 63);
     w2c_i1 = (u32)(w2c_j1);
-    w2c_i1 = i32_load16_u(&instance->w2c_memory, (u64)(w2c_i1) + 1049375u);
+    w2c_i1 = i32_load16_u(&instance->w2c_memory, (u64)(w2c_i1) + 1049548u);
     i32_store16(&instance->w2c_memory, (u64)(w2c_i0), w2c_i1);
     w2c_j0 = w2c_l2;
     w2c_j1 = 18446744073709551612ull;
@@ -57754,7 +57773,7 @@ static u32 w2c_kit_text__options__push_block____fc995fe602e3aacb_(Machine * inst
   w2c_j2 = 1ull;
   w2c_j1 <<= (w2c_j2 & 63);
   w2c_i1 = (u32)(w2c_j1);
-  w2c_i1 = i32_load16_u(&instance->w2c_memory, (u64)(w2c_i1) + 1049375u);
+  w2c_i1 = i32_load16_u(&instance->w2c_memory, (u64)(w2c_i1) + 1049548u);
   i32_store16(&instance->w2c_memory, (u64)(w2c_i0), w2c_i1);
   goto w2c_B3;
   w2c_B4:;
@@ -57782,7 +57801,7 @@ static u32 w2c_kit_text__options__push_block____fc995fe602e3aacb_(Machine * inst
   w2c_j2 = 1ull;
   w2c_j1 <<= (w2c_j2 & 63);
   w2c_i1 = (u32)(w2c_j1);
-  w2c_i1 = i32_load16_u(&instance->w2c_memory, (u64)(w2c_i1) + 1049375u);
+  w2c_i1 = i32_load16_u(&instance->w2c_memory, (u64)(w2c_i1) + 1049548u);
   i32_store16(&instance->w2c_memory, (u64)(w2c_i0), w2c_i1);
   w2c_j0 = w2c_l4;
   w2c_j1 = 999ull;
@@ -57813,7 +57832,7 @@ static u32 w2c_kit_text__options__push_block____fc995fe602e3aacb_(Machine * inst
   w2c_j2 = 1ull;
   w2c_j1 <<= (w2c_j2 & 63);
   w2c_i1 = (u32)(w2c_j1);
-  w2c_i1 = i32_load16_u(&instance->w2c_memory, (u64)(w2c_i1) + 1049375u);
+  w2c_i1 = i32_load16_u(&instance->w2c_memory, (u64)(w2c_i1) + 1049548u);
   i32_store16(&instance->w2c_memory, (u64)(w2c_i0), w2c_i1);
   w2c_B3:;
   w2c_j0 = w2c_l3;
@@ -57862,7 +57881,7 @@ static u32 w2c_kit_text__options__push_block____fc995fe602e3aacb_(Machine * inst
     w2c_j2 = 1ull;
     w2c_j1 <<= (w2c_j2 & 63);
     w2c_i1 = (u32)(w2c_j1);
-    w2c_i1 = i32_load16_u(&instance->w2c_memory, (u64)(w2c_i1) + 1049375u);
+    w2c_i1 = i32_load16_u(&instance->w2c_memory, (u64)(w2c_i1) + 1049548u);
     i32_store16(&instance->w2c_memory, (u64)(w2c_i0), w2c_i1);
     w2c_j0 = w2c_l5;
     w2c_j1 = 2ull;
@@ -57879,7 +57898,7 @@ static u32 w2c_kit_text__options__push_block____fc995fe602e3aacb_(Machine * inst
     w2c_j2 = 1ull;
     w2c_j1 <<= (w2c_j2 & 63);
     w2c_i1 = (u32)(w2c_j1);
-    w2c_i1 = i32_load16_u(&instance->w2c_memory, (u64)(w2c_i1) + 1049375u);
+    w2c_i1 = i32_load16_u(&instance->w2c_memory, (u64)(w2c_i1) + 1049548u);
     i32_store16(&instance->w2c_memory, (u64)(w2c_i0), w2c_i1);
     w2c_j0 = w2c_l2;
     w2c_j1 = 18446744073709551612ull;
@@ -57927,7 +57946,7 @@ static u32 w2c_kit_text__options__push_block____fc995fe602e3aacb_(Machine * inst
   w2c_j2 = 1ull;
   w2c_j1 <<= (w2c_j2 & 63);
   w2c_i1 = (u32)(w2c_j1);
-  w2c_i1 = i32_load16_u(&instance->w2c_memory, (u64)(w2c_i1) + 1049375u);
+  w2c_i1 = i32_load16_u(&instance->w2c_memory, (u64)(w2c_i1) + 1049548u);
   i32_store16(&instance->w2c_memory, (u64)(w2c_i0), w2c_i1);
   goto w2c_B9;
   w2c_B10:;
@@ -57955,7 +57974,7 @@ static u32 w2c_kit_text__options__push_block____fc995fe602e3aacb_(Machine * inst
   w2c_j2 = 1ull;
   w2c_j1 <<= (w2c_j2 & 63);
   w2c_i1 = (u32)(w2c_j1);
-  w2c_i1 = i32_load16_u(&instance->w2c_memory, (u64)(w2c_i1) + 1049375u);
+  w2c_i1 = i32_load16_u(&instance->w2c_memory, (u64)(w2c_i1) + 1049548u);
   i32_store16(&instance->w2c_memory, (u64)(w2c_i0), w2c_i1);
   w2c_j0 = w2c_l4;
   w2c_j1 = 999ull;
@@ -57986,7 +58005,7 @@ static u32 w2c_kit_text__options__push_block____fc995fe602e3aacb_(Machine * inst
   w2c_j2 = 1ull;
   w2c_j1 <<= (w2c_j2 & 63);
   w2c_i1 = (u32)(w2c_j1);
-  w2c_i1 = i32_load16_u(&instance->w2c_memory, (u64)(w2c_i1) + 1049375u);
+  w2c_i1 = i32_load16_u(&instance->w2c_memory, (u64)(w2c_i1) + 1049548u);
   i32_store16(&instance->w2c_memory, (u64)(w2c_i0), w2c_i1);
   w2c_B9:;
   w2c_j0 = 128ull;
@@ -62989,7 +63008,7 @@ static void w2c_tcp_replay__party__Party__take_in(Machine * instance, u64 w2c_p0
   w2c_j0 &= w2c_j1;
   w2c_j1 = 3ull;
   w2c_j0 <<= (w2c_j1 & 63);
-  w2c_j1 = 1050992ull;
+  w2c_j1 = 1051168ull;
   w2c_j0 += w2c_j1;
   w2c_i0 = (u32)(w2c_j0);
   w2c_j0 = i64_load(&instance->w2c_memory, (u64)(w2c_i0));
@@ -80576,7 +80595,7 @@ static u32 w2c_tcp_web__exports__put_fault(Machine * instance, u64 w2c_p0, u64 w
   w2c_j1 = w2c_p1;
   w2c_j0 += w2c_j1;
   w2c_p1 = w2c_j0;
-  w2c_j1 = 1050277ull;
+  w2c_j1 = 1050450ull;
   w2c_j0 -= w2c_j1;
   w2c_j1 = 15ull;
   w2c_i0 = w2c_j0 > w2c_j1;
@@ -80595,13 +80614,13 @@ static u32 w2c_tcp_web__exports__put_fault(Machine * instance, u64 w2c_p0, u64 w
   w2c_i0 = (u32)(w2c_j0);
   w2c_j1 = 0ull;
   w2c_i1 = (u32)(w2c_j1);
-  w2c_j1 = i64_load(&instance->w2c_memory, (u64)(w2c_i1) + 1050285u);
+  w2c_j1 = i64_load(&instance->w2c_memory, (u64)(w2c_i1) + 1050458u);
   i64_store(&instance->w2c_memory, (u64)(w2c_i0) + 8, w2c_j1);
   w2c_j0 = w2c_p1;
   w2c_i0 = (u32)(w2c_j0);
   w2c_j1 = 0ull;
   w2c_i1 = (u32)(w2c_j1);
-  w2c_j1 = i64_load(&instance->w2c_memory, (u64)(w2c_i1) + 1050277u);
+  w2c_j1 = i64_load(&instance->w2c_memory, (u64)(w2c_i1) + 1050450u);
   i64_store(&instance->w2c_memory, (u64)(w2c_i0), w2c_j1);
   w2c_B5:;
   w2c_j0 = w2c_l7;
@@ -80973,7 +80992,7 @@ static u32 w2c_tcp_web__exports__put_fault(Machine * instance, u64 w2c_p0, u64 w
   w2c_j1 = w2c_p0;
   w2c_j0 += w2c_j1;
   w2c_p0 = w2c_j0;
-  w2c_j1 = 1050293ull;
+  w2c_j1 = 1050466ull;
   w2c_j0 -= w2c_j1;
   w2c_j1 = 14ull;
   w2c_i0 = w2c_j0 > w2c_j1;
@@ -81000,13 +81019,13 @@ static u32 w2c_tcp_web__exports__put_fault(Machine * instance, u64 w2c_p0, u64 w
   w2c_i0 = (u32)(w2c_j0);
   w2c_j1 = 0ull;
   w2c_i1 = (u32)(w2c_j1);
-  w2c_j1 = i64_load(&instance->w2c_memory, (u64)(w2c_i1) + 1050300u);
+  w2c_j1 = i64_load(&instance->w2c_memory, (u64)(w2c_i1) + 1050473u);
   i64_store(&instance->w2c_memory, (u64)(w2c_i0) + 7, w2c_j1);
   w2c_j0 = w2c_p0;
   w2c_i0 = (u32)(w2c_j0);
   w2c_j1 = 0ull;
   w2c_i1 = (u32)(w2c_j1);
-  w2c_j1 = i64_load(&instance->w2c_memory, (u64)(w2c_i1) + 1050293u);
+  w2c_j1 = i64_load(&instance->w2c_memory, (u64)(w2c_i1) + 1050466u);
   i64_store(&instance->w2c_memory, (u64)(w2c_i0), w2c_j1);
   w2c_B17:;
   w2c_j0 = w2c_p1;
@@ -81029,8 +81048,8 @@ static u32 w2c_tcp_web__exports__put_fault(Machine * instance, u64 w2c_p0, u64 w
   w2c_i0 = (u32)(w2c_j0);
   w2c_j1 = 18446744073709551615ull;
   i64_store(&instance->w2c_memory, (u64)(w2c_i0) + 56, w2c_j1);
-  w2c_j0 = 1049837ull;
-  w2c_j1 = 1049836ull;
+  w2c_j0 = 1050010ull;
+  w2c_j1 = 1050009ull;
   w2c_i2 = w2c_l13;
   w2c_i3 = 255u;
   w2c_i2 &= w2c_i3;
@@ -81171,7 +81190,7 @@ static u32 w2c_tcp_web__exports__put_fault(Machine * instance, u64 w2c_p0, u64 w
   w2c_j0 = w2c_l5;
   w2c_j1 = 8ull;
   w2c_j0 += w2c_j1;
-  w2c_j1 = 1049361ull;
+  w2c_j1 = 1049534ull;
   w2c_j2 = 1ull;
   w2c_i0 = w2c_core__fmt__formatter__Formatter__write_indented____b0b7e8f0682f909d_(instance, w2c_j0, w2c_j1, w2c_j2);
   w2c_i1 = 255u;
@@ -82352,7 +82371,7 @@ static u32 w2c_kit_report__report__push_end_line(Machine * instance, u64 w2c_p0,
   i64_store(&instance->w2c_memory, (u64)(w2c_i0) + 56, w2c_j1);
   w2c_j0 = w2c_l3;
   w2c_i0 = (u32)(w2c_j0);
-  w2c_j1 = 1049361ull;
+  w2c_j1 = 1049534ull;
   i64_store(&instance->w2c_memory, (u64)(w2c_i0) + 48, w2c_j1);
   w2c_j0 = w2c_l3;
   w2c_i0 = (u32)(w2c_j0);
@@ -82360,7 +82379,7 @@ static u32 w2c_kit_report__report__push_end_line(Machine * instance, u64 w2c_p0,
   i64_store(&instance->w2c_memory, (u64)(w2c_i0) + 32, w2c_j1);
   w2c_j0 = w2c_l3;
   w2c_i0 = (u32)(w2c_j0);
-  w2c_j1 = 1049361ull;
+  w2c_j1 = 1049534ull;
   i64_store(&instance->w2c_memory, (u64)(w2c_i0) + 24, w2c_j1);
   w2c_j0 = w2c_l3;
   w2c_i0 = (u32)(w2c_j0);
@@ -82368,7 +82387,7 @@ static u32 w2c_kit_report__report__push_end_line(Machine * instance, u64 w2c_p0,
   i64_store(&instance->w2c_memory, (u64)(w2c_i0) + 8, w2c_j1);
   w2c_j0 = w2c_l3;
   w2c_i0 = (u32)(w2c_j0);
-  w2c_j1 = 1050308ull;
+  w2c_j1 = 1050481ull;
   i64_store(&instance->w2c_memory, (u64)(w2c_i0), w2c_j1);
   w2c_j0 = w2c_l3;
   w2c_i0 = (u32)(w2c_j0);
@@ -82800,8 +82819,8 @@ static u32 w2c_std_alloc__string__String__write_fmt____63f633939ab7fc33_(Machine
   w2c_i0 = (u32)(w2c_j0);
   w2c_j1 = 18446744073709551615ull;
   i64_store(&instance->w2c_memory, (u64)(w2c_i0) + 88, w2c_j1);
-  w2c_j0 = 1049837ull;
-  w2c_j1 = 1049836ull;
+  w2c_j0 = 1050010ull;
+  w2c_j1 = 1050009ull;
   w2c_j2 = w2c_l9;
   w2c_i2 = (u32)(w2c_j2);
   w2c_i2 = i32_load8_u(&instance->w2c_memory, (u64)(w2c_i2));
@@ -83098,11 +83117,11 @@ static u32 w2c_std_alloc__string__String__write_fmt____63f633939ab7fc33_(Machine
   w2c_j0 <<= (w2c_j1 & 63);
   w2c_p1 = w2c_j0;
   w2c_i0 = (u32)(w2c_j0);
-  w2c_j0 = i64_load(&instance->w2c_memory, (u64)(w2c_i0) + 1051408u);
+  w2c_j0 = i64_load(&instance->w2c_memory, (u64)(w2c_i0) + 1051584u);
   w2c_l19 = w2c_j0;
   w2c_j0 = w2c_p1;
   w2c_i0 = (u32)(w2c_j0);
-  w2c_j0 = i64_load(&instance->w2c_memory, (u64)(w2c_i0) + 1051320u);
+  w2c_j0 = i64_load(&instance->w2c_memory, (u64)(w2c_i0) + 1051496u);
   w2c_p1 = w2c_j0;
   w2c_j0 = w2c_l2;
   w2c_i0 = (u32)(w2c_j0);
@@ -83514,11 +83533,11 @@ static u32 w2c_std_alloc__string__String__write_fmt____63f633939ab7fc33_(Machine
   w2c_j0 <<= (w2c_j1 & 63);
   w2c_p1 = w2c_j0;
   w2c_i0 = (u32)(w2c_j0);
-  w2c_j0 = i64_load(&instance->w2c_memory, (u64)(w2c_i0) + 1051528u);
+  w2c_j0 = i64_load(&instance->w2c_memory, (u64)(w2c_i0) + 1051704u);
   w2c_l11 = w2c_j0;
   w2c_j0 = w2c_p1;
   w2c_i0 = (u32)(w2c_j0);
-  w2c_j0 = i64_load(&instance->w2c_memory, (u64)(w2c_i0) + 1051496u);
+  w2c_j0 = i64_load(&instance->w2c_memory, (u64)(w2c_i0) + 1051672u);
   w2c_p1 = w2c_j0;
   w2c_j0 = w2c_l2;
   w2c_i0 = (u32)(w2c_j0);
@@ -84003,8 +84022,8 @@ static u32 w2c_kit_report__report__push_counts(Machine * instance, u64 w2c_p0, u
   i64_store(&instance->w2c_memory, (u64)(w2c_i0) + 328, w2c_j1);
   w2c_j0 = w2c_l3;
   w2c_i0 = (u32)(w2c_j0);
-  w2c_j1 = 1050007ull;
-  w2c_j2 = 1050010ull;
+  w2c_j1 = 1050180ull;
+  w2c_j2 = 1050183ull;
   w2c_i3 = w2c_l11;
   w2c_j1 = w2c_i3 ? w2c_j1 : w2c_j2;
   w2c_l5 = w2c_j1;
@@ -84015,7 +84034,7 @@ static u32 w2c_kit_report__report__push_counts(Machine * instance, u64 w2c_p0, u
   i64_store(&instance->w2c_memory, (u64)(w2c_i0) + 312, w2c_j1);
   w2c_j0 = w2c_l3;
   w2c_i0 = (u32)(w2c_j0);
-  w2c_j1 = 1050386ull;
+  w2c_j1 = 1050559ull;
   i64_store(&instance->w2c_memory, (u64)(w2c_i0) + 304, w2c_j1);
   w2c_j0 = w2c_l3;
   w2c_i0 = (u32)(w2c_j0);
@@ -84023,11 +84042,11 @@ static u32 w2c_kit_report__report__push_counts(Machine * instance, u64 w2c_p0, u
   i64_store(&instance->w2c_memory, (u64)(w2c_i0) + 288, w2c_j1);
   w2c_j0 = w2c_l3;
   w2c_i0 = (u32)(w2c_j0);
-  w2c_j1 = 1050380ull;
+  w2c_j1 = 1050553ull;
   i64_store(&instance->w2c_memory, (u64)(w2c_i0) + 280, w2c_j1);
   w2c_j0 = w2c_l3;
   w2c_i0 = (u32)(w2c_j0);
-  w2c_j1 = 1050371ull;
+  w2c_j1 = 1050544ull;
   i64_store(&instance->w2c_memory, (u64)(w2c_i0) + 256, w2c_j1);
   w2c_j0 = w2c_l3;
   w2c_i0 = (u32)(w2c_j0);
@@ -84035,7 +84054,7 @@ static u32 w2c_kit_report__report__push_counts(Machine * instance, u64 w2c_p0, u
   i64_store(&instance->w2c_memory, (u64)(w2c_i0) + 240, w2c_j1);
   w2c_j0 = w2c_l3;
   w2c_i0 = (u32)(w2c_j0);
-  w2c_j1 = 1050361ull;
+  w2c_j1 = 1050534ull;
   i64_store(&instance->w2c_memory, (u64)(w2c_i0) + 232, w2c_j1);
   w2c_j0 = w2c_l3;
   w2c_i0 = (u32)(w2c_j0);
@@ -84043,7 +84062,7 @@ static u32 w2c_kit_report__report__push_counts(Machine * instance, u64 w2c_p0, u
   i64_store(&instance->w2c_memory, (u64)(w2c_i0) + 216, w2c_j1);
   w2c_j0 = w2c_l3;
   w2c_i0 = (u32)(w2c_j0);
-  w2c_j1 = 1050350ull;
+  w2c_j1 = 1050523ull;
   i64_store(&instance->w2c_memory, (u64)(w2c_i0) + 208, w2c_j1);
   w2c_j0 = w2c_l3;
   w2c_i0 = (u32)(w2c_j0);
@@ -84051,7 +84070,7 @@ static u32 w2c_kit_report__report__push_counts(Machine * instance, u64 w2c_p0, u
   i64_store(&instance->w2c_memory, (u64)(w2c_i0) + 192, w2c_j1);
   w2c_j0 = w2c_l3;
   w2c_i0 = (u32)(w2c_j0);
-  w2c_j1 = 1050340ull;
+  w2c_j1 = 1050513ull;
   i64_store(&instance->w2c_memory, (u64)(w2c_i0) + 184, w2c_j1);
   w2c_j0 = w2c_l3;
   w2c_i0 = (u32)(w2c_j0);
@@ -84219,7 +84238,7 @@ static u32 w2c_kit_report__report__push_counts(Machine * instance, u64 w2c_p0, u
   w2c_j1 = w2c_l6;
   w2c_j0 += w2c_j1;
   w2c_l6 = w2c_j0;
-  w2c_j1 = 1050340ull;
+  w2c_j1 = 1050513ull;
   w2c_j0 -= w2c_j1;
   w2c_j1 = 9ull;
   w2c_i0 = w2c_j0 > w2c_j1;
@@ -84238,13 +84257,13 @@ static u32 w2c_kit_report__report__push_counts(Machine * instance, u64 w2c_p0, u
   w2c_i0 = (u32)(w2c_j0);
   w2c_j1 = 0ull;
   w2c_i1 = (u32)(w2c_j1);
-  w2c_i1 = i32_load16_u(&instance->w2c_memory, (u64)(w2c_i1) + 1050348u);
+  w2c_i1 = i32_load16_u(&instance->w2c_memory, (u64)(w2c_i1) + 1050521u);
   i32_store16(&instance->w2c_memory, (u64)(w2c_i0) + 8, w2c_i1);
   w2c_j0 = w2c_l6;
   w2c_i0 = (u32)(w2c_j0);
   w2c_j1 = 0ull;
   w2c_i1 = (u32)(w2c_j1);
-  w2c_j1 = i64_load(&instance->w2c_memory, (u64)(w2c_i1) + 1050340u);
+  w2c_j1 = i64_load(&instance->w2c_memory, (u64)(w2c_i1) + 1050513u);
   i64_store(&instance->w2c_memory, (u64)(w2c_i0), w2c_j1);
   w2c_B5:;
   w2c_j0 = w2c_l3;
@@ -84331,7 +84350,7 @@ static u32 w2c_kit_report__report__push_counts(Machine * instance, u64 w2c_p0, u
   w2c_j1 = w2c_l6;
   w2c_j0 += w2c_j1;
   w2c_l6 = w2c_j0;
-  w2c_j1 = 1050350ull;
+  w2c_j1 = 1050523ull;
   w2c_j0 -= w2c_j1;
   w2c_j1 = 10ull;
   w2c_i0 = w2c_j0 > w2c_j1;
@@ -84354,13 +84373,13 @@ static u32 w2c_kit_report__report__push_counts(Machine * instance, u64 w2c_p0, u
   w2c_i0 = (u32)(w2c_j0);
   w2c_j1 = 0ull;
   w2c_i1 = (u32)(w2c_j1);
-  w2c_i1 = i32_load(&instance->w2c_memory, (u64)(w2c_i1) + 1050357u);
+  w2c_i1 = i32_load(&instance->w2c_memory, (u64)(w2c_i1) + 1050530u);
   i32_store(&instance->w2c_memory, (u64)(w2c_i0) + 7, w2c_i1);
   w2c_j0 = w2c_l6;
   w2c_i0 = (u32)(w2c_j0);
   w2c_j1 = 0ull;
   w2c_i1 = (u32)(w2c_j1);
-  w2c_j1 = i64_load(&instance->w2c_memory, (u64)(w2c_i1) + 1050350u);
+  w2c_j1 = i64_load(&instance->w2c_memory, (u64)(w2c_i1) + 1050523u);
   i64_store(&instance->w2c_memory, (u64)(w2c_i0), w2c_j1);
   w2c_B10:;
   w2c_j0 = w2c_l3;
@@ -84380,7 +84399,7 @@ static u32 w2c_kit_report__report__push_counts(Machine * instance, u64 w2c_p0, u
   w2c_j0 = w2c_l3;
   w2c_j1 = 112ull;
   w2c_j0 += w2c_j1;
-  w2c_j1 = 1050350ull;
+  w2c_j1 = 1050523ull;
   w2c_j2 = 11ull;
   w2c_i0 = w2c_core__fmt__formatter__Formatter__write_indented____66b2f40cbd927778_(instance, w2c_j0, w2c_j1, w2c_j2);
   w2c_i1 = 255u;
@@ -84458,7 +84477,7 @@ static u32 w2c_kit_report__report__push_counts(Machine * instance, u64 w2c_p0, u
   w2c_j1 = w2c_l6;
   w2c_j0 += w2c_j1;
   w2c_l6 = w2c_j0;
-  w2c_j1 = 1050361ull;
+  w2c_j1 = 1050534ull;
   w2c_j0 -= w2c_j1;
   w2c_j1 = 9ull;
   w2c_i0 = w2c_j0 > w2c_j1;
@@ -84477,13 +84496,13 @@ static u32 w2c_kit_report__report__push_counts(Machine * instance, u64 w2c_p0, u
   w2c_i0 = (u32)(w2c_j0);
   w2c_j1 = 0ull;
   w2c_i1 = (u32)(w2c_j1);
-  w2c_i1 = i32_load16_u(&instance->w2c_memory, (u64)(w2c_i1) + 1050369u);
+  w2c_i1 = i32_load16_u(&instance->w2c_memory, (u64)(w2c_i1) + 1050542u);
   i32_store16(&instance->w2c_memory, (u64)(w2c_i0) + 8, w2c_i1);
   w2c_j0 = w2c_l6;
   w2c_i0 = (u32)(w2c_j0);
   w2c_j1 = 0ull;
   w2c_i1 = (u32)(w2c_j1);
-  w2c_j1 = i64_load(&instance->w2c_memory, (u64)(w2c_i1) + 1050361u);
+  w2c_j1 = i64_load(&instance->w2c_memory, (u64)(w2c_i1) + 1050534u);
   i64_store(&instance->w2c_memory, (u64)(w2c_i0), w2c_j1);
   w2c_B15:;
   w2c_j0 = w2c_l3;
@@ -84503,7 +84522,7 @@ static u32 w2c_kit_report__report__push_counts(Machine * instance, u64 w2c_p0, u
   w2c_j0 = w2c_l3;
   w2c_j1 = 112ull;
   w2c_j0 += w2c_j1;
-  w2c_j1 = 1050361ull;
+  w2c_j1 = 1050534ull;
   w2c_j2 = 10ull;
   w2c_i0 = w2c_core__fmt__formatter__Formatter__write_indented____66b2f40cbd927778_(instance, w2c_j0, w2c_j1, w2c_j2);
   w2c_i1 = 255u;
@@ -84581,7 +84600,7 @@ static u32 w2c_kit_report__report__push_counts(Machine * instance, u64 w2c_p0, u
   w2c_j1 = w2c_l6;
   w2c_j0 += w2c_j1;
   w2c_l6 = w2c_j0;
-  w2c_j1 = 1050371ull;
+  w2c_j1 = 1050544ull;
   w2c_j0 -= w2c_j1;
   w2c_j1 = 8ull;
   w2c_i0 = w2c_j0 > w2c_j1;
@@ -84600,13 +84619,13 @@ static u32 w2c_kit_report__report__push_counts(Machine * instance, u64 w2c_p0, u
   w2c_i0 = (u32)(w2c_j0);
   w2c_j1 = 0ull;
   w2c_i1 = (u32)(w2c_j1);
-  w2c_i1 = i32_load8_u(&instance->w2c_memory, (u64)(w2c_i1) + 1050379u);
+  w2c_i1 = i32_load8_u(&instance->w2c_memory, (u64)(w2c_i1) + 1050552u);
   i32_store8(&instance->w2c_memory, (u64)(w2c_i0) + 8, w2c_i1);
   w2c_j0 = w2c_l6;
   w2c_i0 = (u32)(w2c_j0);
   w2c_j1 = 0ull;
   w2c_i1 = (u32)(w2c_j1);
-  w2c_j1 = i64_load(&instance->w2c_memory, (u64)(w2c_i1) + 1050371u);
+  w2c_j1 = i64_load(&instance->w2c_memory, (u64)(w2c_i1) + 1050544u);
   i64_store(&instance->w2c_memory, (u64)(w2c_i0), w2c_j1);
   w2c_B20:;
   w2c_j0 = w2c_l3;
@@ -84626,7 +84645,7 @@ static u32 w2c_kit_report__report__push_counts(Machine * instance, u64 w2c_p0, u
   w2c_j0 = w2c_l3;
   w2c_j1 = 112ull;
   w2c_j0 += w2c_j1;
-  w2c_j1 = 1050371ull;
+  w2c_j1 = 1050544ull;
   w2c_j2 = 9ull;
   w2c_i0 = w2c_core__fmt__formatter__Formatter__write_indented____66b2f40cbd927778_(instance, w2c_j0, w2c_j1, w2c_j2);
   w2c_i1 = 255u;
@@ -84704,7 +84723,7 @@ static u32 w2c_kit_report__report__push_counts(Machine * instance, u64 w2c_p0, u
   w2c_j1 = w2c_l6;
   w2c_j0 += w2c_j1;
   w2c_l6 = w2c_j0;
-  w2c_j1 = 1050380ull;
+  w2c_j1 = 1050553ull;
   w2c_j0 -= w2c_j1;
   w2c_j1 = 5ull;
   w2c_i0 = w2c_j0 > w2c_j1;
@@ -84723,13 +84742,13 @@ static u32 w2c_kit_report__report__push_counts(Machine * instance, u64 w2c_p0, u
   w2c_i0 = (u32)(w2c_j0);
   w2c_j1 = 0ull;
   w2c_i1 = (u32)(w2c_j1);
-  w2c_i1 = i32_load16_u(&instance->w2c_memory, (u64)(w2c_i1) + 1050384u);
+  w2c_i1 = i32_load16_u(&instance->w2c_memory, (u64)(w2c_i1) + 1050557u);
   i32_store16(&instance->w2c_memory, (u64)(w2c_i0) + 4, w2c_i1);
   w2c_j0 = w2c_l6;
   w2c_i0 = (u32)(w2c_j0);
   w2c_j1 = 0ull;
   w2c_i1 = (u32)(w2c_j1);
-  w2c_i1 = i32_load(&instance->w2c_memory, (u64)(w2c_i1) + 1050380u);
+  w2c_i1 = i32_load(&instance->w2c_memory, (u64)(w2c_i1) + 1050553u);
   i32_store(&instance->w2c_memory, (u64)(w2c_i0), w2c_i1);
   w2c_B25:;
   w2c_j0 = w2c_l3;
@@ -84749,7 +84768,7 @@ static u32 w2c_kit_report__report__push_counts(Machine * instance, u64 w2c_p0, u
   w2c_j0 = w2c_l3;
   w2c_j1 = 112ull;
   w2c_j0 += w2c_j1;
-  w2c_j1 = 1050380ull;
+  w2c_j1 = 1050553ull;
   w2c_j2 = 6ull;
   w2c_i0 = w2c_core__fmt__formatter__Formatter__write_indented____66b2f40cbd927778_(instance, w2c_j0, w2c_j1, w2c_j2);
   w2c_i1 = 255u;
@@ -84827,7 +84846,7 @@ static u32 w2c_kit_report__report__push_counts(Machine * instance, u64 w2c_p0, u
   w2c_j1 = w2c_l6;
   w2c_j0 += w2c_j1;
   w2c_l6 = w2c_j0;
-  w2c_j1 = 1050386ull;
+  w2c_j1 = 1050559ull;
   w2c_j0 -= w2c_j1;
   w2c_j1 = 6ull;
   w2c_i0 = w2c_j0 > w2c_j1;
@@ -84850,13 +84869,13 @@ static u32 w2c_kit_report__report__push_counts(Machine * instance, u64 w2c_p0, u
   w2c_i0 = (u32)(w2c_j0);
   w2c_j1 = 0ull;
   w2c_i1 = (u32)(w2c_j1);
-  w2c_i1 = i32_load(&instance->w2c_memory, (u64)(w2c_i1) + 1050389u);
+  w2c_i1 = i32_load(&instance->w2c_memory, (u64)(w2c_i1) + 1050562u);
   i32_store(&instance->w2c_memory, (u64)(w2c_i0) + 3, w2c_i1);
   w2c_j0 = w2c_l6;
   w2c_i0 = (u32)(w2c_j0);
   w2c_j1 = 0ull;
   w2c_i1 = (u32)(w2c_j1);
-  w2c_i1 = i32_load(&instance->w2c_memory, (u64)(w2c_i1) + 1050386u);
+  w2c_i1 = i32_load(&instance->w2c_memory, (u64)(w2c_i1) + 1050559u);
   i32_store(&instance->w2c_memory, (u64)(w2c_i0), w2c_i1);
   w2c_B30:;
   w2c_j0 = w2c_l3;
@@ -84876,7 +84895,7 @@ static u32 w2c_kit_report__report__push_counts(Machine * instance, u64 w2c_p0, u
   w2c_j0 = w2c_l3;
   w2c_j1 = 112ull;
   w2c_j0 += w2c_j1;
-  w2c_j1 = 1050386ull;
+  w2c_j1 = 1050559ull;
   w2c_j2 = 7ull;
   w2c_i0 = w2c_core__fmt__formatter__Formatter__write_indented____66b2f40cbd927778_(instance, w2c_j0, w2c_j1, w2c_j2);
   w2c_i1 = 255u;
@@ -86051,7 +86070,7 @@ static u32 w2c_rattle__export_tcp_web_list(Machine * instance, u64 w2c_p0, u64 w
     i64_store(&instance->w2c_memory, (u64)(w2c_i0) + 192, w2c_j1);
     w2c_j0 = w2c_l9;
     w2c_i0 = (u32)(w2c_j0);
-    w2c_j1 = 1049361ull;
+    w2c_j1 = 1049534ull;
     i64_store(&instance->w2c_memory, (u64)(w2c_i0) + 232, w2c_j1);
     w2c_j0 = w2c_l9;
     w2c_i0 = (u32)(w2c_j0);
@@ -86203,7 +86222,7 @@ static u32 w2c_rattle__export_tcp_web_list(Machine * instance, u64 w2c_p0, u64 w
     w2c_j0 = w2c_l9;
     w2c_j1 = 256ull;
     w2c_j0 += w2c_j1;
-    w2c_j1 = 1049361ull;
+    w2c_j1 = 1049534ull;
     w2c_j2 = 1ull;
     w2c_i0 = w2c_core__fmt__formatter__Formatter__write_indented____bc6dd3c8388e7ac9_(instance, w2c_j0, w2c_j1, w2c_j2);
     w2c_l23 = w2c_i0;
@@ -86497,7 +86516,7 @@ static u32 w2c_rattle__export_tcp_web_list(Machine * instance, u64 w2c_p0, u64 w
   i64_store(&instance->w2c_memory, (u64)(w2c_i0) + 360, w2c_j1);
   w2c_j0 = w2c_l9;
   w2c_i0 = (u32)(w2c_j0);
-  w2c_j1 = 1049788ull;
+  w2c_j1 = 1049961ull;
   i64_store(&instance->w2c_memory, (u64)(w2c_i0) + 352, w2c_j1);
   w2c_j0 = w2c_l9;
   w2c_i0 = (u32)(w2c_j0);
@@ -86505,7 +86524,7 @@ static u32 w2c_rattle__export_tcp_web_list(Machine * instance, u64 w2c_p0, u64 w
   i64_store(&instance->w2c_memory, (u64)(w2c_i0) + 336, w2c_j1);
   w2c_j0 = w2c_l9;
   w2c_i0 = (u32)(w2c_j0);
-  w2c_j1 = 1049782ull;
+  w2c_j1 = 1049955ull;
   i64_store(&instance->w2c_memory, (u64)(w2c_i0) + 328, w2c_j1);
   w2c_j0 = w2c_l9;
   w2c_i0 = (u32)(w2c_j0);
@@ -86605,7 +86624,7 @@ static u32 w2c_rattle__export_tcp_web_list(Machine * instance, u64 w2c_p0, u64 w
   w2c_j1 = w2c_l8;
   w2c_j0 += w2c_j1;
   w2c_l8 = w2c_j0;
-  w2c_j1 = 1049782ull;
+  w2c_j1 = 1049955ull;
   w2c_j0 -= w2c_j1;
   w2c_j1 = 5ull;
   w2c_i0 = w2c_j0 > w2c_j1;
@@ -86624,13 +86643,13 @@ static u32 w2c_rattle__export_tcp_web_list(Machine * instance, u64 w2c_p0, u64 w
   w2c_i0 = (u32)(w2c_j0);
   w2c_j1 = 0ull;
   w2c_i1 = (u32)(w2c_j1);
-  w2c_i1 = i32_load16_u(&instance->w2c_memory, (u64)(w2c_i1) + 1049786u);
+  w2c_i1 = i32_load16_u(&instance->w2c_memory, (u64)(w2c_i1) + 1049959u);
   i32_store16(&instance->w2c_memory, (u64)(w2c_i0) + 4, w2c_i1);
   w2c_j0 = w2c_l8;
   w2c_i0 = (u32)(w2c_j0);
   w2c_j1 = 0ull;
   w2c_i1 = (u32)(w2c_j1);
-  w2c_i1 = i32_load(&instance->w2c_memory, (u64)(w2c_i1) + 1049782u);
+  w2c_i1 = i32_load(&instance->w2c_memory, (u64)(w2c_i1) + 1049955u);
   i32_store(&instance->w2c_memory, (u64)(w2c_i0), w2c_i1);
   w2c_B29:;
   w2c_j0 = w2c_l9;
@@ -86712,7 +86731,7 @@ static u32 w2c_rattle__export_tcp_web_list(Machine * instance, u64 w2c_p0, u64 w
   w2c_j1 = w2c_l8;
   w2c_j0 += w2c_j1;
   w2c_l8 = w2c_j0;
-  w2c_j1 = 1049788ull;
+  w2c_j1 = 1049961ull;
   w2c_j0 -= w2c_j1;
   w2c_j1 = 10ull;
   w2c_i0 = w2c_j0 > w2c_j1;
@@ -86735,13 +86754,13 @@ static u32 w2c_rattle__export_tcp_web_list(Machine * instance, u64 w2c_p0, u64 w
   w2c_i0 = (u32)(w2c_j0);
   w2c_j1 = 0ull;
   w2c_i1 = (u32)(w2c_j1);
-  w2c_i1 = i32_load(&instance->w2c_memory, (u64)(w2c_i1) + 1049795u);
+  w2c_i1 = i32_load(&instance->w2c_memory, (u64)(w2c_i1) + 1049968u);
   i32_store(&instance->w2c_memory, (u64)(w2c_i0) + 7, w2c_i1);
   w2c_j0 = w2c_l8;
   w2c_i0 = (u32)(w2c_j0);
   w2c_j1 = 0ull;
   w2c_i1 = (u32)(w2c_j1);
-  w2c_j1 = i64_load(&instance->w2c_memory, (u64)(w2c_i1) + 1049788u);
+  w2c_j1 = i64_load(&instance->w2c_memory, (u64)(w2c_i1) + 1049961u);
   i64_store(&instance->w2c_memory, (u64)(w2c_i0), w2c_j1);
   w2c_B34:;
   w2c_j0 = w2c_l9;
@@ -86757,7 +86776,7 @@ static u32 w2c_rattle__export_tcp_web_list(Machine * instance, u64 w2c_p0, u64 w
   w2c_j0 = w2c_l9;
   w2c_j1 = 256ull;
   w2c_j0 += w2c_j1;
-  w2c_j1 = 1049788ull;
+  w2c_j1 = 1049961ull;
   w2c_j2 = 11ull;
   w2c_i0 = w2c_core__fmt__formatter__Formatter__write_indented____bc6dd3c8388e7ac9_(instance, w2c_j0, w2c_j1, w2c_j2);
   w2c_i1 = 255u;
