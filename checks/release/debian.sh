@@ -9,15 +9,15 @@ test=debian
 . checks/lib.sh
 passed=0
 (($(id -u) == 0)) || leave_out_all root
-has debootstrap debootstrap --version || exit 0
+has debootstrap debootstrap --version && has iproute2 ip -V || exit 0
 if (($# > 0)); then root=$1; else root=$(mktemp -d) && trap 'rm -rf "$root"' EXIT; fi
 wanted=gcc,libc6-dev,g++,cargo,golang-go,python3,python3-pip,python3-setuptools,python3-wheel
 [[ -e $root/usr/bin/cargo ]] || debootstrap --variant=minbase --include=$wanted bookworm "$root" >/dev/null
 
-# Words in that system, with its own processes and without a network.
+# Words in that system, with its own processes, and of networks its own loopback alone.
 inside() {
     # shellcheck disable=SC2016
-    unshare --mount --pid --net --fork sh -c 'mount -t proc none "$1/proc" && exec chroot "$@"' inside "$root" \
+    unshare --mount --pid --net --fork sh -c 'mount -t proc none "$1/proc" && ip link set lo up && exec chroot "$@"' inside "$root" \
         env -i PATH=/usr/bin:/bin HOME=/root "$@"
 }
 
