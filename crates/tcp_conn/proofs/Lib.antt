@@ -10,3 +10,4 @@ mod TimeWaitArrival
 mod TimeWaitLaw
 mod Trains
 mod Together
+pub mod Unguarded

@@ -24,6 +24,7 @@ pub mod Train
 pub mod Status
 pub mod AtOnce
 pub mod Taking
+pub mod Guard
 pub mod Stray
 pub mod PhaseTable
 pub mod TimeWait

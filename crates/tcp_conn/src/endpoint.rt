@@ -7,6 +7,7 @@ use crate::phase::{Ending, Phase};
 use std::alloc::{Allocator, Global};
 use std::marker::Model;
 use tcp_halves::{Config, Link, Peer, Receiver, Sender};
+use tcp_wire::Seq;
 
 /// One end of a TCP connection (RFC 9293, 3.3). No call of it allocates memory once it is made.
 #[derive(Debug, Drop)]
@@ -90,6 +91,15 @@ impl<A: Allocator> Endpoint<A> {
         ensures most { result ≤ 2 + stream_limit }
     {
         self.sender.snd_nxt
+    }
+
+    /// RCV.NXT (RFC 9293, 3.3.1): the next number that this end expects of its peer; 0 where no SYN of the peer was
+    /// taken.
+    #[must_use]
+    pub fn rcv_nxt(&self) -> Seq
+        ensures { result.0 ≡ self.now.receiving.rcv_nxt }
+    {
+        self.receiver.rcv_nxt
     }
 
     /// RCV.NXT (RFC 9293, 3.3.1) as a position of the peer's direction: 1 and the bytes that came in order, and 1 more

@@ -44,6 +44,7 @@ mod timers;
 mod windows;
 
 pub use arrive::brought::Brought;
+pub use arrive::guard::Intake;
 pub use arrive::judgement::Judgement;
 pub use arrive::report::Taken;
 pub use emit::parts::Parts;

@@ -9,3 +9,4 @@ mod Examples
 pub mod Injected
 pub mod NotStuck
 pub mod AmongStrangers
+pub mod Guarded

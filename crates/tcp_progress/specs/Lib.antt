@@ -12,4 +12,5 @@ pub mod Measure
 pub mod Fair
 pub mod Half
 pub mod Among
+pub mod Guarded
 pub mod WithRuns

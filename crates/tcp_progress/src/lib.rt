@@ -38,7 +38,10 @@ pub use sending::{
 pub use sent::nothing_is_taken_before_it_is_sent;
 pub use settled::{every_world_is_steady, no_world_is_stuck};
 use std::alloc::Allocator;
-pub use strangers::{a_blind_injection_is_calm, goes_on_among_strangers, steady_among_strangers};
+pub use strangers::{
+    a_blind_injection_is_calm, goes_on_among_strangers, guarded_ends_are_safe_and_go_on,
+    steady_among_strangers, what_lives_passes_a_guard,
+};
 use tcp_conn::Endpoint;
 use tcp_conn::laws::what_always_holds;
 

@@ -2,6 +2,7 @@
 ghost use Rattle.tcp_progress.specs.Among.{BlindIsCalm, BurstsEndAmongStrangers, HalvesAmongStrangers, HalvesCanBeHadAmongStrangers, NeverGrowsAmongStrangers};
 ghost use Rattle.tcp_progress.specs.Among.{NotStuckAmongStrangers, NothingIsTakenBeforeItIsSentAmongStrangers, OpensAmongStrangers, ServedAmongStrangers};
 ghost use Rattle.tcp_progress.specs.Among.{ServedOpensAmongStrangers, SteadyAmongStrangers, TurnsCanBeHadAmongStrangers};
+ghost use Rattle.tcp_progress.specs.Guarded.{GuardedGoesOn, GuardedIsSafe, WhatLivesPasses};
 ghost use Rattle.tcp_progress.specs.WithRuns.{GoesOnAmongStrangersWithRuns, SteadyAmongStrangersWithRuns};
 
 /// Every world is steady among strangers, too, and nothing is taken before it is sent: as `every_world_is_steady` and
@@ -35,4 +36,20 @@ pub fn goes_on_among_strangers()
 /// `Acknowledge`. So it may also come within the turns and half turns of the laws above.
 pub fn a_blind_injection_is_calm()
     ensures { BlindIsCalm }
+{}
+
+/// A guard that reaches as far as segments live keeps out nothing that a world delivers (RFC 5961, 5.2): no segment that
+/// the peer emitted, and whose lifetime isn't over, whatever strangers sent meanwhile. A segment with a byte changed is
+/// found by its checksum before any guard looks at it.
+pub fn what_lives_passes_a_guard()
+    ensures { WhatLivesPasses }
+{}
+
+/// Every world of two guarded ends is as safe as one without guards, however far these reach, though strangers send
+/// whatever doesn't get past a guard. That is far more than isn't let in without one: `few_acks_pass` and
+/// `few_numbers_pass_at_a_shut_window` of `tcp_strangers` count it. And where the guards reach as far as segments live,
+/// for 2^21 positions or longer, each event is what it is without them, and the two go on as well.
+pub fn guarded_ends_are_safe_and_go_on()
+    ensures safe { GuardedIsSafe }
+    ensures goes_on { GuardedGoesOn }
 {}

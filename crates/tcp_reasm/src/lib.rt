@@ -3,8 +3,8 @@
 //!
 //! [`Reassembly`] is what came in order and wasn't read, and what came out of order within the window. `place` reports
 //! by [`Placed`] what a piece brought, `peek` lends what is unread. Only making one allocates, and only that can fail
-//! ([`ReasmError`]). How many runs are kept out of order is its number, [`DEFAULT_RUNS`] where none is given. [`laws`]: runs are maximal, and blocks are the newest first. It counts offsets from RCV.NXT, and
-//! knows no sequence number.
+//! ([`ReasmError`]). How many runs are kept out of order is its number, [`DEFAULT_RUNS`] where none is given. [`laws`]: runs
+//! are maximal, and blocks are the newest first. It counts offsets from RCV.NXT, and knows no sequence number.
 #![tactic(auto)]
 
 pub use error::ReasmError;

@@ -7,7 +7,7 @@ pub use Rattle.tcp_replay.proofs.pair.Arrivals.{acked_text-to, Comes, Fair, fair
 pub use Rattle.tcp_replay.proofs.pair.Calls.{KeptByCalls, MayGoOut, refusal_if-none, CanOpen}
 pub use Rattle.tcp_replay.proofs.pair.Emissions.{due-bits, due-decodes, due-goes, GoesOut, rcv_position-is, reset-bit, syn-bits, waiting-bit}
 pub use Rattle.tcp_replay.proofs.pair.Events.{after_segment, AllSaid, arrival-ok, Arrives, Both, both-swapped, comes, delivered-there, due-position}
-pub use Rattle.tcp_replay.proofs.pair.Events.{finds-damage, in-world, own-decodes, PairKept, said-after, said-back, same-content, segment-sent, Speaks}
+pub use Rattle.tcp_replay.proofs.pair.Events.{damage-found, finds-damage, flags-in, young-both, in-world, own-decodes, PairKept, said-after, said-back, same-content, segment-sent, Speaks}
 pub use Rattle.tcp_replay.proofs.one_end.Feeds.{AllHeld, AllText, Brings, brings-place, held-more, held-moved, held-none, held-same}
 pub use Rattle.tcp_replay.proofs.pair.Halves.{range-more}
 pub use Rattle.tcp_replay.proofs.hints.Holdings.{slice_get-before}

@@ -3,4 +3,5 @@ pub mod Parties
 pub mod Runs
 pub mod Worlds
 pub mod Injections
+pub mod Passing
 pub mod Examples

@@ -11,3 +11,4 @@ pub mod Sound
 pub mod Refusals
 pub mod Names
 pub mod Among
+pub mod Guarded

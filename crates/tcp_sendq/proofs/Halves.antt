@@ -8,7 +8,7 @@ use Rattle.std.proofs.lemmas.Bool.{cases_lt, leb-true, leb-false, le-leb, lt-leb
 use Rattle.std.proofs.lemmas.Option.{slice_get-get_or}
 use Rattle.std.proofs.lemmas.List.Sorted.{IsPartitionedBy-ltb, IsPartitionedBy-leb}
 use Rattle.tcp_sendq.specs.declared.marks.Interval.{Interval}
-use Rattle.tcp_sendq.specs.Marks.{AreInOrder, IsTableFrom, count_before, first_uncovered, next_start}
+use Rattle.tcp_sendq.specs.Marks.{AreInOrder, IsTableFrom, count_before, count_to, count_ended, first_uncovered, next_start}
 use Rattle.tcp_sendq.proofs.Intervals.{has_place-inside, has_place-below, has_place-above}
 
 -- ---- starts and ends rise
@@ -40,10 +40,10 @@ starts (one ∷ rest) h (suc i) (suc j) d le lt = starts rest h.2 i j d (omega (
 pub ends_rise : (table : List Interval) (from : ℕ) → AreInOrder table → IsPartitionedBy (λ one. nat_lt one.end from) table
 ends_rise table from h = IsPartitionedBy-ltb (λ (one : Interval). one.end) table from (ends table h)
 
-ends_rise_to : (table : List Interval) (at : ℕ) → AreInOrder table → IsPartitionedBy (λ one. nat_le one.end at) table
+pub ends_rise_to : (table : List Interval) (at : ℕ) → AreInOrder table → IsPartitionedBy (λ one. nat_le one.end at) table
 ends_rise_to table at h = IsPartitionedBy-leb (λ (one : Interval). one.end) table at (ends table h)
 
-starts_rise_to : (table : List Interval) (at : ℕ) → AreInOrder table → IsPartitionedBy (λ one. nat_le one.start at) table
+pub starts_rise_to : (table : List Interval) (at : ℕ) → AreInOrder table → IsPartitionedBy (λ one. nat_le one.start at) table
 starts_rise_to table at h = IsPartitionedBy-leb (λ (one : Interval). one.start) table at (starts table h)
 
 -- ---- what stands at the point
@@ -55,6 +55,22 @@ count_from_point (one ∷ rest) from zero within point =
 count_from_point (one ∷ rest) from (suc i) within point =
     ap suc (count_from_point rest from i (omega (arith, within)) (λ k d low high. point.0 (suc k) d (omega arith) (omega (arith, high)), λ k d low high. point.1 (suc k) d (omega (arith, low)) (omega (arith, high))))
     ∙ ap (λ b. if b then suc (count_before from rest) else 0) (sym (point.0 0 one (omega arith) (omega arith)))
+
+pub count_to-from_point : (table : List Interval) (to i : ℕ) → i ≤ length table → IsPartitionPoint (λ one. nat_le one.start to ≡ true) (λ one. nat_le one.start to ≡ false) table i → i ≡ count_to to table
+count_to-from_point [] to i within point = omega (arith, within)
+count_to-from_point (one ∷ rest) to zero within point =
+    ap (λ b. if b then suc (count_to to rest) else 0) (sym (point.1 0 one (omega arith) (omega arith)))
+count_to-from_point (one ∷ rest) to (suc i) within point =
+    ap suc (count_to-from_point rest to i (omega (arith, within)) (λ k d low high. point.0 (suc k) d (omega arith) (omega (arith, high)), λ k d low high. point.1 (suc k) d (omega (arith, low)) (omega (arith, high))))
+    ∙ ap (λ b. if b then suc (count_to to rest) else 0) (sym (point.0 0 one (omega arith) (omega arith)))
+
+pub count_ended-from_point : (table : List Interval) (place i : ℕ) → i ≤ length table → IsPartitionPoint (λ one. nat_le one.end place ≡ true) (λ one. nat_le one.end place ≡ false) table i → i ≡ count_ended place table
+count_ended-from_point [] place i within point = omega (arith, within)
+count_ended-from_point (one ∷ rest) place zero within point =
+    ap (λ b. if b then suc (count_ended place rest) else 0) (sym (point.1 0 one (omega arith) (omega arith)))
+count_ended-from_point (one ∷ rest) place (suc i) within point =
+    ap suc (count_ended-from_point rest place i (omega (arith, within)) (λ k d low high. point.0 (suc k) d (omega arith) (omega (arith, high)), λ k d low high. point.1 (suc k) d (omega (arith, low)) (omega (arith, high))))
+    ∙ ap (λ b. if b then suc (count_ended place rest) else 0) (sym (point.0 0 one (omega arith) (omega arith)))
 
 -- what stands at an index, of the two forms of a lookup
 pub none_at : (table : List Interval) (i : ℕ) → length table ≤ i → slice_get table i ≡ None

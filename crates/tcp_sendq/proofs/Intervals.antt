@@ -1,7 +1,7 @@
 -- Lemmas on tables of intervals.
-use Rattle.std.proofs.Common.{◌≡◌, ℕ, zero, suc, ◌+◌, ◌-◌, ◌<◌, ◌≤◌, Bool, true, false, ◌||◌, nat_lt, if◌then◌else◌, List, [], ◌∷◌, ◌++◌, length, take, drop, replicate, map, get_or, Some, slice_get, refl, sym, ap, subst, ◌∙◌, inl, inr, arith, length-append, length-drop}
+use Rattle.std.proofs.Common.{◌≡◌, ℕ, zero, suc, ◌+◌, ◌-◌, ◌<◌, ◌≤◌, Bool, true, false, ◌||◌, nat_lt, if◌then◌else◌, List, [], ◌∷◌, ◌++◌, length, drop, replicate, map, get_or, Some, slice_get, refl, sym, ap, subst, ◌∙◌, inl, inr, arith, length-append, length-drop}
 use Rattle.std.specs.List.Retain.{RetainsInTurn}
-use Rattle.std.specs.List.{range_with_len, insert}
+use Rattle.std.specs.List.{range_with_len}
 use Rattle.std.proofs.Math.Bool.{or-true, or_assoc}
 use Rattle.std.proofs.lemmas.Bool.{cases_lt, lt-ltb, le-ltb, false≢true}
 use Rattle.std.proofs.lemmas.Bool.Decides.{nat_tests}
@@ -13,7 +13,7 @@ use Rattle.tcp_sendq.proofs.Runs.{flag_after, flag_after-append, flag_after-mark
 use Rattle.tcp_sendq.proofs.Kept.{length-marks_with}
 use Rattle.tcp_sendq.proofs.Places.{marks_with-below, marks_with-inside, marks_with-above}
 use Rattle.tcp_sendq.specs.declared.marks.Interval.{Interval}
-use Rattle.tcp_sendq.specs.Marks.{interval, has_place, covers, marks_of, IsTableFrom, IsTable, moved_down, union, joined, joined_front, count_before}
+use Rattle.tcp_sendq.specs.Marks.{interval, has_place, covers, marks_of, IsTableFrom, IsTable, moved_down, union, joined, joined_front}
 
 -- the table after a `retain` that moves each interval down and drops those that are empty then
 pub moved_down-from_retain : {F : Type 0} (R : F → Interval → Bool → F → Interval → Type 0) (f : F) (n : ℕ)
@@ -134,19 +134,19 @@ IsTableFrom-moved_down n low high (one ∷ rest) h =
 
 -- ---- after a mark
 
-joined_front-apart : (one next : Interval) (rest : List Interval) → one.end < next.start → joined_front one (next ∷ rest) ≡ one ∷ next ∷ rest
+pub joined_front-apart : (one next : Interval) (rest : List Interval) → one.end < next.start → joined_front one (next ∷ rest) ≡ one ∷ next ∷ rest
 joined_front-apart one next rest h =
     ap (λ apart. if apart then one ∷ next ∷ rest else joined_front (union one next) rest) (lt-ltb one.end next.start h)
 
-joined_front-touching : (one next : Interval) (rest : List Interval) → next.start ≤ one.end → joined_front one (next ∷ rest) ≡ joined_front (union one next) rest
+pub joined_front-touching : (one next : Interval) (rest : List Interval) → next.start ≤ one.end → joined_front one (next ∷ rest) ≡ joined_front (union one next) rest
 joined_front-touching one next rest h =
     ap (λ apart. if apart then one ∷ next ∷ rest else joined_front (union one next) rest) (le-ltb one.end next.start h)
 
-joined-before : (one next : Interval) (rest : List Interval) → next.end < one.start → joined one (next ∷ rest) ≡ next ∷ joined one rest
+pub joined-before : (one next : Interval) (rest : List Interval) → next.end < one.start → joined one (next ∷ rest) ≡ next ∷ joined one rest
 joined-before one next rest h =
     ap (λ before. if before then next ∷ joined one rest else joined_front one (next ∷ rest)) (lt-ltb next.end one.start h)
 
-joined-behind : (one next : Interval) (rest : List Interval) → one.start ≤ next.end → joined one (next ∷ rest) ≡ joined_front one (next ∷ rest)
+pub joined-behind : (one next : Interval) (rest : List Interval) → one.start ≤ next.end → joined one (next ∷ rest) ≡ joined_front one (next ∷ rest)
 joined-behind one next rest h =
     ap (λ before. if before then next ∷ joined one rest else joined_front one (next ∷ rest)) (le-ltb next.end one.start h)
 
@@ -194,27 +194,6 @@ IsTableFrom-joined low high one (next ∷ rest) from_low some to_high h = elim (
       (h.0, h.1, h.2, IsTableFrom-joined (next.end + 1) high one rest (omega arith) some to_high h.3)
   | inr behind ↦ subst (IsTableFrom low high) (sym (joined-behind one next rest behind)) (IsTableFrom-joined_front low high one (next ∷ rest) from_low some to_high h)
 ]
-
--- the intervals before the offset, then what is joined with those after it
-joined_at : (one : Interval) (table : List Interval) → joined one table ≡ take (count_before one.start table) table ++ joined_front one (drop (count_before one.start table) table)
-joined_at one [] = refl
-joined_at one (next ∷ rest) = elim (cases_lt next.end one.start) [
-  | inl before ↦
-      let count : count_before one.start (next ∷ rest) ≡ suc (count_before one.start rest) =
-      ap (λ b. if b then suc (count_before one.start rest) else 0) (lt-ltb next.end one.start before) in
-      joined-before one next rest before ∙ (ap (λ t. next ∷ t) (joined_at one rest)
-      ∙ sym (ap (λ n. take n (next ∷ rest) ++ joined_front one (drop n (next ∷ rest))) count))
-  | inr behind ↦
-      let count : count_before one.start (next ∷ rest) ≡ 0 =
-      ap (λ b. if b then suc (count_before one.start rest) else 0) (le-ltb next.end one.start behind) in
-      joined-behind one next rest behind ∙ sym (ap (λ n. take n (next ∷ rest) ++ joined_front one (drop n (next ∷ rest))) count)
-]
-
--- the table after an insert, once the intervals at the index were joined with this one
-pub joined-from_insert : (one run : Interval) (place : ℕ) (old now : List Interval) → place ≡ count_before one.start old → take place now ≡ take place old → joined_front one (drop place old) ≡ run ∷ drop place now
-    → joined one old ≡ insert now place run
-joined-from_insert one run place old now is front rest =
-    joined_at one old ∙ (ap (λ n. take n old ++ joined_front one (drop n old)) (sym is) ∙ cc)
 
 pub marks_of-joined : (table : List Interval) (count from to : ℕ) → from < to → to ≤ count → IsTable count table → marks_of (joined (interval from to) table) count ≡ marks_with from to (marks_of table count)
 marks_of-joined table count from to ordered within table_is =

@@ -68,6 +68,11 @@ uncovered_first table count at h =
     let is : IsFirstUncovered table count at (first_uncovered at table) = is_first_uncovered at 0 count table h in
     is.uncovered
 
+pub first_uncovered-from_at : (table : List Interval) (count at : ℕ) → IsTable count table → at ≤ first_uncovered at table
+first_uncovered-from_at table count at h =
+    let is : IsFirstUncovered table count at (first_uncovered at table) = is_first_uncovered at 0 count table h in
+    is.from_at
+
 -- it is where the marked bytes from `at` on end
 pub first_unmarked_is : (table : List Interval) (count at : ℕ) → IsTable count table → at + count_leading true (drop at (marks_of table count)) ≡ first_uncovered at table
 first_unmarked_is table count at h =

@@ -63,6 +63,16 @@ abbrev pub count_before : ℕ → List Interval → ℕ
 count_before place [] = 0
 count_before place (one ∷ rest) = if nat_lt one.end place then suc (count_before place rest) else 0
 
+-- how many at the front begin at the offset or before it
+abbrev pub count_to : ℕ → List Interval → ℕ
+count_to place [] = 0
+count_to place (one ∷ rest) = if nat_le one.start place then suc (count_to place rest) else 0
+
+-- how many at the front end at the offset or before it
+abbrev pub count_ended : ℕ → List Interval → ℕ
+count_ended place [] = 0
+count_ended place (one ∷ rest) = if nat_le one.end place then suc (count_ended place rest) else 0
+
 -- ---- what the calls return
 
 -- the first offset from this one on that no interval has
@@ -78,6 +88,21 @@ next_start from (one ∷ rest) = if nat_lt from one.start then Some one.start el
 -- the end of the last interval
 abbrev pub last_end : List Interval → Option ℕ
 last_end table = option_map (λ one. one.end) (slice_get table (length table - 1))
+
+-- ---- places that count from a base, so that a release moves none
+
+-- intervals of such places, as offsets from the base
+abbrev pub lowered : ℕ → List Interval → List Interval
+lowered base table = map (λ one. interval (one.start - base) (one.end - base)) table
+
+-- the greatest base
+abbrev pub greatest_base : ℕ
+greatest_base = 2147483648
+
+-- each of them ends behind the base
+pub record IsBased (base : ℕ) (table : List Interval) : Type 0 where
+  pub behind : AllByRecursion (λ one. base < one.end) table
+  pub most : base ≤ greatest_base
 
 -- ---- the queue as it is kept
 

@@ -1,6 +1,6 @@
 //! The marked bytes of a queue, as a table of intervals.
-ghost use Rattle.std.specs.Prelude.{◌<◌, IfOk, vec_capacity, ◌≡◌, ◌≤◌, [], ◌∷◌, take, drop, length, nat_le, if◌then◌else◌};
-ghost use Rattle.tcp_sendq.specs.Marks.{interval, moved_down, union, joined, joined_front, count_before, first_uncovered, next_start, last_end, AreInOrder};
+ghost use Rattle.std.specs.Prelude.{◌<◌, ◌↔◌, IsTrue, IfOk, vec_capacity, ◌≡◌, ◌≤◌, [], ◌∷◌, ◌++◌, take, drop, length, nat_le, if◌then◌else◌};
+ghost use Rattle.tcp_sendq.specs.Marks.{interval, moved_down, joined, count_before, count_to, count_ended, first_uncovered, next_start, last_end, AreInOrder};
 
 use std::alloc::{AllocError, Allocator, Global};
 
@@ -11,18 +11,6 @@ struct Interval {
     start: u32,
     /// The offset after its last byte.
     end: u32,
-}
-
-impl Interval {
-    /// The run of both, which overlap or touch.
-    fn union(self, other: Interval) -> Interval
-        ensures { result ≡ union self other }
-    {
-        Interval {
-            start: self.start.min(other.start),
-            end: self.end.max(other.end),
-        }
-    }
 }
 
 /// The marked bytes of a queue.
@@ -62,9 +50,58 @@ impl<A: Allocator> Marks<A> {
         });
     }
 
+    /// Whether no byte is marked.
+    pub(crate) fn is_empty(&self) -> bool
+        ensures { IsTrue result ↔ (length self.now.table.items ≡ 0) }
+    {
+        self.table.is_empty()
+    }
+
+    /// Removes the runs that end at the offset `place` or before it. What follows them moves no further.
+    pub(crate) fn cut(&mut self, place: u32)
+        requires { AreInOrder self.old.table.items }
+        ensures items { self.new.table.items ≡ drop (count_ended place self.old.table.items) self.old.table.items }
+        ensures room { vec_capacity self.old.table ≤ vec_capacity self.new.table }
+    {
+        let ended = self.count_ended(place);
+        self.remove_range(0, ended);
+    }
+
+    /// Removes the runs from the index `from` on and before `to`. Those behind them move once.
+    fn remove_range(&mut self, from: usize, to: usize)
+        requires ordered { from ≤ to }
+        requires within { to ≤ length self.old.table.items }
+        ensures items { self.new.table.items ≡ take from self.old.table.items ++ drop to self.old.table.items }
+        ensures room { vec_capacity self.old.table ≤ vec_capacity self.new.table }
+    {
+        if from == to {
+            return;
+        }
+        // Mostly it is one, and `remove` moves whole blocks.
+        if to - from == 1 {
+            let _ = self.table.remove(from);
+            return;
+        }
+        let len = self.table.len() - (to - from);
+        self.table.copy_within(to.., from);
+        self.table.truncate(len);
+    }
+
+    /// How many runs end at the offset `place` or before it.
+    fn count_ended(&self, place: u32) -> usize
+        requires { AreInOrder self.now.table.items }
+        ensures value { result ≡ count_ended place self.now.table.items }
+        ensures within { result ≤ length self.now.table.items }
+    {
+        self.table
+            .as_slice()
+            .partition_point(|run| run.end <= place)
+    }
+
     /// Marks the bytes from the offset `from` on and before `to`, unless that makes more than `most` runs: then it returns
     /// false, and nothing changes.
     pub(crate) fn mark(&mut self, from: u32, to: u32, most: usize) -> bool
+        requires ordered { from < to }
         requires in_order { AreInOrder self.old.table.items }
         requires room { most ≤ vec_capacity self.old.table }
         requires few { length self.old.table.items ≤ most }
@@ -73,18 +110,51 @@ impl<A: Allocator> Marks<A> {
         ensures state { self.new.table.items ≡ (if result then joined (interval from to) self.old.table.items else self.old.table.items) }
     {
         let place = self.count_before(from);
-        let run = self.absorb(
-            place,
-            Interval {
-                start: from,
-                end: to,
-            },
-        );
+        let past = self.count_to(to);
+        if place < past {
+            self.join(from, to, place, past);
+            return true;
+        }
         if self.table.len() >= most {
             return false;
         }
+        let run = Interval {
+            start: from,
+            end: to,
+        };
         let _ = self.table.insert(place, run);
         true
+    }
+
+    /// Joins the bytes from the offset `from` on and before `to` with the runs from the index `place` on and before `past`,
+    /// those that they overlap or touch, into one run. Those behind move once.
+    fn join(&mut self, from: u32, to: u32, place: usize, past: usize)
+        requires ordered { from < to }
+        requires in_order { AreInOrder self.old.table.items }
+        requires first { place ≡ count_before from self.old.table.items }
+        requires behind { past ≡ count_to to self.old.table.items }
+        requires some { place < past }
+        requires within { past ≤ length self.old.table.items }
+        ensures items { self.new.table.items ≡ joined (interval from to) self.old.table.items }
+        ensures shorter { length self.new.table.items ≤ length self.old.table.items }
+        ensures room { vec_capacity self.old.table ≤ vec_capacity self.new.table }
+    {
+        let run = Interval {
+            start: from.min(self.table[place].start),
+            end: to.max(self.table[past - 1].end),
+        };
+        self.replace(place, past, run);
+    }
+
+    /// Puts `run` in the place of those from the index `place` on and before `past`.
+    fn replace(&mut self, place: usize, past: usize, run: Interval)
+        requires some { place < past }
+        requires within { past ≤ length self.old.table.items }
+        ensures items { self.new.table.items ≡ take place self.old.table.items ++ run ∷ drop past self.old.table.items }
+        ensures room { vec_capacity self.old.table ≤ vec_capacity self.new.table }
+    {
+        self.table[place] = run;
+        self.remove_range(place + 1, past);
     }
 
     /// How many runs end before the offset `from`.
@@ -96,20 +166,13 @@ impl<A: Allocator> Marks<A> {
         self.table.as_slice().partition_point(|run| run.end < from)
     }
 
-    /// Removes the runs from the index `place` on that `run` overlaps or touches, and returns it joined with them.
-    fn absorb(&mut self, place: usize, mut run: Interval) -> Interval
-        requires { place ≤ length self.old.table.items }
-        ensures front { take place self.new.table.items ≡ take place self.old.table.items }
-        ensures rest { joined_front run (drop place self.old.table.items) ≡ result ∷ drop place self.new.table.items }
-        ensures within { place ≤ length self.new.table.items }
-        ensures room { vec_capacity self.old.table ≤ vec_capacity self.new.table }
-        ensures shorter { length self.new.table.items ≤ length self.old.table.items }
-        ensures unchanged { length self.old.table.items ≤ length self.new.table.items → self.new.table.items ≡ self.old.table.items }
+    /// How many runs begin at or before the offset `to`.
+    fn count_to(&self, to: u32) -> usize
+        requires { AreInOrder self.now.table.items }
+        ensures value { result ≡ count_to to self.now.table.items }
+        ensures within { result ≤ length self.now.table.items }
     {
-        while place < self.table.len() && self.table[place].start <= run.end {
-            run = run.union(self.table.remove(place));
-        }
-        run
+        self.table.as_slice().partition_point(|run| run.start <= to)
     }
 
     /// The first offset from `at` on that isn't marked.

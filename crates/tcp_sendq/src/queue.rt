@@ -1,7 +1,7 @@
 //! The send queue (RFC 9293, 3.3.1).
 ghost use Rattle.std.specs.Prelude.{vec_capacity, ◌≡◌, ℕ, ◌+◌, ◌<◌, ◌≤◌, ◌++◌, ◌↔◌, ◌⊎◌, length, take, drop, IsTrue, IsFalse, IsNone, IfSome, IfOk};
 ghost use Rattle.tcp_sendq.specs.SendQueue.{Queue, IsQueue, IsMarked, empty_queue, room, count_taken, after_offer, after_release, marks_with, runs_begun, max_capacity, can_mark, after_mark, without_marks, empty_with_runs, greatest_runs, next_unmarked, IsNextUnmarked, AllMarkedFrom, last_mark_end, IsLastMarkEnd, NoneMarkedFrom};
-ghost use Rattle.tcp_sendq.specs.Marks.{queue_of, IsKept};
+ghost use Rattle.tcp_sendq.specs.Marks.{queue_of, lowered, IsKept, IsBased};
 
 use crate::error::QueueError;
 use crate::marks::Marks;
@@ -19,6 +19,9 @@ pub const MAX_RUNS: usize = 4_096;
 /// The greatest capacity of a queue, in bytes.
 pub const MAX_CAPACITY: usize = 1_048_576;
 
+/// The greatest base of the marks' places.
+const MAX_BASE: u32 = 2_147_483_648;
+
 /// The bytes that were accepted and not yet released, oldest first, of which some are marked: the peer has reported
 /// them as received (RFC 2018, 5). Offsets count from the oldest byte, which is at 0.
 #[derive(Debug, Drop)]
@@ -26,17 +29,19 @@ pub struct SendQueue<A: Allocator = Global> {
     /// A ring, whose capacity is the queue's: from 1 to [`MAX_CAPACITY`].
     bytes: HeapCircularBuffer<u8, A>,
     /// The greatest number of runs of marked bytes, from 1 to [`MAX_RUNS`].
-    most_runs: usize,
-    /// The runs of marked bytes, with room for all.
+    most_runs: u32,
+    /// The place of the oldest byte, at most [`MAX_BASE`]: those of the marks count on from it, so that a release moves none.
+    base: u32,
+    /// The runs of marked bytes by their places, with room for all.
     marks: Marks<A>,
 }
 
 impl<A: Allocator> Model for SendQueue<A> {
     ghost Value = { Queue };
 
-    ghost view = { λ q. queue_of q.most_runs q.bytes.capacity q.bytes.items q.marks.table.items };
+    ghost view = { λ q. queue_of q.most_runs q.bytes.capacity q.bytes.items (lowered q.base q.marks.table.items) };
 
-    ghost invariant = { λ q. IsKept q.most_runs q.bytes.capacity q.bytes.items q.marks.table.items × (q.most_runs ≤ vec_capacity q.marks.table) };
+    ghost invariant = { λ q. IsKept q.most_runs q.bytes.capacity q.bytes.items (lowered q.base q.marks.table.items) × (q.most_runs ≤ vec_capacity q.marks.table) × IsBased q.base q.marks.table.items };
 }
 
 impl SendQueue {
@@ -110,7 +115,8 @@ impl<A: Allocator> SendQueue<A> {
         };
         Ok(SendQueue {
             bytes,
-            most_runs: runs,
+            most_runs: runs as u32,
+            base: 0,
             marks,
         })
     }
@@ -166,7 +172,14 @@ impl<A: Allocator> SendQueue<A> {
     {
         let rest = self.bytes.len() - n;
         self.bytes.truncate_front(rest);
-        self.marks.release(n as u32);
+        let base = self.base + n as u32;
+        if base > MAX_BASE || self.marks.is_empty() {
+            self.marks.release(base);
+            self.base = 0;
+            return;
+        }
+        self.marks.cut(base);
+        self.base = base;
     }
 
     /// Fills `out` with the bytes from the offset `at` on.
@@ -201,7 +214,8 @@ impl<A: Allocator> SendQueue<A> {
         ensures places { IsTrue result → (place : ℕ) → IsMarked self.new place ↔ (IsMarked self.old place ⊎ ((from ≤ place) × (place < to))) }
         ensures sound { IsQueue self.new }
     {
-        self.marks.mark(from as u32, to as u32, self.most_runs)
+        let (start, end) = (self.base + from as u32, self.base + to as u32);
+        self.marks.mark(start, end, self.most_runs as usize)
     }
 
     /// Removes every mark (RFC 2018, 5).
@@ -210,6 +224,7 @@ impl<A: Allocator> SendQueue<A> {
         ensures sound { IsQueue self.new }
     {
         self.marks.clear();
+        self.base = 0;
     }
 
     /// The offset of the first unmarked byte from `at` on, and the end of its run of unmarked bytes; `None` where every
@@ -221,11 +236,16 @@ impl<A: Allocator> SendQueue<A> {
         ensures sound { IsQueue self.now }
     {
         let len = self.bytes.len();
-        let from = self.marks.first_unmarked(at);
+        if at >= len {
+            return None;
+        }
+        let base = self.base as usize;
+        let from = self.marks.first_unmarked(base + at) - base;
         if from >= len {
             return None;
         }
-        Some((from, self.marks.next_start(from).unwrap_or(len)))
+        let to = self.marks.next_start(base + from).unwrap_or(base + len) - base;
+        Some((from, to))
     }
 
     /// The offset after the last marked byte; `None` where no byte is marked.
@@ -235,6 +255,7 @@ impl<A: Allocator> SendQueue<A> {
         ensures none { IsNone result ↔ NoneMarkedFrom self.now 0 }
         ensures sound { IsQueue self.now }
     {
-        self.marks.last_end()
+        let end = self.marks.last_end()?;
+        Some(end.saturating_sub(self.base as usize))
     }
 }

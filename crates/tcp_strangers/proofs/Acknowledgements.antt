@@ -25,12 +25,13 @@ use Rattle.tcp_strangers.specs.Guesses.{with_seq}
 use Rattle.tcp_strangers.proofs.Counting.{count-ahead, count-all, count-same}
 
 -- ---- WHAT IS JUDGED of it: by its acknowledgement alone
-record IsJudged (s : State) (src dst : List ℕ) (v : Content) : Type 0 where
-  good : Judgement
-  is_good : (good ≡ Taken) ⊎ (good ≡ TakenShut)
-  is : judgement s src dst v ≡ (if acks_unsent s.sending (position_near s v.ack) then AcksUnsent else good)
+pub record IsJudged (s : State) (src dst : List ℕ) (v : Content) : Type 0 where
+  pub good : Judgement
+  pub is_good : (good ≡ Taken) ⊎ (good ≡ TakenShut)
+  pub inside : good ≡ Taken → is_acceptable_segment s v ≡ true
+  pub is : judgement s src dst v ≡ (if acks_unsent s.sending (position_near s v.ack) then AcksUnsent else good)
 
-judged : (s : State) (src dst : List ℕ) (v : Content) → IsOpen s → ComesToItsAck s src dst v → IsJudged s src dst v
+pub judged : (s : State) (src dst : List ℕ) (v : Content) → IsOpen s → ComesToItsAck s src dst v → IsJudged s src dst v
 unfolding judgement phase_judgement judgement_after_syn acceptable_judgement unacceptable_judgement ack_judgement
 judged s src dst v open_to h =
     let is = open_to.tests in
@@ -38,6 +39,7 @@ judged s src dst v open_to h =
       | inl inside ↦ record {
         good = Taken;
         is_good = inl refl;
+        inside = λ _. inside;
         is = rw (h.mine, is.closed, is.listening, is.syn_sent, inside, h.no_rst, h.no_syn, h.has_ack, open_to.opened) refl;
       }
       | inr outside ↦ elim h.place [
@@ -45,6 +47,7 @@ judged s src dst v open_to h =
         | inr shut ↦ record {
           good = TakenShut;
           is_good = inr refl;
+          inside = λ (e : TakenShut ≡ Taken). absurd (cc);
           is = rw (h.mine, is.closed, is.listening, is.syn_sent, outside, h.no_rst, h.no_syn, h.has_ack, open_to.opened, shut) refl;
         }
       ]
@@ -63,11 +66,11 @@ let_in-is s src dst v open_to h =
     ap lets_in j.is ∙ by-unsent (acks_unsent s.sending (position_near s v.ack)) j.good j.is_good
 
 -- the same segment with another number comes to it, too
-acks-so : (s : State) (src dst : List ℕ) (v : Content) (n : ℕ) → ComesToItsAck s src dst v → ComesToItsAck s src dst (with_ack v n)
+pub acks-so : (s : State) (src dst : List ℕ) (v : Content) (n : ℕ) → ComesToItsAck s src dst v → ComesToItsAck s src dst (with_ack v n)
 unfolding is_foreign
 acks-so s src dst v n h = record { mine = h.mine; no_rst = h.no_rst; no_syn = h.no_syn; has_ack = h.has_ack; place = h.place }
 
-shut-so : (s : State) (src dst : List ℕ) (v : Content) (n : ℕ) → ComesToItsAck s src dst v → window s.receiving.inbox ≡ 0
+pub shut-so : (s : State) (src dst : List ℕ) (v : Content) (n : ℕ) → ComesToItsAck s src dst v → window s.receiving.inbox ≡ 0
     → ComesToItsAck s src dst (with_seq v n)
 unfolding is_foreign
 shut-so s src dst v n h shut = record { mine = h.mine; no_rst = h.no_rst; no_syn = h.no_syn; has_ack = h.has_ack; place = inr shut }
@@ -125,10 +128,10 @@ flight-test far f fits most =
     ]
 
 -- as a test of the number
-turned : (n a by : ℕ) → a < 2 ^ 32 → ((n + (2 ^ 32 - a)) % 2 ^ 32 + by) % 2 ^ 32 ≡ (n + (2 ^ 32 - a + by) % 2 ^ 32) % 2 ^ 32
+pub turned : (n a by : ℕ) → a < 2 ^ 32 → ((n + (2 ^ 32 - a)) % 2 ^ 32 + by) % 2 ^ 32 ≡ (n + (2 ^ 32 - a + by) % 2 ^ 32) % 2 ^ 32
 turned n a by fits = omega arith
 
-abbrev una_number : State → ℕ
+abbrev pub una_number : State → ℕ
 una_number s = number s.config.isn.0 s.sending.snd_una
 
 -- ---- HALF OF ALL ACKNOWLEDGEMENTS let it in

@@ -1,4 +1,5 @@
 pub mod Counting
 pub mod Sequences
 pub mod Acknowledgements
+pub mod Guards
 pub mod Bursts

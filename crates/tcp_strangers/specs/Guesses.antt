@@ -1,6 +1,6 @@
 -- GUESSED NUMBERS (RFC 5961, 1.1): how many of the 2^32 sequence and acknowledgement numbers let a segment of a blind attacker
 -- in, or release text. It knows addresses and ports.
-use Rattle.std.specs.Prelude.{◌≡◌, ℕ, ◌+◌, ◌-◌, ◌<◌, ◌≤◌, ◌^◌, max, Bool, true, false, ◌||◌, nat_lt, List, [], ◌∷◌, ◌⊎◌, Result, Ok, Err}
+use Rattle.std.specs.Prelude.{◌≡◌, ℕ, ◌+◌, ◌-◌, ◌<◌, ◌≤◌, ◌^◌, max, Bool, true, false, ◌||◌, nat_lt, List, [], ◌∷◌, ◌⊎◌, Option, Some, Result, Ok, Err}
 use Rattle.std.specs.List.{AllByRecursion}
 use Rattle.tcp_wire.specs.Checksum.{AreBytes}
 use Rattle.tcp_wire.specs.Decoded.{decode_answer}
@@ -9,10 +9,11 @@ use Rattle.tcp_wire.specs.Wire.{Content}
 use Rattle.tcp_wire.specs.declared.fault.DecodeError.{DecodeError}
 use Rattle.tcp_reasm.specs.Reassembly.{window}
 use Rattle.tcp_conn.specs.Arrival.{after_judgement}
+use Rattle.tcp_conn.specs.Guard.{guarded}
 use Rattle.tcp_conn.specs.Judgement.{judgement, count_numbers, is_acceptable_segment, is_foreign}
 use Rattle.tcp_conn.specs.Phase.{is_closed, is_listening, is_syn_sent, is_syn_received}
 use Rattle.tcp_conn.specs.State.{State}
-use Rattle.tcp_replay.specs.Among.{Injection, after_injection, is_injection_let_in, is_let_in}
+use Rattle.tcp_replay.specs.Among.{Injection, after_injection, is_injection_let_in, is_let_in, lets_in}
 use Rattle.tcp_strangers.specs.Counts.{count_where}
 
 -- all numbers of 32 bits
@@ -100,6 +101,23 @@ abbrev pub AnyNumberAtAShutWindow : Type 0
 AnyNumberAtAShutWindow =
     (s : State) (src dst : List ℕ) (v : Content) → IsOpen s → ComesToItsAck s src dst v → window s.receiving.inbox ≡ 0 → is_let_in s src dst v ≡ true
     → count_guesses (λ n. is_let_in s src dst (with_seq v n)) ≡ 2 ^ 32
+
+-- ---- WITH A GUARD of this reach (RFC 5961, 5.2): what passes it is let in
+abbrev pub passes : ℕ → State → List ℕ → List ℕ → Content → Bool
+passes reach s src dst v = lets_in (guarded (Some reach) (judgement s src dst v) s v)
+
+-- few acknowledgements let a segment in that comes to its acknowledgement: the last ones, SND.UNA, and what is in flight
+abbrev pub FewAcksPass : Type 0
+FewAcksPass =
+    (reach : ℕ) (s : State) (src dst : List ℕ) (v : Content) → IsOpen s → ComesToItsAck s src dst v
+    → count_guesses (λ n. passes reach s src dst (with_ack v n)) ≤ reach + flight s + 1
+
+-- and at a shut window few sequence numbers do: the last ones before RCV.NXT, and those that the receive buffer may have had a
+-- place for, with a FIN behind them
+abbrev pub FewNumbersPassAtAShutWindow : Type 0
+FewNumbersPassAtAShutWindow =
+    (reach : ℕ) (s : State) (src dst : List ℕ) (v : Content) → IsOpen s → ComesToItsAck s src dst v → window s.receiving.inbox ≡ 0
+    → s.receiving.rcv_nxt < 2 ^ 32 → count_guesses (λ n. passes reach s src dst (with_seq v n)) ≤ reach + s.config.recv_capacity + 2
 
 -- ---- A BURST of injections, one after another at one end
 abbrev pub any_let_in : State → List Injection → Bool

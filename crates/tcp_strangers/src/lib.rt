@@ -4,6 +4,7 @@
 //! - [`few_numbers_let_in`], [`one_number_resets`] and [`one_number_answers`] count the numbers that let a segment in.
 //! - [`half_of_acks_let_in`], [`flight_is_released`] and [`any_number_at_a_shut_window`] count the acknowledgements that
 //!   do, and those that release text. **At a shut window no sequence number is needed.**
+//! - [`few_acks_pass`] and [`few_numbers_pass_at_a_shut_window`] count what a guard leaves of them.
 //! - [`bursts_rarely_get_in`] adds them up over any number of segments, one after another.
 //! - [`what_is_kept_out_changes_only_pending`]: what isn't let in changes nothing but what is pending.
 //!
@@ -14,7 +15,7 @@
 
 ghost use Rattle.tcp_replay.specs.Among.{WhatIsKeptOutChangesOnlyPending};
 ghost use Rattle.tcp_strangers.specs.Guesses.{AnyNumberAtAShutWindow, BurstsRarelyGetIn, FewNumbersLetIn, FlightIsReleased, HalfOfAcksLetIn};
-ghost use Rattle.tcp_strangers.specs.Guesses.{OneNumberAnswers, OneNumberResets};
+ghost use Rattle.tcp_strangers.specs.Guesses.{FewAcksPass, FewNumbersPassAtAShutWindow, OneNumberAnswers, OneNumberResets};
 
 /// Bytes that an end doesn't let in change nothing of it, but that an acknowledgement may be pending, or a reset wait.
 /// An end lets in what opens or ends a connection, and anything of which it takes text, FIN, acknowledgement, window or
@@ -60,6 +61,18 @@ pub fn flight_is_released()
 /// do. So with 2^20 bytes in flight one acknowledgement in 4,096 releases text, which the peer may never have had.
 pub fn any_number_at_a_shut_window()
     ensures { AnyNumberAtAShutWindow }
+{}
+
+/// With a guard at most `reach + flight + 1` of the 2^32 acknowledgement numbers let such a segment in, where more than
+/// half of all do without one (RFC 5961, 5.2): the last ones, SND.UNA, and what is in flight.
+pub fn few_acks_pass()
+    ensures { FewAcksPass }
+{}
+
+/// And at most `reach + receive capacity + 2` of the 2^32 sequence numbers do while the window is shut, where all do
+/// without one: the last ones, and those that the receive buffer may have had a place for, with a FIN behind them.
+pub fn few_numbers_pass_at_a_shut_window()
+    ensures { FewNumbersPassAtAShutWindow }
 {}
 
 /// Any number of segments of any kind, one after another, with any numbers, at one end from SYN-RECEIVED on whose window

@@ -43,7 +43,7 @@ own-decodes q p g own =
     decoded_encoded q.endpoint.config.addr.0 p.endpoint.config.addr.0 own.content own.valid
 
 -- its control bits stand where they are read
-flags-in : (q p : PartyState) (g : SentSegment) → (own : IsOwn q p g) → own.content.flags ≡ flags_in g.bytes
+pub flags-in : (q p : PartyState) (g : SentSegment) → (own : IsOwn q p g) → own.content.flags ≡ flags_in g.bytes
 flags-in q p g own =
     let src = q.endpoint.config.addr.0 in
     let dst = p.endpoint.config.addr.0 in
@@ -52,11 +52,11 @@ flags-in q p g own =
     wire.header.flags
 
 -- a segment whose lifetime isn't over
-record IsYoungBoth (life : ℕ) (s : State) (g : SentSegment) : Type 0 where
-  young : rcv_position s.receiving < g.position + life
-  acks_young : has ack (flags_in g.bytes) ≡ true → s.sending.snd_una < g.wanted + life
+pub record IsYoungBoth (life : ℕ) (s : State) (g : SentSegment) : Type 0 where
+  pub young : rcv_position s.receiving < g.position + life
+  pub acks_young : has ack (flags_in g.bytes) ≡ true → s.sending.snd_una < g.wanted + life
 
-young-both : (life : ℕ) (s : State) (g : SentSegment) → is_expired life s g ≡ false → has rst (flags_in g.bytes) ≡ false → IsYoungBoth life s g
+pub young-both : (life : ℕ) (s : State) (g : SentSegment) → is_expired life s g ≡ false → has rst (flags_in g.bytes) ≡ false → IsYoungBoth life s g
 young-both life s g e plain =
     let both = or_parts (is_late life s g) (acks_late life s g)
     (and-fails (not (has rst (flags_in g.bytes))) (is_late life s g || acks_late life s g) e (ap not plain)) in
@@ -117,7 +117,7 @@ xor-changes : (x value : ℕ) → value ≢ 0 → bit_xor x value ≢ x
 xor-changes x value some e =
     some (sym (xor_zero_l value) ∙ ap (λ z. bit_xor z value) (sym (xor_self x)) ∙ xor_assoc x x value ∙ ap (bit_xor x) e ∙ xor_self x)
 
-damage-found : (p q : PartyState) (life k place value : ℕ) → value < 256 → AreOwn q p → damage_refusal life q p k place value ≡ None
+pub damage-found : (p q : PartyState) (life k place value : ℕ) → value < 256 → AreOwn q p → damage_refusal life q p k place value ≡ None
     → decode_answer q.endpoint.config.addr.0 p.endpoint.config.addr.0 (bytes_with_damage (segment_at q k) place value) ≡ Err BadChecksum
 damage-found p q life k place value fits owns e =
     let src = q.endpoint.config.addr.0 in

@@ -28,7 +28,7 @@ use Rattle.tcp_replay.proofs.run.Worlds.{sound-kept, sound-new, sound-after, kep
 abbrev unchanged : (s : State) → ChangesOnlyPending s s
 unchanged s = record { ack = s.pending.ack; reset = s.pending.reset; same = refl }
 
-with_pending-judged : (j : Judgement) (s : State) (src : List ℕ) (v : Content) → lets_in j ≡ false → ChangesOnlyPending s (after_judgement j s src v)
+pub with_pending-judged : (j : Judgement) (s : State) (src : List ℕ) (v : Content) → lets_in j ≡ false → ChangesOnlyPending s (after_judgement j s src v)
 with_pending-judged Foreign s src v e = unchanged s
 with_pending-judged ResetIgnored s src v e = unchanged s
 with_pending-judged Stray s src v e = record { ack = s.pending.ack; reset = first_reset s.pending.reset (reset_of_stray src v); same = refl }
@@ -64,7 +64,7 @@ abbrev GoesTo : List ℕ → WaitingReset → Type 0
 GoesTo addr reset = reset.to.addr.0 ≡ addr
 
 module _ (p q : PartyState) (s : State) (src dst : List ℕ) (v : Content) (valid : IsValid v) (h : Kept p q s) where
-  adds_pending : IsAfterSyn s → Kept p q (with_ack_pending s)
+  pub adds_pending : IsAfterSyn s → Kept p q (with_ack_pending s)
   adds_pending after_syn = let has_pending = after_syn-pending s p.accepted p.closed after_syn h.here.alone in kept-with_pending p q s has_pending.0 has_pending.1 h
 
   waits : (reset : WaitingReset) → IsWritable reset → IfSome (first_reset s.pending.reset reset) (GoesTo q.endpoint.config.addr.0) → Kept p q (with_reset s reset)
@@ -73,7 +73,7 @@ module _ (p q : PartyState) (s : State) (src dst : List ℕ) (v : Content) (vali
       (record { peer = h.here.speaks.peer; reset = to }) refl refl h.here.between
 
   -- the end stays sound
-  kept-injected : lets_in (judgement s src dst v) ≡ false
+  pub kept-injected : lets_in (judgement s src dst v) ≡ false
       → IfSome (after_judgement (judgement s src dst v) s src v).pending.reset (GoesTo q.endpoint.config.addr.0)
       → Kept p q (after_judgement (judgement s src dst v) s src v)
   kept-injected =

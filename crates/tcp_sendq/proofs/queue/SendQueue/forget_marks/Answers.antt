@@ -7,7 +7,7 @@ use Rattle.tcp_sendq.proofs.queue.SendQueue.forget_marks.Goals as goal
 pub invariant_of-self : goal.invariant_of-self
 invariant_of-self g c =
     let table : c.clear.new.self.table.items ≡ [] = grind (arith, common_steps) in
-    (rw (table) (unmarked c.self.invariant.0).kept, omega (arith, c.clear.ensures.room, c.self.invariant.1))
+    (rw (table) (unmarked c.self.invariant.0).kept, omega (arith, c.clear.ensures.room, c.self.invariant.1), rw (table) (record { behind = tt; most = omega arith }))
 
 pub returns-clause-state : goal.returns-clause-state
 returns-clause-state g c =
