@@ -41,6 +41,11 @@ def with_port(packet, port):
     return packet[:20] + struct.pack(">H", port) + packet[22:]
 
 
+def from_address(packet, address):
+    """The packet from another address, its checksum as it was."""
+    return packet[:12] + octets(address) + packet[16:]
+
+
 def capture_of(packets, order="<", unit=1000, front=b"", link=101):
     """A capture in the pcap form (draft-ietf-opsawg-pcap, 4 and 5)."""
     magic = {1000: 0xA1B2C3D4, 1: 0xA1B23C4D}[unit]
@@ -84,6 +89,18 @@ WRONG_ACK = "   packet 6, 0.005000 s: an acknowledgement of 106, up to which not
 WRONG_SYN = "   packet 6, 0.005000 s: a SYN at 500, and the first at 99 (RFC 9293, 3.4)"
 CLOSED = ["came 105/300 FIN,ACK", "went 300/106 FIN,ACK", "came 106/301 ACK"]
 
+# The report of one acknowledgement that is too high, as JSON (RFC 8259).
+JSON = """\
+{"kind":"end","connection":1,"end":"10.0.0.1:1","peer":"10.0.0.2:2","verdict":"clean","findings":0,"all_rules":false,\
+"segments":3,"bytes":5,"wrong_checksums":0}
+{"kind":"finding","connection":1,"end":"10.0.0.2:2","peer":"10.0.0.1:1","packet":6,"time":1700000000.005000,\
+"rule":"AckBeyond","count":1,"relative":7,"text":"an acknowledgement of 106, up to which not all came (RFC 9293, 3.4)"}
+{"kind":"end","connection":1,"end":"10.0.0.2:2","peer":"10.0.0.1:1","verdict":"found","findings":1,"all_rules":true,\
+"segments":3,"bytes":0,"wrong_checksums":0}
+{"kind":"capture","packets":6,"connections":1,"is_cut":false,"others":0,"fragments":0,"cut_short":0,"strays":0,"ends":2,\
+"all_rules":1,"findings":1}
+"""
+
 # Of each its capture, the program's words, the report, and the status.
 CASES = {
     "microseconds": (capture_of(HAND), AT, CLEAN, 0),
@@ -97,6 +114,7 @@ CASES = {
     "a wrong acknowledgement": (
         capture_of([*HAND, *[packet_of("went 300/106 ACK")] * 2]), AT,
         f"packets 7, connections 1\n{connection(1, 1, 7, [peer(), own(words='findings 2', segments=4), WRONG_ACK])}{verdict(2, 2, 1, 1)}", 1),
+    "a report as JSON": (capture_of([*HAND, packet_of("went 300/106 ACK")]), [*AT, "--json"], JSON, 1),
     "a second SYN with another number": (
         capture_of([*HAND, packet_of("came 500 SYN")]), AT,
         f"packets 6, connections 1\n{connection(1, 1, 6, [peer(words='findings 1', segments=4), WRONG_SYN, own()])}{verdict(2, 1, 1, 1)}", 1),
@@ -118,9 +136,21 @@ CASES = {
         "packets 7, connections 1\n" + connection(1, 1, 7, [
             peer(words="findings 1", segments=5), WRONG_SYN.replace("packet 6, 0.005000", "packet 7, 0.006000"),
             "   note: wrong checksums: 1, the first in packet 6 (RFC 9293, 3.1)", own()]) + verdict(2, 1, 1, 1), 1),
-    "more SYNs than are compared with": (
+    "many SYNs": (
         capture_of([packet_of(row) for row in [*["came 99 SYN"] * 17, *OPENED[1:], "went 300/106 ACK"]]), AT,
-        "packets 20, connections 1\n" + connection(1, 1, 20, [peer(segments=18, text=0), own(FORM)]) + verdict(2, 0, 0, 0), 0),
+        "packets 20, connections 1\n" + connection(1, 1, 20, [
+            peer(segments=18, text=0), own(words="findings 1"),
+            "   packet 20, 0.019000 s: an acknowledgement of 106, up to which not all came (RFC 9293, 3.4) [relative number 7]"]) + verdict(2, 1, 1, 1), 1),
+    "an acknowledgement before the initial number": (
+        capture_of([*HAND, packet_of("went 300/90 ACK")]), AT,
+        "packets 6, connections 1\n" + connection(1, 1, 6, [
+            peer(), own(words="findings 1", segments=3),
+            "   packet 6, 0.005000 s: an acknowledgement of 90, and one of 105 before it (RFC 9293, 3.10.7.4) [relative number -9]"]) + verdict(2, 1, 1, 1), 1),
+    "text before the initial number": (
+        capture_of([*HAND, packet_of("went 290/105 ACK text=XY")]), AT,
+        "packets 6, connections 1\n" + connection(1, 1, 6, [
+            peer(), own(words="findings 1", segments=3, text=2),
+            "   packet 6, 0.005000 s: text or FIN before the first byte of the stream, at 290 (RFC 9293, 3.4) [relative number -9]"]) + verdict(2, 1, 1, 1), 1),
     "a damaged port": (
         capture_of([*HAND, with_port(HAND[3], 9)]), AT,
         "packets 6, connections 1\nleft out: segments of no connection with a wrong checksum: 1\n"
@@ -132,6 +162,9 @@ CASES = {
     "a fragment": (
         capture_of([*HAND, packet_of("came 105/300 ACK text=X", 0x2000)]), AT,
         "packets 6, connections 1\nleft out: fragments: 1\n" + connection(1, 1, 5, [peer(), own(FORM)]) + verdict(2, 0, 0, 0, NOT_WHOLE), 0),
+    "a fragment between others": (
+        capture_of([*HAND, from_address(packet_of("came 105/300 ACK text=X", 0x2000), "10.0.0.9")]), AT,
+        "packets 6, connections 1\nleft out: fragments: 1\n" + connection(1, 1, 5, [peer(), own()]) + verdict(2, 0, 0, 1), 0),
     "a segment that is cut short": (
         capture_of([*HAND, packet_of("came 105/300 ACK text=XYZ")[:-1]]), AT,
         "packets 6, connections 1\nleft out: segments that are cut short: 1\n"

@@ -4,12 +4,18 @@
     python3 checks/judge/long.py --held SEGMENTS >LOG
     python3 checks/judge/long.py --older SEGMENTS >LOG
     python3 checks/judge/long.py --batched SEGMENTS >LOG
+    python3 checks/judge/long.py --accused SEGMENTS >LOG
+    python3 checks/judge/long.py --syns SEGMENTS >LOG
+    python3 checks/judge/long.py --early SEGMENTS >LOG
 
 It is what docs/JUDGE.md measures. The end that is judged opens, and sends two texts before each acknowledgement. With --held it receives:
 the first text is lost, so many of 1,460 bytes come behind it, each is answered by a block of all that came, and then the first comes.
 With --older and --batched the peer is hostile and the end faulty: so many segments of one byte come, each before the last one with a gap,
 and the end acknowledges one number less than before, with an option of SYNs: behind each with --older, and with --batched half as often
-behind all of them. growth.py counts what the three kinds cost.
+behind all of them. With --accused so many segments of one byte come, each right before the last one, and half as often the end
+acknowledges what didn't come, another number each time. With --syns so many SYNs come instead, each with a number of its own. With --early
+so many segments of one byte come in any order behind a lost one, before the end acknowledges anything, at numbers of 2^31 and more; then it
+acknowledges all of them, again and again. growth.py counts what these kinds cost.
 """
 
 import argparse
@@ -75,7 +81,36 @@ def batched(count):
     return older(count, is_batched=True)
 
 
-KINDS = {"held": held, "older": older, "batched": batched}
+def accused(count):
+    yield line("went", 0, 0, SYN)
+    yield line("came", 0, 1, SYN | ACK)
+    yield line("went", 1, 1, ACK)
+    for number in range(count):
+        yield line("came", count - number, 1, ACK, b"x")
+    for number in range(count // 2):
+        yield line("went", 1, 2 + count + 2 * number, ACK)
+
+
+def syns(count):
+    yield line("went", 0, 0, SYN)
+    for number in range(count):
+        yield line("came", 2 * number, 0, SYN)
+    for number in range(count // 2):
+        yield line("went", 1, 2 * count + 2 * number, ACK)
+
+
+def early(count):
+    first = 3 * 2**30
+    yield line("went", 0, 0, SYN)
+    yield line("came", first, 1, SYN | ACK)
+    for place in random.Random(1).sample(range(count), count):
+        yield line("came", first + 2 + place, 1, ACK, b"x")
+    yield line("went", 1, first + 1, ACK)
+    for _ in range(count // 2):
+        yield line("went", 1, first + 2 + count, ACK)
+
+
+KINDS = {"held": held, "older": older, "batched": batched, "accused": accused, "syns": syns, "early": early}
 
 
 def main():

@@ -4,12 +4,12 @@ use Rattle.std.specs.Prelude.{Bool, true, not, filter, if◌then◌else◌}
 use Rattle.std.specs.List.{AllByRecursion, AllWithin}
 use Rattle.std.proofs.lemmas.List.{take-append-le}
 use Rattle.std.proofs.lemmas.Bool.{cases_lt, ltb-true, lt-ltb}
-use Rattle.std.proofs.lemmas.List.Elements.{All-get_or, All-weaker, recursion_from_All, filter_passes}
+use Rattle.std.proofs.lemmas.List.Elements.{All-get_or, All-weaker, All-nil, All-append, All-cons, recursion_from_All, filter_passes}
 use Rattle.tcp_numbers.specs.declared.seq.Seq.{Seq}
 use Rattle.tcp_wire.specs.Position.{number, distance}
-use Rattle.tcp_judge.specs.Heard.{covers, all_came, is_passed, without_passed}
+use Rattle.tcp_judge.specs.Heard.{covers, has_come, is_passed, without_passed}
 use Rattle.tcp_judge.specs.Run.{IsRun}
-use Rattle.tcp_judge.proofs.Numbers.{all-came, come-more, come-at, still-come}
+use Rattle.tcp_judge.proofs.Numbers.{come-more, come-at, still-come}
 
 -- a number behind another one, by the distances between
 distance-sum : (a b n : ℕ) → b < 2 ^ 32 → distance a b + distance b n < 2 ^ 32 → distance a n ≡ distance a b + distance b n
@@ -80,36 +80,43 @@ without-twice acked_number xs =
     let p : Seq × ℕ → Bool = λ span. not (is_passed acked_number span) in
     filter-all p (filter p xs) (recursion_from_All (λ x. p x ≡ true) (filter p xs) (filter_passes p xs))
 
--- WHAT IS KEPT: none of the first spans is passed, and the runs came
-abbrev pub IsKept : ℕ → ℕ → List (Seq × ℕ) → List (Seq × ℕ) → Type 0
-IsKept acked_number clean spans runs =
+-- WHAT IS KEPT: none of the first spans is passed, and the runs came, those ahead of the acknowledgement and those behind it
+abbrev pub IsKept : ℕ → ℕ → List (Seq × ℕ) → List (Seq × ℕ) → List (Seq × ℕ) → Type 0
+IsKept acked_number clean spans runs older =
     (clean ≤ length spans) × (without_passed acked_number (take clean spans) ≡ take clean spans) × All (IsRun acked_number spans) runs
+    × All (IsRun (number acked_number (2 ^ 31)) spans) older
 
-pub kept-more : (acked_number clean : ℕ) (spans spans' runs : List (Seq × ℕ)) (span : Seq × ℕ) → spans' ≡ spans ++ span ∷ []
-    → IsKept acked_number clean spans runs → IsKept acked_number clean spans' runs
-kept-more acked_number clean spans spans' runs span e h =
+pub kept-more : (acked_number clean : ℕ) (spans spans' runs older : List (Seq × ℕ)) (span : Seq × ℕ) → spans' ≡ spans ++ span ∷ []
+    → IsKept acked_number clean spans runs older → IsKept acked_number clean spans' runs older
+kept-more acked_number clean spans spans' runs older span e h =
     let front : take clean (spans ++ span ∷ []) ≡ take clean spans = take-append-le clean spans (span ∷ []) h.0 in
-    subst (λ xs. IsKept acked_number clean xs runs) (sym e) (
+    subst (λ xs. IsKept acked_number clean xs runs older) (sym e) (
       omega (arith, h.0, length-append spans (span ∷ [])),
       ap (without_passed acked_number) front ∙ h.1 ∙ sym front,
       runs-more acked_number spans (span ∷ []) runs h.2,
+      runs-more (number acked_number (2 ^ 31)) spans (span ∷ []) older h.3,
     )
 
-pub kept-left : (acked_number n : ℕ) (spans spans' runs : List (Seq × ℕ)) → acked_number < 2 ^ 32 → spans' ≡ without_passed acked_number spans
-    → n ≡ length spans' → All (IsRun acked_number spans) runs → IsKept acked_number n spans' runs
-kept-left acked_number n spans spans' runs small e long h =
+pub kept-left : (acked_number n : ℕ) (spans spans' runs older : List (Seq × ℕ)) → acked_number < 2 ^ 32 → spans' ≡ without_passed acked_number spans
+    → n ≡ length spans' → older ≡ [] → All (IsRun acked_number spans) runs → IsKept acked_number n spans' runs older
+kept-left acked_number n spans spans' runs older small e long none h =
     let all : take n spans' ≡ spans' = take_all n spans' (omega (arith, long)) in (
       omega (arith, long),
       ap (without_passed acked_number) all ∙ ap (without_passed acked_number) e ∙ without-twice acked_number spans ∙ sym e ∙ sym all,
       subst (λ xs. All (IsRun acked_number xs) runs) (sym e) (runs-kept acked_number spans runs small h),
+      subst (λ xs. All (IsRun (number acked_number (2 ^ 31)) spans') xs) (sym none) (All-nil (IsRun (number acked_number (2 ^ 31)) spans')),
     )
 
--- numbers that one of the runs has
-pub run-came : (last : ℕ) (spans runs : List (Seq × ℕ)) (i from count : ℕ) (run : Seq × ℕ) → All (IsRun last spans) runs → i < length runs
-    → run ≡ get_or runs i run → ((j : ℕ) → j < count → covers (number from j) run ≡ true) → all_came spans from count ≡ true
-run-came last spans runs i from count run h inside is came =
+-- a number that one of the runs has
+pub run-came : (last : ℕ) (spans runs : List (Seq × ℕ)) (i n : ℕ) (run : Seq × ℕ) → All (IsRun last spans) runs → i < length runs
+    → run ≡ get_or runs i run → covers n run ≡ true → has_come spans n ≡ true
+run-came last spans runs i n run h inside is covered =
     let it = subst (IsRun last spans) (sym is) (All-get_or (IsRun last spans) runs i run inside h) in
-    all-came spans from count (λ j less. it.came (number from j) (came j less))
+    it.came n covered
+
+-- one more behind all
+pub all-more : (P : Seq × ℕ → Type 0) (xs : List (Seq × ℕ)) (x : Seq × ℕ) → All P xs → P x → All P (xs ++ x ∷ [])
+all-more P xs x all h = All-append P xs (x ∷ []) all (All-cons P x [] h (All-nil P))
 
 -- WRITES at a place, by index
 pub behind-set : (P : Seq × ℕ → Type 0) (xs : List (Seq × ℕ)) (at i n : ℕ) (v : Seq × ℕ) → at ≤ i → AllWithin P xs i n → AllWithin P (set xs at v) (i + 1) n

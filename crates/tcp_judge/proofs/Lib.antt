@@ -1,5 +1,6 @@
 pub mod Places
 pub mod Numbers
+pub mod Orders
 pub mod Offers
 pub mod Joining
 pub mod Finishes

@@ -1,12 +1,13 @@
 -- NUMBERS THAT CAME, so many from one on.
 use Rattle.std.proofs.Common.{◌≡◌, ℕ, zero, suc, ◌+◌, ◌<◌, ◌≤◌, List, [], ◌∷◌, ◌++◌, refl, sym, ◌-◌, ◌∙◌, ap, subst, arith, ⊎_elim, inl, inr}
 use Rattle.std.specs.Prelude.{◌⊎◌, Bool, true, false, ◌&&◌, ◌||◌}
-use Rattle.std.proofs.Common.{◌^◌, length, take, drop, get_or}
+use Rattle.std.proofs.Common.{◌^◌, ◌%◌, length, take, drop, get_or}
 use Rattle.std.specs.Prelude.{nat_le, not, if◌then◌else◌}
-use Rattle.std.proofs.lemmas.Bool.{and_from, cases_lt, false≢true, and_parts, not-false, or_right, ltb-true, leb-true, le-ltb, lt-ltb}
+use Rattle.std.proofs.lemmas.Bool.{and_from, cases_lt, false≢true, and_parts, not-false, or_right, ltb-true, leb-true, le-ltb, lt-ltb, lt-leb, le-leb}
 use Rattle.tcp_numbers.specs.declared.seq.Seq.{Seq}
 use Rattle.tcp_wire.specs.Position.{number, distance}
 use Rattle.tcp_replay.proofs.Lists.{by_test}
+use Rattle.tcp_judge.specs.Run.{number_before, any_within}
 use Rattle.tcp_judge.specs.Heard.{covers, has_come, all_came, goes_on, begins, is_from, is_passed, without_passed}
 
 not-both : (a b : Bool) → (a ≡ false) ⊎ (b ≡ false) → a && b ≡ false
@@ -36,6 +37,55 @@ one-missing spans from (suc n) j less h =
     let same : j ≡ n = omega arith in
     not-both (has_come spans (number from n)) (all_came spans from n) (inl (subst (λ (i : ℕ). has_come spans (number from i) ≡ false) same h)))
     (cases_lt j n)
+
+-- THE NUMBERS RIGHT BEFORE one, counted back from it: where so many came, each number that is no further behind goes on to it,
+back-number : (from n i : ℕ) → from < 2 ^ 32 → n < 2 ^ 32 → i < distance from n → number from i ≡ number_before n (distance from n - 1 - i + 1)
+back-number from n i first small inside = omega (arith, first, small, inside)
+
+pub back-came : (spans : List (Seq × ℕ)) (from n count : ℕ) → from < 2 ^ 32 → n < 2 ^ 32 → distance from n ≤ count
+    → ((j : ℕ) → j < count → has_come spans (number_before n (j + 1)) ≡ true) → goes_on spans from n ≡ true
+back-came spans from n count first small order came =
+    all-came spans from (distance from n)
+    (λ i less. subst (λ (k : ℕ). has_come spans k ≡ true) (sym (back-number from n i first small less))
+    (came (distance from n - 1 - i) (omega (arith, order, less))))
+
+-- and where the next one didn't, none that is further behind does
+missing-number : (from n count : ℕ) → from < 2 ^ 32 → n < 2 ^ 32 → count < distance from n
+    → number_before n (count + 1) ≡ number from (distance from n - 1 - count)
+missing-number from n count first small order = omega (arith, first, small, order)
+
+pub back-missing : (spans : List (Seq × ℕ)) (from n count : ℕ) → from < 2 ^ 32 → n < 2 ^ 32 → count < distance from n
+    → has_come spans (number_before n (count + 1)) ≡ false → goes_on spans from n ≡ false
+back-missing spans from n count first small order missing =
+    one-missing spans from (distance from n) (distance from n - 1 - count) (omega (arith, order))
+    (subst (λ (k : ℕ). has_come spans k ≡ false) (missing-number from n count first small order) missing)
+
+-- so each that is asked goes on where it is no further behind than what came without a gap
+pub goes_on-counted : (spans : List (Seq × ℕ)) (from n count : ℕ) → from < 2 ^ 32 → n < 2 ^ 32
+    → ((j : ℕ) → j < count → has_come spans (number_before n (j + 1)) ≡ true) → has_come spans (number_before n (count + 1)) ≡ false
+    → goes_on spans from n ≡ nat_le (distance from n) count
+goes_on-counted spans from n count first small came missing =
+    ⊎_elim
+    (λ (behind : count < distance from n). back-missing spans from n count first small behind missing ∙ sym (lt-leb (distance from n) count behind))
+    (λ (near : distance from n ≤ count). back-came spans from n count first small near came ∙ sym (le-leb (distance from n) count near))
+    (cases_lt count (distance from n))
+
+pub goes_on-all : (spans : List (Seq × ℕ)) (from n count : ℕ) → from < 2 ^ 32 → n < 2 ^ 32 → distance from n ≤ count
+    → ((j : ℕ) → j < count → has_come spans (number_before n (j + 1)) ≡ true) → goes_on spans from n ≡ nat_le (distance from n) count
+goes_on-all spans from n count first small near came =
+    back-came spans from n count first small near came ∙ sym (le-leb (distance from n) count near)
+
+pub number_before-next : (n count : ℕ) → n < 2 ^ 32 → count < 2 ^ 32 - 1 → (n + (2 ^ 32 - 1 - count)) % 2 ^ 32 ≡ number_before n (count + 1)
+number_before-next n count small less = omega (arith, small, less)
+
+before-before : (n count j : ℕ) → n < 2 ^ 32 → count < 2 ^ 32 - 1 → count ≤ j → j < 2 ^ 32 - 1
+    → number_before (number_before n (count + 1)) (j - count) ≡ number_before n (j + 1)
+before-before n count j small less order short = omega (arith, small, less, order, short)
+
+pub number_before-sum : (n count j wanted : ℕ) → n < 2 ^ 32 → count < 2 ^ 32 - 1 → count ≤ j → j < 2 ^ 32 - 1 → wanted ≡ number_before n (count + 1)
+    → number_before wanted (j - count) ≡ number_before n (j + 1)
+number_before-sum n count j wanted small less order short next =
+    ap (λ w. number_before w (j - count)) next ∙ before-before n count j small less order short
 
 -- what came, came still when more did
 or-more : (a b b' : Bool) → (b ≡ true → b' ≡ true) → a || b ≡ true → a || b' ≡ true
@@ -70,12 +120,12 @@ come-neither spans zero n e f = e
 come-neither [] (suc k) n e f = e
 come-neither (span ∷ spans) (suc k) n e f = or-neither (covers n span) (has_come (take k spans) n) (has_come spans n) f (come-neither spans k n e)
 
--- FROM A NUMBER of a span on each up to its end came
-pub covers-on : (span : Seq × ℕ) (n j : ℕ) → span.1 < 2 ^ 32 → span.0.0 < 2 ^ 32 → n < 2 ^ 32 → j < span.1 - distance span.0.0 n
-    → covers (number n j) span ≡ true
-covers-on span n j size first small inside =
-    let on : distance span.0.0 (number n j) ≡ distance span.0.0 n + j = omega (arith, size, first, small, inside) in
-    lt-ltb (distance span.0.0 (number n j)) span.1 (omega (arith, on, inside))
+-- BACK FROM A NUMBER of a span each down to its first one came
+pub covers-before : (span : Seq × ℕ) (n j : ℕ) → span.0.0 < 2 ^ 32 → n < 2 ^ 32 → j ≤ distance span.0.0 n → distance span.0.0 n < span.1
+    → covers (number_before n j) span ≡ true
+covers-before span n j first small order inside =
+    let back : distance span.0.0 (number_before n j) ≡ distance span.0.0 n - j = omega (arith, first, small, order) in
+    lt-ltb (distance span.0.0 (number_before n j)) span.1 (omega (arith, back, inside))
 
 pub come-at : (spans : List (Seq × ℕ)) (i n : ℕ) (d : Seq × ℕ) → i < length spans → covers n (get_or spans i d) ≡ true → has_come spans n ≡ true
 come-at [] i n d inside e = absurd (omega arith)
@@ -127,6 +177,15 @@ begins-at spans (first ∷ syns) irs acked_number (inl same) e =
     ap (λ b. b || begins spans syns acked_number) (ap (λ n. goes_on spans (number n 1) acked_number) same ∙ e)
 begins-at spans (first ∷ syns) irs acked_number (inr h) e =
     or_right (goes_on spans (number first.0 1) acked_number) (begins spans syns acked_number) (begins-at spans syns irs acked_number h e)
+
+-- where each number goes on that is no further before it than so many, an acknowledgement begins where a SYN is none further
+pub begins-within : (spans : List (Seq × ℕ)) (syns : List Seq) (acked_number count : ℕ)
+    → ((from : ℕ) → from < 2 ^ 32 → goes_on spans from acked_number ≡ nat_le (distance from acked_number) count)
+    → begins spans syns acked_number ≡ any_within syns acked_number count
+begins-within spans [] acked_number count h = refl
+begins-within spans (first ∷ syns) acked_number count h =
+    ap (λ b. b || begins spans syns acked_number) (h (number first.0 1) (omega arith))
+    ∙ ap (λ b. nat_le (distance (number first.0 1) acked_number) count || b) (begins-within spans syns acked_number count h)
 
 -- the numbers of the positions from one up to another
 pub positions-came : (spans : List (Seq × ℕ)) (irs from to : ℕ) → from ≤ to

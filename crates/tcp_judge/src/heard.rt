@@ -1,11 +1,13 @@
 //! The rule of acknowledgements: what came, as numbers.
-ghost use Rattle.std.specs.Prelude.{◌≡◌, ◌<◌, ◌≤◌, ◌&&◌, ◌++◌, OnOk, OnErr, not, length};
+ghost use Rattle.std.specs.Prelude.{◌≡◌, ◌<◌, ◌≤◌, ◌&&◌, ◌++◌, OnOk, OnErr, IfSome, not, nat_le, length};
 ghost use Rattle.std.specs.Vec.{vec_len, vec_capacity};
 ghost use Rattle.tcp_wire.specs.Flags.{syn, ack, has};
 ghost use Rattle.tcp_wire.specs.View.{raw_content, option_content};
 ghost use Rattle.tcp_wire.specs.Wire.{max_text_len};
 ghost use Rattle.tcp_conn.specs.Judgement.{count_numbers};
-ghost use Rattle.tcp_judge.specs.Heard.{is_scale, any_scale, is_permission, any_permission, begins, is_of_came, carries_ack, is_further, spans_of, may_open, syns_of};
+ghost use Rattle.tcp_wire.specs.Position.{distance};
+ghost use Rattle.tcp_judge.specs.Heard.{is_scale, any_scale, is_permission, any_permission, goes_on, begins, is_of_came, carries_ack, is_further, spans_of, may_open, syns_of};
+ghost use Rattle.tcp_judge.specs.Run.{any_within};
 
 use crate::lookup::is_from;
 use crate::spans::Spans;
@@ -100,59 +102,58 @@ pub(crate) fn oversteps(scaling: bool, segment: &RawSegment<'_>) -> bool
     is_answer && (any_scale(segment.options_left()) && !scaling)
 }
 
-fn begins<A: Allocator + Copy>(spans: &Spans<A>, syns: &[Seq], acked_number: Seq) -> bool
-    ensures { result ≡ begins spans.now syns.now acked_number.0 }
+/// Whether one of the SYNs is no further before an acknowledgement than so many numbers.
+fn any_within(syns: &[Seq], acked_number: Seq, count: u32) -> bool
+    ensures { result ≡ any_within syns.now acked_number.0 count }
 {
     for first in syns {
-        if spans.goes_on(first.plus(1), acked_number) {
+        if acked_number.minus(first.plus(1)) <= count {
             return true;
         }
     }
     false
 }
 
-/// Whether an acknowledgement continues over what came from the last one that was sent, or begins after a SYN that came.
-pub(crate) fn is_of_came<A: Allocator + Copy>(
+/// How many numbers right before an acknowledgement came without a gap, as far back as it is asked: to the furthest one
+/// before it, and where SYNs wait as far as they go.
+fn count_back<A: Allocator + Copy>(
     last: Option<Seq>,
     spans: &Spans<A>,
     syns: &[Seq],
     acked_number: Seq,
-) -> bool
-    ensures { result ≡ is_of_came last spans.now syns.now acked_number.0 }
+) -> u32
+    ensures last { IfSome last (λ first. goes_on spans.now first.0 acked_number.0 ≡ nat_le (distance first.0 acked_number.0) result) }
+    ensures syns { begins spans.now syns.now acked_number.0 ≡ any_within syns.now acked_number.0 result }
 {
+    if !syns.is_empty() {
+        return spans.count_before(acked_number, u32::MAX);
+    }
     match last {
-        Some(last) => spans.goes_on(last, acked_number) || begins(spans, syns, acked_number),
-        None => begins(spans, syns, acked_number),
+        Some(last) => spans.count_before(acked_number, acked_number.minus(last)),
+        None => 0,
     }
 }
 
-/// Whether an acknowledgement is not less than the furthest one before it, or begins after a SYN that came.
-fn is_further<A: Allocator + Copy>(
+/// Whether an acknowledgement continues over what came from the last one that was sent, or begins after a SYN that came;
+/// and whether it isn't less than the furthest one before it, or begins after a SYN.
+pub(crate) fn standing<A: Allocator + Copy>(
     last: Option<Seq>,
     spans: &Spans<A>,
     syns: &[Seq],
     acked_number: Seq,
-) -> bool
-    ensures { result ≡ is_further last spans.now syns.now acked_number.0 }
+) -> (bool, bool)
+    ensures of_came { result.0 ≡ is_of_came last spans.now syns.now acked_number.0 }
+    ensures further { result.1 ≡ is_further last spans.now syns.now acked_number.0 }
 {
+    let count = count_back(last, spans, syns, acked_number);
+    let begins = any_within(syns, acked_number, count);
     match last {
-        Some(last) => is_from(last, acked_number) || begins(spans, syns, acked_number),
-        None => true,
+        Some(last) => {
+            let goes_on = acked_number.minus(last) <= count;
+            (goes_on || begins, is_from(last, acked_number) || begins)
+        }
+        None => (begins, true),
     }
-}
-
-/// Whether a segment has such an acknowledgement, and of what came.
-pub(crate) fn goes_further<A: Allocator + Copy>(
-    last: Option<Seq>,
-    spans: &Spans<A>,
-    syns: &[Seq],
-    segment: &RawSegment<'_>,
-) -> bool
-    ensures { result ≡ (carries_ack (raw_content segment.now) && (is_further last spans.now syns.now (raw_content segment.now).ack && is_of_came last spans.now syns.now (raw_content segment.now).ack)) }
-{
-    let number = segment.header.ack;
-    carries_ack(segment)
-        && (is_further(last, spans, syns, number) && is_of_came(last, spans, syns, number))
 }
 
 /// Adds a segment that came, where it takes a number.

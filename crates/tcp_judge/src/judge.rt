@@ -1,11 +1,12 @@
 //! What is known of an end's own direction, and the rules of positions.
-ghost use Rattle.std.specs.Prelude.{◌≡◌, ◌+◌, ◌<◌, ◌≤◌, ◌^◌, IfOk, OnOk, OnErr, length};
+ghost use Rattle.std.specs.Prelude.{◌≡◌, ◌+◌, ◌<◌, ◌≤◌, ◌^◌, true, false, IfOk, OnOk, OnErr, is_none, length};
+ghost use Rattle.std.specs.Option.{option_or};
 ghost use Rattle.tcp_wire.specs.Decoded.{decode_answer};
 ghost use Rattle.tcp_wire.specs.View.{raw_content};
 ghost use Rattle.tcp_wire.specs.Wire.{max_text_len};
 ghost use Rattle.tcp_judge.specs.Known.{nothing_known, is_syn, initial_after, place_of, is_keep_alive, known_after, count_acked, acks_syn, known_with};
-ghost use Rattle.tcp_judge.specs.Heard.{acks_beyond, goes_further, acked_number_after, after_went};
-ghost use Rattle.tcp_judge.specs.Rules.{initial_by, early_by, ack_rule, fin_by, fin_finding, text_finding, position_finding, report_finding, finding_of};
+ghost use Rattle.tcp_judge.specs.Heard.{acks_beyond, is_further, goes_further, acked_number_after, after_went};
+ghost use Rattle.tcp_judge.specs.Rules.{initial_by, early_by, ack_rule, fin_by, fin_finding, form_finding, text_finding, position_finding, report_finding, heard_finding};
 ghost use Rattle.tcp_judge.specs.Judgement.{finding_read, known_read, known_came, finding_at, known_past};
 ghost use Rattle.tcp_judge.specs.Log.{passage_content};
 ghost use Rattle.tcp_judge.specs.Taken.{taken_of};
@@ -13,8 +14,7 @@ ghost use Rattle.tcp_judge.specs.Taken.{taken_of};
 use crate::finding::Finding;
 use crate::form::form_finding;
 use crate::heard::{
-    carries_ack, goes_further, is_of_came, keep_span, keep_syn, offers_sack, offers_scale,
-    oversteps,
+    carries_ack, keep_span, keep_syn, offers_sack, offers_scale, oversteps, standing,
 };
 use crate::lookup::is_from;
 use crate::passage::Passage;
@@ -246,45 +246,62 @@ impl<A: Allocator + Copy> Judge<A> {
         self.text_finding(place, segment)
     }
 
-    /// The first rule that the segment breaks.
-    fn finding(&self, place: u64, segment: &RawSegment<'_>) -> Option<Finding>
-        requires place { place ≡ place_of self.now (raw_content segment.now) }
-        requires most { place < 2 ^ 63 + 2 ^ 32 }
+    /// The first rule of form or positions that the segment breaks.
+    fn early_finding(&self, place: u64, segment: &RawSegment<'_>) -> Option<Finding>
+        requires place { place < 2 ^ 63 + 2 ^ 32 }
         requires short { length segment.now.text.now ≤ max_text_len }
-        ensures { result ≡ finding_of self.now (raw_content segment.now) }
+        ensures { result ≡ option_or (form_finding (raw_content segment.now)) (position_finding self.now place (raw_content segment.now)) }
     {
         if let Some(finding) = form_finding(segment) {
             return Some(finding);
         }
-        if let Some(finding) = self.position_finding(place, segment) {
-            return Some(finding);
-        }
-        if self.acks_beyond(segment) {
+        self.position_finding(place, segment)
+    }
+
+    /// The first rule that the segment breaks against what came.
+    fn heard_finding(
+        &self,
+        is_beyond: bool,
+        is_further: bool,
+        segment: &RawSegment<'_>,
+    ) -> Option<Finding>
+        requires beyond { is_beyond ≡ acks_beyond self.now.heard (raw_content segment.now) }
+        requires further { is_further ≡ goes_further self.now.heard (raw_content segment.now) }
+        ensures { result ≡ heard_finding self.now.heard (raw_content segment.now) }
+    {
+        if is_beyond {
             return Some(ack_rule(self.acked_number, segment.header.ack));
         }
         if oversteps(self.scaling, segment) {
             return Some(Finding::Unoffered);
         }
-        self.report_finding(segment)
+        self.report_finding(is_further, segment)
     }
 
-    /// Whether the acknowledgement is the furthest one from then on.
-    fn goes_further(&self, segment: &RawSegment<'_>) -> bool
-        ensures { result ≡ goes_further self.now.heard (raw_content segment.now) }
+    /// The first rule that the segment breaks, which is `early` where that is one.
+    fn finding(
+        &self,
+        early: Option<Finding>,
+        is_beyond: bool,
+        is_further: bool,
+        segment: &RawSegment<'_>,
+    ) -> Option<Finding>
+        requires beyond { is_none early ≡ true → is_beyond ≡ acks_beyond self.now.heard (raw_content segment.now) }
+        requires further { is_further ≡ goes_further self.now.heard (raw_content segment.now) }
+        ensures { result ≡ option_or early (heard_finding self.now.heard (raw_content segment.now)) }
     {
-        goes_further(
-            self.acked_number,
-            &self.spans,
-            self.syns.as_slice(),
-            segment,
-        )
+        match early {
+            Some(finding) => Some(finding),
+            None => self.heard_finding(is_beyond, is_further, segment),
+        }
     }
 
     /// The furthest acknowledgement, that of this segment included.
-    fn acked_number_after(&self, segment: &RawSegment<'_>) -> Option<Seq>
+    fn acked_number_after(&self, is_further: bool, segment: &RawSegment<'_>) -> Option<Seq>
+        requires { is_further ≡ goes_further self.now.heard (raw_content segment.now) }
         ensures { result ≡ acked_number_after self.now.heard (raw_content segment.now) }
     {
-        if self.goes_further(segment) {
+        if is_further {
             Some(segment.header.ack)
         } else {
             self.acked_number
@@ -292,55 +309,66 @@ impl<A: Allocator + Copy> Judge<A> {
     }
 
     /// The first rule of blocks that the segment breaks.
-    fn report_finding(&self, segment: &RawSegment<'_>) -> Option<Finding>
+    fn report_finding(&self, is_further: bool, segment: &RawSegment<'_>) -> Option<Finding>
+        requires { is_further ≡ goes_further self.now.heard (raw_content segment.now) }
         ensures { result ≡ report_finding self.now.heard (raw_content segment.now) }
     {
         if any_report(segment.options_left()) && !self.sack {
             return Some(Finding::Unpermitted);
         }
         options_finding(
-            self.acked_number_after(segment),
+            self.acked_number_after(is_further, segment),
             &self.spans,
             segment.options_left(),
         )
     }
 
-    /// Whether the acknowledgement covers what didn't come, or is less than an earlier one.
-    fn acks_beyond(&self, segment: &RawSegment<'_>) -> bool
-        ensures { result ≡ acks_beyond self.now.heard (raw_content segment.now) }
+    /// Whether a segment with this acknowledgement may have the furthest one from then on: an older one may only where a
+    /// SYN waits, and is looked up no further where another rule is broken.
+    fn may_go_further(&self, acked_number: Seq) -> bool
+        ensures { result ≡ false → is_further self.now.heard.acked_number self.now.heard.spans self.now.heard.syns acked_number.0 ≡ false }
     {
-        carries_ack(segment)
-            && !is_of_came(
-                self.acked_number,
-                &self.spans,
-                self.syns.as_slice(),
-                segment.header.ack,
-            )
-    }
-
-    /// Whether each span may be looked at where a segment acknowledges this number. An older number than the furthest one
-    /// may break a rule of form or position, and then none is.
-    fn may_look(&self, acked_number: Seq) -> bool {
         match self.acked_number {
             Some(last) => is_from(last, acked_number) || !self.syns.is_empty(),
             None => true,
         }
     }
 
-    /// Readies what came for what is asked of it, where the segment has an acknowledgement that may ask.
-    fn note_spans(&mut self, segment: &RawSegment<'_>)
+    /// Readies what came for what is asked of it: of the acknowledgement and the blocks of a segment that breaks no other
+    /// rule, and of an acknowledgement that may be the furthest one.
+    fn note_spans(&mut self, is_asked: bool, segment: &RawSegment<'_>)
         ensures { self.new ≡ self.old }
     {
-        if carries_ack(segment) && self.may_look(segment.header.ack) {
+        if is_asked || (carries_ack(segment) && self.may_go_further(segment.header.ack)) {
             self.spans.note();
         }
     }
 
+    /// Whether the acknowledgement covers what didn't come, or is less than an earlier one, where that is asked; and
+    /// whether it is the furthest one from then on.
+    fn look(&self, is_asked: bool, segment: &RawSegment<'_>) -> (bool, bool)
+        ensures beyond { is_asked ≡ true → result.0 ≡ acks_beyond self.now.heard (raw_content segment.now) }
+        ensures further { result.1 ≡ goes_further self.now.heard (raw_content segment.now) }
+    {
+        let number = segment.header.ack;
+        if !carries_ack(segment) || (!is_asked && !self.may_go_further(number)) {
+            return (false, false);
+        }
+        let (is_of_came, is_further) = standing(
+            self.acked_number,
+            &self.spans,
+            self.syns.as_slice(),
+            number,
+        );
+        (!is_of_came, is_further && is_of_came)
+    }
+
     /// Adds the acknowledgement of a segment that was sent, and forgets what came before it.
-    fn tell(&mut self, segment: &RawSegment<'_>)
+    fn tell(&mut self, is_further: bool, segment: &RawSegment<'_>)
+        requires { is_further ≡ goes_further self.old.heard (raw_content segment.now) }
         ensures { self.new ≡ record self.old { heard = after_went self.old.heard (raw_content segment.now) } }
     {
-        if !self.goes_further(segment) {
+        if !is_further {
             return;
         }
         self.spans.forget(segment.header.ack);
@@ -349,8 +377,14 @@ impl<A: Allocator + Copy> Judge<A> {
     }
 
     /// Adds a segment that was sent to what is known.
-    fn learn(&mut self, place: u64, segment: &RawSegment<'_>) -> Result<(), AllocError>
+    fn learn(
+        &mut self,
+        place: u64,
+        is_further: bool,
+        segment: &RawSegment<'_>,
+    ) -> Result<(), AllocError>
         requires place { place ≡ place_of self.old (raw_content segment.now) }
+        requires further { is_further ≡ goes_further self.old.heard (raw_content segment.now) }
         requires most { place < 2 ^ 63 + 2 ^ 32 }
         requires short { length segment.now.text.now ≤ max_text_len }
         ensures known { OnOk result (self.new ≡ known_after self.old (raw_content segment.now)) }
@@ -363,7 +397,7 @@ impl<A: Allocator + Copy> Judge<A> {
             self.fin = Some(place + segment.text.len() as u64);
         }
         self.initial = initial_after(self.initial, segment);
-        self.tell(segment);
+        self.tell(is_further, segment);
         Ok(())
     }
 
@@ -435,6 +469,7 @@ impl<A: Allocator + Copy> Judge<A> {
     /// A segment was sent from `src` to `dst`: the first rule that it breaks, if it breaks one. What it acknowledges is
     /// forgotten. After an `Err`, for which there was no memory, no more is known than before; a stream of 2^63 bytes has
     /// none.
+    #[tactic(auto, using(crate::proofs::Orders::option_or_three))]
     pub fn went(
         &mut self,
         src: Addr,
@@ -449,10 +484,12 @@ impl<A: Allocator + Copy> Judge<A> {
             Ok(segment) => segment,
             Err(fault) => return Ok(Some(Finding::Unreadable(fault))),
         };
-        self.note_spans(&segment);
         let place = self.place(&segment);
-        let finding = self.finding(place, &segment);
-        self.learn(place, &segment)?;
+        let early = self.early_finding(place, &segment);
+        self.note_spans(early.is_none(), &segment);
+        let (is_beyond, is_further) = self.look(early.is_none(), &segment);
+        let finding = self.finding(early, is_beyond, is_further, &segment);
+        self.learn(place, is_further, &segment)?;
         Ok(finding)
     }
 

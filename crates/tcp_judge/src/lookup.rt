@@ -1,64 +1,47 @@
 //! Numbers, looked up among the spans that came.
 ghost use Rattle.std.specs.Prelude.{◌≡◌, ℕ, ◌<◌, ◌≤◌, true, false, length};
-ghost use Rattle.tcp_wire.specs.Position.{number};
-ghost use Rattle.tcp_judge.specs.Heard.{covers, has_come, all_came, is_from, is_passed};
+ghost use Rattle.tcp_judge.specs.Heard.{covers, has_come, is_from, is_passed};
+ghost use Rattle.tcp_judge.specs.Run.{number_before};
 
 use tcp_wire::Seq;
 
-/// How many of a span's numbers are left from this one on: 0 where it hasn't this one.
-pub(crate) fn left_of(wanted: Seq, span: (Seq, u32)) -> u32
-    ensures came { (j : ℕ) → j < result → covers (number wanted.0 j) span ≡ true }
+/// How many of a span's numbers there are up to this one: 0 where it hasn't this one.
+pub(crate) fn count_in(wanted: Seq, span: (Seq, u32)) -> u32
+    ensures came { (j : ℕ) → j < result → covers (number_before wanted.0 j) span ≡ true }
     ensures none { result ≡ 0 → covers wanted.0 span ≡ false }
 {
-    span.1.saturating_sub(wanted.minus(span.0))
+    let before = wanted.minus(span.0);
+    if before < span.1 { before + 1 } else { 0 }
 }
 
-/// The first of the spans that has this number: its index, and how many of its numbers are left from this one on. They
+/// The first of the spans that has this number: its index, and how many of its numbers there are up to this one. They
 /// are 0 where none has it.
-fn left_in(spans: &[(Seq, u32)], wanted: Seq) -> (usize, u32)
-    ensures came { (j : ℕ) → j < result.1 → has_come spans.now (number wanted.0 j) ≡ true }
+fn find_in(spans: &[(Seq, u32)], wanted: Seq) -> (usize, u32)
+    ensures came { (j : ℕ) → j < result.1 → has_come spans.now (number_before wanted.0 j) ≡ true }
     ensures none { result.1 ≡ 0 → has_come spans.now wanted.0 ≡ false }
     ensures inside { result.0 ≤ length spans.now }
 {
     for (i, span) in spans.iter().enumerate() {
-        let left = left_of(wanted, *span);
-        if left > 0 {
-            return (i, left);
+        let count = count_in(wanted, *span);
+        if count > 0 {
+            return (i, count);
         }
     }
     (spans.len(), 0)
 }
 
 /// The same, looked for from index `at` on first.
-fn left_from(spans: &[(Seq, u32)], at: usize, wanted: Seq) -> (usize, u32)
+pub(crate) fn find_from(spans: &[(Seq, u32)], at: usize, wanted: Seq) -> (usize, u32)
     requires { at ≤ length spans.now }
-    ensures came { (j : ℕ) → j < result.1 → has_come spans.now (number wanted.0 j) ≡ true }
+    ensures came { (j : ℕ) → j < result.1 → has_come spans.now (number_before wanted.0 j) ≡ true }
     ensures none { result.1 ≡ 0 → has_come spans.now wanted.0 ≡ false }
     ensures inside { result.0 ≤ length spans.now }
 {
-    let (place, left) = left_in(&spans[at..], wanted);
-    if left > 0 {
-        return (at + place, left);
+    let (place, count) = find_in(&spans[at..], wanted);
+    if count > 0 {
+        return (at + place, count);
     }
-    left_in(&spans[..at], wanted)
-}
-
-/// Whether `count` numbers from this one on came.
-pub(crate) fn all_came(spans: &[(Seq, u32)], from: Seq, count: u32) -> bool
-    ensures { result ≡ all_came spans.now from.0 count }
-{
-    // Mostly the next numbers are those of the next segment.
-    let mut at = 0;
-    let mut i = 0;
-    while i < count {
-        let (place, left) = left_from(spans, at, from.plus(i));
-        if left == 0 {
-            return false;
-        }
-        at = place;
-        i = i.saturating_add(left);
-    }
-    true
+    find_in(&spans[..at], wanted)
 }
 
 /// Whether a number is this one or less than 2^31 ahead of it.

@@ -3,11 +3,15 @@ ghost use Rattle.std.specs.Prelude.{◌≡◌, ℕ, ◌+◌, ◌<◌, ◌≤◌,
 ghost use Rattle.std.specs.Vec.{vec_len, vec_capacity};
 ghost use Rattle.tcp_numbers.specs.declared.seq.Seq.{Seq};
 ghost use Rattle.tcp_wire.specs.Position.{distance};
-ghost use Rattle.tcp_judge.specs.Heard.{covers};
-ghost use Rattle.tcp_judge.specs.Run.{IsRun};
+ghost use Rattle.tcp_judge.specs.Heard.{covers, has_come};
+ghost use Rattle.tcp_judge.specs.Run.{IsRun, number_before};
 
+use crate::lookup::count_in;
 use std::alloc::Allocator;
 use tcp_wire::Seq;
+
+/// So few spans are put among the runs one by one.
+const FEW: usize = 16;
 
 /// The part of a span, or of a run, that is less than 2^31 ahead of an acknowledgement.
 fn ahead_of(acked_number: Seq, span: (Seq, u32)) -> (Seq, u32)
@@ -23,7 +27,7 @@ fn ahead_of(acked_number: Seq, span: (Seq, u32)) -> (Seq, u32)
 }
 
 /// How many of the runs begin at this number or before it.
-pub(crate) fn count_up_to(runs: &[(Seq, u32)], acked_number: Seq, number: Seq) -> usize
+fn count_up_to(runs: &[(Seq, u32)], acked_number: Seq, number: Seq) -> usize
     ensures { result ≤ length runs.now }
 {
     let ahead = number.minus(acked_number);
@@ -38,6 +42,21 @@ pub(crate) fn count_up_to(runs: &[(Seq, u32)], acked_number: Seq, number: Seq) -
         }
     }
     low
+}
+
+/// How many numbers up to this one are in the run that has it, or 0.
+pub(crate) fn count_among<A: Allocator>(
+    runs: &Vec<(Seq, u32), A>,
+    acked_number: Seq,
+    wanted: Seq,
+) -> u32
+    ensures { (last : ℕ) (spans : List (Seq × ℕ)) → All (IsRun last spans) runs.now.items → (j : ℕ) → j < result → has_come spans (number_before wanted.0 j) ≡ true }
+{
+    let place = count_up_to(runs.as_slice(), acked_number, wanted);
+    if place == 0 {
+        return 0;
+    }
+    count_in(wanted, runs[place - 1])
 }
 
 /// Whether the second run begins among the numbers of the first, or right behind them.
@@ -70,32 +89,24 @@ fn remove_between<A: Allocator>(runs: &mut Vec<(Seq, u32), A>, from: usize, to: 
     runs.truncate(at);
 }
 
-/// Puts `run` in the place of the runs from one index up to another, and says how many were moved for that.
-fn put_between<A: Allocator>(
-    runs: &mut Vec<(Seq, u32), A>,
-    from: usize,
-    to: usize,
-    run: (Seq, u32),
-) -> usize
+/// Puts `run` in the place of the runs from one index up to another.
+fn put_between<A: Allocator>(runs: &mut Vec<(Seq, u32), A>, from: usize, to: usize, run: (Seq, u32))
     requires from { from ≤ to }
     requires to { to ≤ vec_len runs.old }
     ensures { (last : ℕ) (spans : List (Seq × ℕ)) → IsRun last spans run → All (IsRun last spans) runs.old.items → All (IsRun last spans) runs.new.items }
 {
-    let behind = runs.len() - to;
     if from == to {
         let _ = runs.insert(from, run);
-        return behind;
+        return;
     }
     runs[from] = run;
-    if to - from == 1 {
-        return 0;
+    if to - from > 1 {
+        remove_between(runs, from + 1, to);
     }
-    remove_between(runs, from + 1, to);
-    behind
 }
 
-/// Adds a run, joined with those that it touches, and says how many were moved.
-fn put<A: Allocator>(runs: &mut Vec<(Seq, u32), A>, acked_number: Seq, run: (Seq, u32)) -> usize
+/// Adds a run, joined with those that it touches.
+fn put<A: Allocator>(runs: &mut Vec<(Seq, u32), A>, acked_number: Seq, run: (Seq, u32))
     ensures { (last : ℕ) (spans : List (Seq × ℕ)) → IsRun last spans run → All (IsRun last spans) runs.old.items → All (IsRun last spans) runs.new.items }
 {
     let at = count_up_to(runs, acked_number, run.0);
@@ -110,18 +121,12 @@ fn put<A: Allocator>(runs: &mut Vec<(Seq, u32), A>, acked_number: Seq, run: (Seq
         whole = joined(whole, runs[to]);
         to += 1;
     }
-    put_between(runs, from, to, whole)
+    put_between(runs, from, to, whole);
 }
 
-/// How many runs a search among so many looks at, at most.
-fn search_len(runs: usize) -> usize {
-    (usize::BITS - runs.leading_zeros()) as usize
-}
-
-/// Adds the spans from an index on, until so many runs were looked at and moved as there are spans, and returns the index
-/// of the first that isn't added: so a call takes no longer than a look at each span. Where there is no memory none is
-/// added.
-pub(crate) fn add_spans<A: Allocator>(
+/// Adds spans from an index on, each at its place among the runs, and returns the index of the first that isn't added.
+/// Where there is no memory none is added.
+fn put_spans<A: Allocator>(
     runs: &mut Vec<(Seq, u32), A>,
     acked_number: Seq,
     spans: &[(Seq, u32)],
@@ -130,15 +135,92 @@ pub(crate) fn add_spans<A: Allocator>(
     ensures { All (IsRun acked_number.0 spans.now) runs.old.items → All (IsRun acked_number.0 spans.now) runs.new.items }
 {
     let mut at = first;
-    let mut steps = 0usize;
-    while at < spans.len() && steps <= spans.len() && runs.reserve(1).is_ok() {
+    while at < spans.len() && runs.reserve(1).is_ok() {
         let run = ahead_of(acked_number, spans[at]);
-        steps = steps.saturating_add(search_len(runs.len()));
         if run.1 > 0 {
-            steps = put(runs, acked_number, run).saturating_add(steps);
+            put(runs, acked_number, run);
         }
         at += 1;
     }
+    at
+}
+
+/// The same, each behind the last run.
+fn append_spans<A: Allocator>(
+    runs: &mut Vec<(Seq, u32), A>,
+    acked_number: Seq,
+    spans: &[(Seq, u32)],
+    first: usize,
+) -> usize
+    ensures { All (IsRun acked_number.0 spans.now) runs.old.items → All (IsRun acked_number.0 spans.now) runs.new.items }
+{
+    let mut at = first;
+    while at < spans.len() && runs.reserve(1).is_ok() {
+        let run = ahead_of(acked_number, spans[at]);
+        if run.1 > 0 {
+            runs.push_reserved(run);
+        }
+        at += 1;
+    }
+    at
+}
+
+/// Joins the run at an index with the last of the first `kept`, where it touches that, or else puts it behind them, and
+/// returns how many these are then.
+fn join_at<A: Allocator>(runs: &mut Vec<(Seq, u32), A>, kept: usize, i: usize) -> usize
+    requires before { kept ≤ i }
+    requires inside { i < vec_len runs.old }
+    ensures kept { result ≤ kept + 1 }
+    ensures len { vec_len runs.new ≡ vec_len runs.old }
+    ensures runs { (last : ℕ) (spans : List (Seq × ℕ)) → All (IsRun last spans) runs.old.items → All (IsRun last spans) runs.new.items }
+{
+    let run = runs[i];
+    if kept > 0 {
+        let before = runs[kept - 1];
+        if touches(before, run) {
+            runs[kept - 1] = joined(before, run);
+            return kept;
+        }
+    }
+    runs[kept] = run;
+    kept + 1
+}
+
+/// Joins each run with the one before it, where it touches that.
+fn join_all<A: Allocator>(runs: &mut Vec<(Seq, u32), A>)
+    ensures { (last : ℕ) (spans : List (Seq × ℕ)) → All (IsRun last spans) runs.old.items → All (IsRun last spans) runs.new.items }
+{
+    let mut kept = 0;
+    for i in 0..runs.len() {
+        kept = join_at(runs, kept, i);
+    }
+    runs.truncate(kept);
+}
+
+/// Puts the runs into their order again, and joins them.
+fn order<A: Allocator>(runs: &mut Vec<(Seq, u32), A>, acked_number: Seq)
+    ensures { (last : ℕ) (spans : List (Seq × ℕ)) → All (IsRun last spans) runs.old.items → All (IsRun last spans) runs.new.items }
+{
+    runs.sort_unstable_by_key(|run: &(Seq, u32)| -> u32 { run.0.minus(acked_number) });
+    join_all(runs);
+}
+
+/// Adds the spans from an index on, and returns the index of the first that isn't added. A few are put among the runs one
+/// by one, which moves the runs behind each. Where there are more all runs are put in order at once, so that many that
+/// came in an order of a stranger's choice cost no move for each pair of them.
+pub(crate) fn add_spans<A: Allocator>(
+    runs: &mut Vec<(Seq, u32), A>,
+    acked_number: Seq,
+    spans: &[(Seq, u32)],
+    first: usize,
+) -> usize
+    ensures { All (IsRun acked_number.0 spans.now) runs.old.items → All (IsRun acked_number.0 spans.now) runs.new.items }
+{
+    if spans.len().saturating_sub(first) <= FEW {
+        return put_spans(runs, acked_number, spans, first);
+    }
+    let at = append_spans(runs, acked_number, spans, first);
+    order(runs, acked_number);
     at
 }
 

@@ -37,8 +37,14 @@ fn take_frame(
             };
             connections.take(alloc, packet, src, dst, bytes)?;
         }
-        Found::Segment { .. } | Found::CutShort => left_out.cut = left_out.cut.saturating_add(1),
-        Found::Fragment => left_out.fragments = left_out.fragments.saturating_add(1),
+        Found::Segment { .. } | Found::CutShort => {
+            left_out.cut = left_out.cut.saturating_add(1);
+            connections.leave_out(packet)?;
+        }
+        Found::Fragment => {
+            left_out.fragments = left_out.fragments.saturating_add(1);
+            connections.leave_out(packet)?;
+        }
         Found::Other => left_out.others = left_out.others.saturating_add(1),
     }
     Ok(())

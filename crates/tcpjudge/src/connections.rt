@@ -1,6 +1,6 @@
 //! The connections of a capture.
 use crate::judged_end::{JudgedEnd, Packet};
-use crate::side::{Key, Side, key_of};
+use crate::side::{Key, Side, key_between, key_of};
 use std::alloc::{AllocError, Global};
 use std::collections::BTreeMap;
 use tcp_numbers::partial_checksum;
@@ -42,6 +42,9 @@ pub(crate) struct Connections {
     /// A segment whose checksum was left to a device, mended.
     mended: Vec<u8>,
     pub(crate) left_out: LeftOut,
+    /// The addresses between which a fragment went, or a segment that is cut short. Ports are in the first fragment alone,
+    /// so it may be of any connection between them.
+    gaps: BTreeMap<Key, ()>,
 }
 
 /// How far the checksum of a segment is to be trusted.
@@ -57,6 +60,13 @@ fn field_at(bytes: &[u8], at: usize) -> u16 {
     match bytes.get(at..) {
         Some([high, low, ..]) => u16::from(*high) * 256 + u16::from(*low),
         _ => 0,
+    }
+}
+
+fn addr_at(packet: &[u8], at: usize) -> Option<Addr> {
+    match packet.get(at..) {
+        Some([a, b, c, d, ..]) => Some(Addr([*a, *b, *c, *d])),
+        _ => None,
     }
 }
 
@@ -193,7 +203,21 @@ impl Connections {
             places: BTreeMap::new(alloc),
             mended: Vec::new(alloc),
             left_out: LeftOut::default(),
+            gaps: BTreeMap::new(alloc),
         }
+    }
+
+    /// A packet of IPv4 whose segment is left out (RFC 791, 3.1).
+    pub(crate) fn leave_out(&mut self, packet: &[u8]) -> Result<(), AllocError> {
+        if let (Some(src), Some(dst)) = (addr_at(packet, 12), addr_at(packet, 16)) {
+            self.gaps.insert(key_between(src, dst), ())?;
+        }
+        Ok(())
+    }
+
+    /// Whether each segment between the two addresses is there whole.
+    pub(crate) fn is_whole(&self, one: Addr, other: Addr) -> bool {
+        self.gaps.get(&key_between(one, other)).is_none()
     }
 
     /// The place of the connection that goes on with a segment, if there is one.

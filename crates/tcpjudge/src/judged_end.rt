@@ -55,21 +55,8 @@ pub(crate) struct JudgedEnd {
     /// Segments with a wrong checksum that it sent.
     pub(crate) damaged: Note,
     /// Whether what it acknowledges can't be compared with what came: it acknowledged something before a SYN came to it or it
-    /// sent one, so that what came before isn't in the capture; or too many SYNs came.
+    /// sent one, so that what came before isn't in the capture.
     pub(crate) lacks_beginning: bool,
-    /// How many SYNs came to it.
-    syns: usize,
-}
-
-/// So many SYNs that come are compared with what an end acknowledges; a connection has one, or two (RFC 9293, 3.5). Each
-/// costs as much as all that came.
-const MOST_SYNS: usize = 16;
-
-fn has_syn(bytes: &[u8]) -> bool {
-    match bytes.get(13) {
-        Some(bits) => bits & 2 != 0,
-        None => false,
-    }
 }
 
 /// Adds a finding to those of its rule.
@@ -103,7 +90,6 @@ impl JudgedEnd {
             broken: Vec::new(alloc),
             damaged: NONE,
             lacks_beginning: false,
-            syns: 0,
         }
     }
 
@@ -142,15 +128,8 @@ impl JudgedEnd {
         add_finding(&mut self.broken, packet, finding)
     }
 
-    /// A segment came to it. Behind too many SYNs what comes isn't compared with any more.
+    /// A segment came to it.
     pub(crate) fn came(&mut self, src: Addr, bytes: &[u8]) -> Result<(), AllocError> {
-        if has_syn(bytes) {
-            self.syns = self.syns.saturating_add(1);
-        }
-        if self.syns > MOST_SYNS {
-            self.lacks_beginning = true;
-            return Ok(());
-        }
         self.judge.came(src, self.side.addr, bytes)
     }
 }

@@ -7,6 +7,7 @@
 mod capture;
 mod connections;
 mod fault;
+mod json;
 mod judged_end;
 mod program;
 mod side;

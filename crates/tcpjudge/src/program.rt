@@ -28,12 +28,13 @@ where the log has no segment that the end sent.
 
 /// And of captures.
 const CAPTURE_HELP: &str = "
-tcpjudge [--at ADDRESS] FILE
+tcpjudge [--at ADDRESS] [--json] FILE
 
 Judges both ends of each connection of TCP over IPv4 in a capture in the pcap form, as tcpdump -w writes it.
 --at names the IPv4 address of the machine where it was taken: at that end rules are tried against what came too, unless
 packets are cut short or the connection's beginning is missing.
 Prints for each end the first packet that breaks each rule, and how many do, and then what was judged.
+--json prints the same as JSON, a line for each finding, each end, and last the capture.
 The status is 0 where no rule is broken, 1 where one is, and 2 where the words or the file have a fault, where the
 capture is cut short or damaged, or where no end was judged.
 ";
@@ -74,6 +75,7 @@ fn write_text(rt: &impl Print, text: &str) -> Result<(), Fault> {
 struct Wanted {
     is_complete: bool,
     at: Option<Addr>,
+    is_json: bool,
 }
 
 /// Judges a log, of which the window has the first bytes.
@@ -83,7 +85,7 @@ fn judge_log<I: Input>(
     window: &Window,
     wanted: &Wanted,
 ) -> Result<bool, Fault> {
-    if wanted.at.is_some() {
+    if wanted.at.is_some() || wanted.is_json {
         return Err(Fault::BadWords);
     }
     let alloc = rt.alloc();
@@ -110,7 +112,7 @@ fn judge_capture<I: Input>(
         return Err(Fault::CompleteCapture);
     }
     let capture = read_capture(rt.alloc(), form, input, window)?;
-    let (text, verdict) = report(rt.alloc(), &capture, wanted.at)?;
+    let (text, verdict) = report(rt.alloc(), &capture, wanted.at, wanted.is_json)?;
     write_text(rt, &text)?;
     if capture.is_cut {
         return Err(Fault::CutCapture);
@@ -153,7 +155,15 @@ fn work(rt: &(impl Env + Files + Print + AllocGlobal)) -> Result<bool, Fault> {
             path,
             is_complete,
             at,
-        } => judge_file(rt, &path, &Wanted { is_complete, at }),
+            is_json,
+        } => {
+            let wanted = Wanted {
+                is_complete,
+                at,
+                is_json,
+            };
+            judge_file(rt, &path, &wanted)
+        }
     }
 }
 

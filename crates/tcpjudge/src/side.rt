@@ -24,7 +24,7 @@ impl fmt::Display for Side {
     }
 }
 
-/// A connection by its two sides, whichever comes first.
+/// A connection by its two sides, or two addresses, whichever comes first.
 pub(crate) type Key = (u64, u64);
 
 pub(crate) fn key_of(one: Side, other: Side) -> Key {
@@ -35,4 +35,15 @@ pub(crate) fn key_of(one: Side, other: Side) -> Key {
     } else {
         (second, first)
     }
+}
+
+/// The key of two addresses, whatever the ports.
+pub(crate) fn key_between(one: Addr, other: Addr) -> Key {
+    key_of(
+        Side { addr: one, port: 0 },
+        Side {
+            addr: other,
+            port: 0,
+        },
+    )
 }

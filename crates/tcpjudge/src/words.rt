@@ -17,14 +17,17 @@ pub(crate) enum Job {
         path: String,
         /// Of a log: whether nothing that came is missing in it.
         is_complete: bool,
-        /// Of a capture: the address of the end where it was taken.
+        /// Of a capture: the address of the end where it was taken, and whether the report is to be JSON.
         at: Option<Addr>,
+        is_json: bool,
     },
 }
 
 const COMPLETE: &str = "complete";
 
 const AT: &str = "at";
+
+const JSON: &str = "json";
 
 /// One form, with one file.
 fn form<'a>(alloc: Global) -> Result<Command<'a>, AllocError> {
@@ -38,10 +41,12 @@ fn form<'a>(alloc: Global) -> Result<Command<'a>, AllocError> {
         .long(AT)
         .value_name("ADDRESS")
         .action(ArgAction::Set);
+    let json = Arg::new(alloc, JSON).long(JSON).action(ArgAction::SetTrue);
     Command::new(alloc, "tcpjudge")
         .arg(file)?
         .arg(complete)?
-        .arg(at)
+        .arg(at)?
+        .arg(json)
 }
 
 /// What a refusal by clap means.
@@ -67,6 +72,7 @@ fn place_of(matches: &ArgMatches) -> Result<Option<Addr>, Fault> {
 fn job_of(alloc: Global, matches: &ArgMatches) -> Result<Job, Fault> {
     let is_complete = matches.get_flag(COMPLETE);
     let at = place_of(matches)?;
+    let is_json = matches.get_flag(JSON);
     let Some(file) = matches.get_str("FILE") else {
         return Err(Fault::BadWords);
     };
@@ -75,6 +81,7 @@ fn job_of(alloc: Global, matches: &ArgMatches) -> Result<Job, Fault> {
             path,
             is_complete,
             at,
+            is_json,
         }),
         Err(_) => Err(Fault::NoMemory),
     }

@@ -1,6 +1,6 @@
 use Rattle.std.proofs.Common.{◌-◌, length, All}
 use Rattle.tcp_judge.specs.Run.{IsRun}
-use Rattle.tcp_judge.proofs.run_list.add_spans.Given as goal
+use Rattle.tcp_judge.proofs.run_list.append_spans.Given as goal
 
 abbrev pub invariant-loop-at : goal.invariant-loop-at
 invariant-loop-at g l = All (IsRun l.acked_number.0 l.spans) l.fn.runs.items → All (IsRun l.acked_number.0 l.spans) l.runs.items

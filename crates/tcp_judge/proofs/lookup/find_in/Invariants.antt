@@ -1,6 +1,6 @@
 use Rattle.std.proofs.Common.{◌≡◌, drop}
 use Rattle.tcp_judge.specs.Heard.{has_come}
-use Rattle.tcp_judge.proofs.lookup.left_in.Given as goal
+use Rattle.tcp_judge.proofs.lookup.find_in.Given as goal
 
 -- it is asked of the segments that are left
 abbrev pub invariant-loop-i : goal.invariant-loop-i
