@@ -74,11 +74,10 @@ static void arrives(int side, int at)
 static void keeps_time(int side)
 {
     uint32_t timers;
-    uint64_t at;
+    uint64_t next;
     if (is_timed) {
-        if (tcpcore_connection_timeout(&connections[side], now, &timers) == TCPCORE_DONE)
+        if (tcpcore_connection_tick(&connections[side], now, &timers, &next) == TCPCORE_DONE)
             exit(1);
-        done(tcpcore_connection_poll_at(&connections[side], &at));
     } else {
         done(tcpcore_timers(&ends[side], &timers));
     }

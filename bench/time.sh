@@ -50,6 +50,7 @@ build_bound() {
     (cd "$bound/go" && CGO_LDFLAGS=-L$bound GOPROXY=off GOFLAGS=-mod=mod go build -tags tcpcore_native -o "$bound/handed.go" .)
     mkdir -p "$bound/site/tcpcore"
     cp "$core/tcpcore.py" "$bound/site/tcpcore/__init__.py"
+    cp "$core"/_*.py "$bound/site/tcpcore"
     gcc -O2 -std=c99 -shared -fPIC -I"$(python3 -c 'import sysconfig; print(sysconfig.get_path("include"))')" -I"$core" \
         "$top/c/bindings/python/batch.c" -o "$bound/site/tcpcore/_batch.abi3.so"
 }

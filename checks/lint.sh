@@ -40,7 +40,14 @@ if has clang-tidy clang-tidy --version; then
     done
 fi
 if has mypy mypy --version; then
-    MYPYPATH=c/tcpcore mypy --strict --no-error-summary --cache-dir=/dev/null c/tcpcore/{tcpcore,datagrams,simulator,layout}.py
+    # As the package that they are installed as.
+    package=$(mktemp -d)
+    trap 'rm -rf "$package"' EXIT
+    mkdir "$package/tcpcore"
+    cp c/tcpcore/tcpcore.py "$package/tcpcore/__init__.py"
+    cp c/tcpcore/{_connections,_ends,_library,_records,datagrams,simulator}.py "$package/tcpcore"
+    MYPYPATH=$package mypy --strict --no-error-summary --cache-dir=/dev/null -p tcpcore
+    mypy --strict --no-error-summary --cache-dir=/dev/null c/tcpcore/layout.py
     passed=$((passed + 1))
 fi
 # The checksum stands on lanes.

@@ -378,9 +378,9 @@ __asm__(
     ".octa 0x5f415e415d415c415b08c4834801b000\n"
     ".short 0xc35d\n"
     ".reloc .Ltcp12+66,R_X86_64_PLT32,.Ltcp13-4\n"
-    ".reloc .Ltcp12+147,R_X86_64_PC32,.Ltcp98+4\n"
+    ".reloc .Ltcp12+147,R_X86_64_PC32,.Ltcp99+4\n"
     ".reloc .Ltcp12+160,R_X86_64_PLT32,.Ltcp13-4\n"
-    ".reloc .Ltcp12+227,R_X86_64_PC32,.Ltcp98+4\n"
+    ".reloc .Ltcp12+227,R_X86_64_PC32,.Ltcp99+4\n"
     ".reloc .Ltcp12+240,R_X86_64_PLT32,.Ltcp13-4\n"
     ".reloc .Ltcp12+285,R_X86_64_PLT32,.Ltcp13-4\n"
     ".section .text.tcp.13,\"ax\",%progbits\n"
@@ -587,76 +587,76 @@ __asm__(
     ".byte 0xff\n"
     ".reloc .Ltcp14+124,R_X86_64_PLT32,.Ltcp8-4\n"
     ".reloc .Ltcp14+602,R_X86_64_PC32,.Ltcp0+588\n"
-    ".reloc .Ltcp14+717,R_X86_64_PC32,.Ltcp124-4\n"
+    ".reloc .Ltcp14+717,R_X86_64_PC32,.Ltcp125-4\n"
     ".reloc .Ltcp14+754,R_X86_64_PLT32,.Ltcp21-4\n"
     ".reloc .Ltcp14+816,R_X86_64_PC32,.Ltcp15+88\n"
-    ".reloc .Ltcp14+879,R_X86_64_PC32,.Ltcp128-4\n"
-    ".reloc .Ltcp14+947,R_X86_64_PC32,.Ltcp126-4\n"
-    ".reloc .Ltcp14+1022,R_X86_64_PC32,.Ltcp127-4\n"
-    ".reloc .Ltcp14+1085,R_X86_64_PC32,.Ltcp125-4\n"
-    ".reloc .Ltcp14+1130,R_X86_64_PC32,.Ltcp129-4\n"
+    ".reloc .Ltcp14+879,R_X86_64_PC32,.Ltcp129-4\n"
+    ".reloc .Ltcp14+947,R_X86_64_PC32,.Ltcp127-4\n"
+    ".reloc .Ltcp14+1022,R_X86_64_PC32,.Ltcp128-4\n"
+    ".reloc .Ltcp14+1085,R_X86_64_PC32,.Ltcp126-4\n"
+    ".reloc .Ltcp14+1130,R_X86_64_PC32,.Ltcp130-4\n"
     ".reloc .Ltcp14+1170,R_X86_64_PLT32,.Ltcp24-4\n"
     ".reloc .Ltcp14+1269,R_X86_64_PLT32,.Ltcp16-4\n"
     ".reloc .Ltcp14+1424,R_X86_64_PLT32,.Ltcp16-4\n"
     ".reloc .Ltcp14+1461,R_X86_64_PLT32,.Ltcp16-4\n"
     ".reloc .Ltcp14+1498,R_X86_64_PLT32,.Ltcp16-4\n"
     ".reloc .Ltcp14+1535,R_X86_64_PLT32,.Ltcp16-4\n"
-    ".reloc .Ltcp14+1798,R_X86_64_PC32,.Ltcp104-4\n"
-    ".reloc .Ltcp14+1910,R_X86_64_PC32,.Ltcp104-4\n"
-    ".reloc .Ltcp14+1952,R_X86_64_PC32,.Ltcp104-4\n"
-    ".reloc .Ltcp14+2073,R_X86_64_PC32,.Ltcp104-4\n"
-    ".reloc .Ltcp14+2178,R_X86_64_PC32,.Ltcp104-4\n"
-    ".reloc .Ltcp14+2220,R_X86_64_PC32,.Ltcp104-4\n"
-    ".reloc .Ltcp14+2333,R_X86_64_PC32,.Ltcp104-4\n"
-    ".reloc .Ltcp14+2451,R_X86_64_PC32,.Ltcp104-4\n"
-    ".reloc .Ltcp14+2711,R_X86_64_PC32,.Ltcp104-4\n"
-    ".reloc .Ltcp14+2791,R_X86_64_PC32,.Ltcp104-4\n"
-    ".reloc .Ltcp14+2853,R_X86_64_PC32,.Ltcp104-4\n"
-    ".reloc .Ltcp14+2878,R_X86_64_PC32,.Ltcp104-4\n"
+    ".reloc .Ltcp14+1798,R_X86_64_PC32,.Ltcp105-4\n"
+    ".reloc .Ltcp14+1910,R_X86_64_PC32,.Ltcp105-4\n"
+    ".reloc .Ltcp14+1952,R_X86_64_PC32,.Ltcp105-4\n"
+    ".reloc .Ltcp14+2073,R_X86_64_PC32,.Ltcp105-4\n"
+    ".reloc .Ltcp14+2178,R_X86_64_PC32,.Ltcp105-4\n"
+    ".reloc .Ltcp14+2220,R_X86_64_PC32,.Ltcp105-4\n"
+    ".reloc .Ltcp14+2333,R_X86_64_PC32,.Ltcp105-4\n"
+    ".reloc .Ltcp14+2451,R_X86_64_PC32,.Ltcp105-4\n"
+    ".reloc .Ltcp14+2711,R_X86_64_PC32,.Ltcp105-4\n"
+    ".reloc .Ltcp14+2791,R_X86_64_PC32,.Ltcp105-4\n"
+    ".reloc .Ltcp14+2853,R_X86_64_PC32,.Ltcp105-4\n"
+    ".reloc .Ltcp14+2878,R_X86_64_PC32,.Ltcp105-4\n"
     ".reloc .Ltcp14+3060,R_X86_64_PLT32,.Ltcp16-4\n"
-    ".reloc .Ltcp14+3254,R_X86_64_PC32,.Ltcp104-4\n"
+    ".reloc .Ltcp14+3254,R_X86_64_PC32,.Ltcp105-4\n"
     ".reloc .Ltcp14+3387,R_X86_64_PC32,.Ltcp15-4\n"
-    ".reloc .Ltcp14+3403,R_X86_64_PC32,.Ltcp107-4\n"
-    ".reloc .Ltcp14+3415,R_X86_64_PC32,.Ltcp109-4\n"
-    ".reloc .Ltcp14+3427,R_X86_64_PC32,.Ltcp106-4\n"
-    ".reloc .Ltcp14+3634,R_X86_64_PC32,.Ltcp111-4\n"
-    ".reloc .Ltcp14+3659,R_X86_64_PC32,.Ltcp112-4\n"
-    ".reloc .Ltcp14+3693,R_X86_64_PC32,.Ltcp113-4\n"
-    ".reloc .Ltcp14+3728,R_X86_64_PC32,.Ltcp105-4\n"
-    ".reloc .Ltcp14+3763,R_X86_64_PC32,.Ltcp114-4\n"
-    ".reloc .Ltcp14+3798,R_X86_64_PC32,.Ltcp115-4\n"
-    ".reloc .Ltcp14+3833,R_X86_64_PC32,.Ltcp107-4\n"
-    ".reloc .Ltcp14+3868,R_X86_64_PC32,.Ltcp116-4\n"
+    ".reloc .Ltcp14+3403,R_X86_64_PC32,.Ltcp108-4\n"
+    ".reloc .Ltcp14+3415,R_X86_64_PC32,.Ltcp110-4\n"
+    ".reloc .Ltcp14+3427,R_X86_64_PC32,.Ltcp107-4\n"
+    ".reloc .Ltcp14+3634,R_X86_64_PC32,.Ltcp112-4\n"
+    ".reloc .Ltcp14+3659,R_X86_64_PC32,.Ltcp113-4\n"
+    ".reloc .Ltcp14+3693,R_X86_64_PC32,.Ltcp114-4\n"
+    ".reloc .Ltcp14+3728,R_X86_64_PC32,.Ltcp106-4\n"
+    ".reloc .Ltcp14+3763,R_X86_64_PC32,.Ltcp115-4\n"
+    ".reloc .Ltcp14+3798,R_X86_64_PC32,.Ltcp116-4\n"
+    ".reloc .Ltcp14+3833,R_X86_64_PC32,.Ltcp108-4\n"
+    ".reloc .Ltcp14+3868,R_X86_64_PC32,.Ltcp117-4\n"
     ".reloc .Ltcp14+4326,R_X86_64_PLT32,.Ltcp17-4\n"
     ".reloc .Ltcp14+4507,R_X86_64_PLT32,.Ltcp16-4\n"
-    ".reloc .Ltcp14+4550,R_X86_64_PC32,.Ltcp117-4\n"
+    ".reloc .Ltcp14+4550,R_X86_64_PC32,.Ltcp118-4\n"
     ".reloc .Ltcp14+4571,R_X86_64_PLT32,.Ltcp17-4\n"
     ".reloc .Ltcp14+4615,R_X86_64_PLT32,.Ltcp16-4\n"
-    ".reloc .Ltcp14+4658,R_X86_64_PC32,.Ltcp105-4\n"
-    ".reloc .Ltcp14+4667,R_X86_64_PC32,.Ltcp108-4\n"
-    ".reloc .Ltcp14+4676,R_X86_64_PC32,.Ltcp110-4\n"
-    ".reloc .Ltcp14+4922,R_X86_64_PC32,.Ltcp104-4\n"
-    ".reloc .Ltcp14+5044,R_X86_64_PC32,.Ltcp104-4\n"
-    ".reloc .Ltcp14+5117,R_X86_64_PC32,.Ltcp104-4\n"
-    ".reloc .Ltcp14+5164,R_X86_64_PC32,.Ltcp104-4\n"
-    ".reloc .Ltcp14+5211,R_X86_64_PC32,.Ltcp104-4\n"
-    ".reloc .Ltcp14+5285,R_X86_64_PC32,.Ltcp104-4\n"
-    ".reloc .Ltcp14+5591,R_X86_64_PC32,.Ltcp119-4\n"
+    ".reloc .Ltcp14+4658,R_X86_64_PC32,.Ltcp106-4\n"
+    ".reloc .Ltcp14+4667,R_X86_64_PC32,.Ltcp109-4\n"
+    ".reloc .Ltcp14+4676,R_X86_64_PC32,.Ltcp111-4\n"
+    ".reloc .Ltcp14+4922,R_X86_64_PC32,.Ltcp105-4\n"
+    ".reloc .Ltcp14+5044,R_X86_64_PC32,.Ltcp105-4\n"
+    ".reloc .Ltcp14+5117,R_X86_64_PC32,.Ltcp105-4\n"
+    ".reloc .Ltcp14+5164,R_X86_64_PC32,.Ltcp105-4\n"
+    ".reloc .Ltcp14+5211,R_X86_64_PC32,.Ltcp105-4\n"
+    ".reloc .Ltcp14+5285,R_X86_64_PC32,.Ltcp105-4\n"
+    ".reloc .Ltcp14+5591,R_X86_64_PC32,.Ltcp120-4\n"
     ".reloc .Ltcp14+5766,R_X86_64_PLT32,.Ltcp9-4\n"
     ".reloc .Ltcp14+5851,R_X86_64_PLT32,.Ltcp19-4\n"
     ".reloc .Ltcp14+5890,R_X86_64_PLT32,.Ltcp9-4\n"
     ".reloc .Ltcp14+5995,R_X86_64_PLT32,.Ltcp19-4\n"
     ".reloc .Ltcp14+6017,R_X86_64_PLT32,.Ltcp16-4\n"
-    ".reloc .Ltcp14+6397,R_X86_64_PC32,.Ltcp104-4\n"
+    ".reloc .Ltcp14+6397,R_X86_64_PC32,.Ltcp105-4\n"
     ".reloc .Ltcp14+6630,R_X86_64_PLT32,.Ltcp23-4\n"
     ".reloc .Ltcp14+6662,R_X86_64_PLT32,.Ltcp16-4\n"
     ".reloc .Ltcp14+6706,R_X86_64_PLT32,.Ltcp16-4\n"
     ".reloc .Ltcp14+6743,R_X86_64_PLT32,.Ltcp16-4\n"
     ".reloc .Ltcp14+6789,R_X86_64_PLT32,.Ltcp16-4\n"
-    ".reloc .Ltcp14+6843,R_X86_64_PC32,.Ltcp104-4\n"
+    ".reloc .Ltcp14+6843,R_X86_64_PC32,.Ltcp105-4\n"
     ".reloc .Ltcp14+6883,R_X86_64_PLT32,.Ltcp16-4\n"
     ".reloc .Ltcp14+6923,R_X86_64_PLT32,.Ltcp16-4\n"
-    ".reloc .Ltcp14+6954,R_X86_64_PC32,.Ltcp99-4\n"
+    ".reloc .Ltcp14+6954,R_X86_64_PC32,.Ltcp100-4\n"
     ".reloc .Ltcp14+6969,R_X86_64_PLT32,.Ltcp17-4\n"
     ".reloc .Ltcp14+6999,R_X86_64_PLT32,.Ltcp16-4\n"
     ".section .rodata.tcp.15,\"a\",%progbits\n"
@@ -731,9 +731,9 @@ __asm__(
     ".octa 0x5f415e415d415c415b08c4834801b000\n"
     ".short 0xc35d\n"
     ".reloc .Ltcp17+66,R_X86_64_PLT32,.Ltcp18-4\n"
-    ".reloc .Ltcp17+147,R_X86_64_PC32,.Ltcp98+4\n"
+    ".reloc .Ltcp17+147,R_X86_64_PC32,.Ltcp99+4\n"
     ".reloc .Ltcp17+160,R_X86_64_PLT32,.Ltcp18-4\n"
-    ".reloc .Ltcp17+227,R_X86_64_PC32,.Ltcp98+4\n"
+    ".reloc .Ltcp17+227,R_X86_64_PC32,.Ltcp99+4\n"
     ".reloc .Ltcp17+240,R_X86_64_PLT32,.Ltcp18-4\n"
     ".reloc .Ltcp17+285,R_X86_64_PLT32,.Ltcp18-4\n"
     ".section .text.tcp.18,\"ax\",%progbits\n"
@@ -816,16 +816,16 @@ __asm__(
     ".short 0xfffd\n"
     ".byte 0xff\n"
     ".reloc .Ltcp19+52,R_X86_64_PC32,.Ltcp20-4\n"
-    ".reloc .Ltcp19+103,R_X86_64_PC32,.Ltcp120-4\n"
-    ".reloc .Ltcp19+175,R_X86_64_PC32,.Ltcp123-4\n"
-    ".reloc .Ltcp19+216,R_X86_64_PC32,.Ltcp121-4\n"
+    ".reloc .Ltcp19+103,R_X86_64_PC32,.Ltcp121-4\n"
+    ".reloc .Ltcp19+175,R_X86_64_PC32,.Ltcp124-4\n"
+    ".reloc .Ltcp19+216,R_X86_64_PC32,.Ltcp122-4\n"
     ".reloc .Ltcp19+260,R_X86_64_PLT32,.Ltcp21-4\n"
-    ".reloc .Ltcp19+307,R_X86_64_PC32,.Ltcp122-4\n"
-    ".reloc .Ltcp19+784,R_X86_64_PC32,.Ltcp104-4\n"
+    ".reloc .Ltcp19+307,R_X86_64_PC32,.Ltcp123-4\n"
+    ".reloc .Ltcp19+784,R_X86_64_PC32,.Ltcp105-4\n"
     ".reloc .Ltcp19+856,R_X86_64_PLT32,.Ltcp22-4\n"
     ".reloc .Ltcp19+1145,R_X86_64_PLT32,.Ltcp22-4\n"
     ".reloc .Ltcp19+1179,R_X86_64_PLT32,.Ltcp16-4\n"
-    ".reloc .Ltcp19+1209,R_X86_64_PC32,.Ltcp104-4\n"
+    ".reloc .Ltcp19+1209,R_X86_64_PC32,.Ltcp105-4\n"
     ".reloc .Ltcp19+1311,R_X86_64_PLT32,.Ltcp23-4\n"
     ".reloc .Ltcp19+1324,R_X86_64_PLT32,.Ltcp16-4\n"
     ".reloc .Ltcp19+1362,R_X86_64_PLT32,.Ltcp16-4\n"
@@ -911,12 +911,12 @@ __asm__(
     ".octa 0xc48148c0311063894c087b894c33894c,0x8948c35f415e415d415c415b00000080,0x1b0c18900000000e8d68948d58949df\n"
     ".octa 0xebea894c10638b4c087b8b4cd974c984\n"
     ".byte 0xac\n"
-    ".reloc .Ltcp22+143,R_X86_64_PC32,.Ltcp104-4\n"
-    ".reloc .Ltcp22+272,R_X86_64_PC32,.Ltcp104-4\n"
-    ".reloc .Ltcp22+330,R_X86_64_PC32,.Ltcp104-4\n"
-    ".reloc .Ltcp22+464,R_X86_64_PC32,.Ltcp104-4\n"
-    ".reloc .Ltcp22+556,R_X86_64_PC32,.Ltcp104-4\n"
-    ".reloc .Ltcp22+595,R_X86_64_PC32,.Ltcp104-4\n"
+    ".reloc .Ltcp22+143,R_X86_64_PC32,.Ltcp105-4\n"
+    ".reloc .Ltcp22+272,R_X86_64_PC32,.Ltcp105-4\n"
+    ".reloc .Ltcp22+330,R_X86_64_PC32,.Ltcp105-4\n"
+    ".reloc .Ltcp22+464,R_X86_64_PC32,.Ltcp105-4\n"
+    ".reloc .Ltcp22+556,R_X86_64_PC32,.Ltcp105-4\n"
+    ".reloc .Ltcp22+595,R_X86_64_PC32,.Ltcp105-4\n"
     ".reloc .Ltcp22+718,R_X86_64_PLT32,.Ltcp16-4\n"
     ".section .text.tcp.23,\"ax\",%progbits\n"
     ".balign 16\n"
@@ -1212,10 +1212,10 @@ __asm__(
     ".short 0xa7eb\n"
     ".reloc .Ltcp26+408,R_X86_64_PC32,.Ltcp0+684\n"
     ".reloc .Ltcp26+588,R_X86_64_PLT32,.Ltcp2-4\n"
-    ".reloc .Ltcp26+634,R_X86_64_PC32,.Ltcp118+4\n"
+    ".reloc .Ltcp26+634,R_X86_64_PC32,.Ltcp119+4\n"
     ".reloc .Ltcp26+656,R_X86_64_PLT32,.Ltcp4-4\n"
     ".reloc .Ltcp26+687,R_X86_64_PLT32,.Ltcp1-4\n"
-    ".reloc .Ltcp26+820,R_X86_64_PC32,.Ltcp118+12\n"
+    ".reloc .Ltcp26+820,R_X86_64_PC32,.Ltcp119+12\n"
     ".reloc .Ltcp26+836,R_X86_64_PLT32,.Ltcp4-4\n"
     ".reloc .Ltcp26+865,R_X86_64_PLT32,.Ltcp1-4\n"
     ".reloc .Ltcp26+1072,R_X86_64_PLT32,.Ltcp2-4\n"
@@ -1223,27 +1223,27 @@ __asm__(
     ".reloc .Ltcp26+1357,R_X86_64_PC32,.Ltcp0+716\n"
     ".reloc .Ltcp26+1593,R_X86_64_PLT32,.Ltcp1-4\n"
     ".reloc .Ltcp26+1914,R_X86_64_PLT32,.Ltcp2-4\n"
-    ".reloc .Ltcp26+1974,R_X86_64_PC32,.Ltcp132-4\n"
+    ".reloc .Ltcp26+1974,R_X86_64_PC32,.Ltcp133-4\n"
     ".reloc .Ltcp26+1997,R_X86_64_PLT32,.Ltcp4-4\n"
     ".reloc .Ltcp26+2101,R_X86_64_PLT32,.Ltcp2-4\n"
-    ".reloc .Ltcp26+2191,R_X86_64_PC32,.Ltcp98+12\n"
+    ".reloc .Ltcp26+2191,R_X86_64_PC32,.Ltcp99+12\n"
     ".reloc .Ltcp26+2213,R_X86_64_PLT32,.Ltcp4-4\n"
-    ".reloc .Ltcp26+2398,R_X86_64_PC32,.Ltcp133-4\n"
+    ".reloc .Ltcp26+2398,R_X86_64_PC32,.Ltcp134-4\n"
     ".reloc .Ltcp26+2417,R_X86_64_PLT32,.Ltcp4-4\n"
     ".reloc .Ltcp26+2577,R_X86_64_PLT32,.Ltcp2-4\n"
     ".reloc .Ltcp26+2684,R_X86_64_PLT32,.Ltcp2-4\n"
     ".reloc .Ltcp26+2864,R_X86_64_PLT32,.Ltcp2-4\n"
-    ".reloc .Ltcp26+2987,R_X86_64_PC32,.Ltcp134-4\n"
+    ".reloc .Ltcp26+2987,R_X86_64_PC32,.Ltcp135-4\n"
     ".reloc .Ltcp26+3005,R_X86_64_PLT32,.Ltcp4-4\n"
     ".reloc .Ltcp26+3253,R_X86_64_PLT32,.Ltcp28-4\n"
     ".reloc .Ltcp26+3392,R_X86_64_PLT32,.Ltcp2-4\n"
     ".reloc .Ltcp26+3645,R_X86_64_PLT32,.Ltcp30-4\n"
     ".reloc .Ltcp26+3903,R_X86_64_PLT32,.Ltcp2-4\n"
-    ".reloc .Ltcp26+3980,R_X86_64_PC32,.Ltcp132-4\n"
+    ".reloc .Ltcp26+3980,R_X86_64_PC32,.Ltcp133-4\n"
     ".reloc .Ltcp26+3993,R_X86_64_PLT32,.Ltcp4-4\n"
     ".reloc .Ltcp26+4085,R_X86_64_PLT32,.Ltcp2-4\n"
     ".reloc .Ltcp26+4180,R_X86_64_PLT32,.Ltcp2-4\n"
-    ".reloc .Ltcp26+4297,R_X86_64_PC32,.Ltcp150-4\n"
+    ".reloc .Ltcp26+4297,R_X86_64_PC32,.Ltcp151-4\n"
     ".reloc .Ltcp26+4318,R_X86_64_PLT32,.Ltcp4-4\n"
     ".reloc .Ltcp26+4436,R_X86_64_PLT32,.Ltcp28-4\n"
     ".reloc .Ltcp26+4759,R_X86_64_PC32,.Ltcp27-4\n"
@@ -1252,17 +1252,17 @@ __asm__(
     ".reloc .Ltcp26+5032,R_X86_64_PLT32,.Ltcp2-4\n"
     ".reloc .Ltcp26+5069,R_X86_64_PC32,.Ltcp27+36\n"
     ".reloc .Ltcp26+5332,R_X86_64_PC32,.Ltcp0+732\n"
-    ".reloc .Ltcp26+5387,R_X86_64_PC32,.Ltcp98+28\n"
+    ".reloc .Ltcp26+5387,R_X86_64_PC32,.Ltcp99+28\n"
     ".reloc .Ltcp26+5408,R_X86_64_PLT32,.Ltcp4-4\n"
-    ".reloc .Ltcp26+5778,R_X86_64_PC32,.Ltcp98+20\n"
+    ".reloc .Ltcp26+5778,R_X86_64_PC32,.Ltcp99+20\n"
     ".reloc .Ltcp26+5799,R_X86_64_PLT32,.Ltcp4-4\n"
     ".reloc .Ltcp26+5956,R_X86_64_PC32,.Ltcp0+748\n"
-    ".reloc .Ltcp26+6005,R_X86_64_PC32,.Ltcp98+32\n"
+    ".reloc .Ltcp26+6005,R_X86_64_PC32,.Ltcp99+32\n"
     ".reloc .Ltcp26+6024,R_X86_64_PLT32,.Ltcp4-4\n"
     ".reloc .Ltcp26+6043,R_X86_64_PLT32,.Ltcp31-4\n"
-    ".reloc .Ltcp26+6083,R_X86_64_PC32,.Ltcp98+36\n"
+    ".reloc .Ltcp26+6083,R_X86_64_PC32,.Ltcp99+36\n"
     ".reloc .Ltcp26+6093,R_X86_64_PLT32,.Ltcp4-4\n"
-    ".reloc .Ltcp26+6525,R_X86_64_PC32,.Ltcp98+16\n"
+    ".reloc .Ltcp26+6525,R_X86_64_PC32,.Ltcp99+16\n"
     ".reloc .Ltcp26+6538,R_X86_64_PLT32,.Ltcp4-4\n"
     ".reloc .Ltcp26+7079,R_X86_64_PLT32,.Ltcp32-4\n"
     ".section .rodata.tcp.27,\"a\",%progbits\n"
@@ -1350,40 +1350,40 @@ __asm__(
     ".octa 0xfffcf8e9d2310cb64000000000082444\n"
     ".byte 0xff\n"
     ".reloc .Ltcp28+57,R_X86_64_PC32,.Ltcp29-4\n"
-    ".reloc .Ltcp28+89,R_X86_64_PC32,.Ltcp98+20\n"
+    ".reloc .Ltcp28+89,R_X86_64_PC32,.Ltcp99+20\n"
     ".reloc .Ltcp28+102,R_X86_64_PLT32,.Ltcp4-4\n"
-    ".reloc .Ltcp28+153,R_X86_64_PC32,.Ltcp138-4\n"
+    ".reloc .Ltcp28+153,R_X86_64_PC32,.Ltcp139-4\n"
     ".reloc .Ltcp28+166,R_X86_64_PLT32,.Ltcp4-4\n"
-    ".reloc .Ltcp28+213,R_X86_64_PC32,.Ltcp137-4\n"
+    ".reloc .Ltcp28+213,R_X86_64_PC32,.Ltcp138-4\n"
     ".reloc .Ltcp28+226,R_X86_64_PLT32,.Ltcp4-4\n"
     ".reloc .Ltcp28+270,R_X86_64_PC32,.Ltcp0+780\n"
     ".reloc .Ltcp28+304,R_X86_64_PC32,.Ltcp0+812\n"
-    ".reloc .Ltcp28+359,R_X86_64_PC32,.Ltcp146-4\n"
+    ".reloc .Ltcp28+359,R_X86_64_PC32,.Ltcp147-4\n"
     ".reloc .Ltcp28+372,R_X86_64_PLT32,.Ltcp4-4\n"
     ".reloc .Ltcp28+431,R_X86_64_PC32,.Ltcp0+764\n"
-    ".reloc .Ltcp28+496,R_X86_64_PC32,.Ltcp141-4\n"
+    ".reloc .Ltcp28+496,R_X86_64_PC32,.Ltcp142-4\n"
     ".reloc .Ltcp28+509,R_X86_64_PLT32,.Ltcp4-4\n"
-    ".reloc .Ltcp28+564,R_X86_64_PC32,.Ltcp147-4\n"
+    ".reloc .Ltcp28+564,R_X86_64_PC32,.Ltcp148-4\n"
     ".reloc .Ltcp28+577,R_X86_64_PLT32,.Ltcp4-4\n"
-    ".reloc .Ltcp28+633,R_X86_64_PC32,.Ltcp98+24\n"
+    ".reloc .Ltcp28+633,R_X86_64_PC32,.Ltcp99+24\n"
     ".reloc .Ltcp28+646,R_X86_64_PLT32,.Ltcp4-4\n"
-    ".reloc .Ltcp28+678,R_X86_64_PC32,.Ltcp140-4\n"
+    ".reloc .Ltcp28+678,R_X86_64_PC32,.Ltcp141-4\n"
     ".reloc .Ltcp28+691,R_X86_64_PLT32,.Ltcp4-4\n"
-    ".reloc .Ltcp28+732,R_X86_64_PC32,.Ltcp143-4\n"
+    ".reloc .Ltcp28+732,R_X86_64_PC32,.Ltcp144-4\n"
     ".reloc .Ltcp28+745,R_X86_64_PLT32,.Ltcp4-4\n"
-    ".reloc .Ltcp28+852,R_X86_64_PC32,.Ltcp139-4\n"
+    ".reloc .Ltcp28+852,R_X86_64_PC32,.Ltcp140-4\n"
     ".reloc .Ltcp28+865,R_X86_64_PLT32,.Ltcp4-4\n"
     ".reloc .Ltcp28+938,R_X86_64_PLT32,.Ltcp2-4\n"
     ".reloc .Ltcp28+1180,R_X86_64_PLT32,.Ltcp2-4\n"
     ".reloc .Ltcp28+1382,R_X86_64_PC32,.Ltcp29+12\n"
     ".reloc .Ltcp28+1493,R_X86_64_PLT32,.Ltcp2-4\n"
     ".reloc .Ltcp28+1986,R_X86_64_PLT32,.Ltcp2-4\n"
-    ".reloc .Ltcp28+2071,R_X86_64_PC32,.Ltcp118+20\n"
+    ".reloc .Ltcp28+2071,R_X86_64_PC32,.Ltcp119+20\n"
     ".reloc .Ltcp28+2084,R_X86_64_PLT32,.Ltcp4-4\n"
     ".reloc .Ltcp28+2237,R_X86_64_PLT32,.Ltcp7-4\n"
-    ".reloc .Ltcp28+2463,R_X86_64_PC32,.Ltcp148-4\n"
+    ".reloc .Ltcp28+2463,R_X86_64_PC32,.Ltcp149-4\n"
     ".reloc .Ltcp28+2476,R_X86_64_PLT32,.Ltcp4-4\n"
-    ".reloc .Ltcp28+2510,R_X86_64_PC32,.Ltcp149-4\n"
+    ".reloc .Ltcp28+2510,R_X86_64_PC32,.Ltcp150-4\n"
     ".reloc .Ltcp28+2523,R_X86_64_PLT32,.Ltcp4-4\n"
     ".section .rodata.tcp.29,\"a\",%progbits\n"
     ".balign 4\n"
@@ -1465,72 +1465,73 @@ __asm__(
     ".balign 16\n"
     ".Ltcp33:\n"
     ".type \"tcp_replay::party::Party::new_in::<#244039bd4e0652a3>\",%function\n"
-    ".size \"tcp_replay::party::Party::new_in::<#244039bd4e0652a3>\",2828\n"
+    ".size \"tcp_replay::party::Party::new_in::<#244039bd4e0652a3>\",2859\n"
     "\"tcp_replay::party::Party::new_in::<#244039bd4e0652a3>\":\n"
-    ".octa 0x298ec814853544155415641574155,0x8948028b486824448908428bfb894800,0x428b4c0c72b70f440c4a100ff3602444\n"
-    ".octa 0xf214ab60f442062b60f4418428b4810,0xbc89227a8b0000009c24bc8966267ab7,0x2484290fc0570f28528b480000009824\n"
-    ".octa 0xc7660000000001602484c76600000150,0x84c76600000000482444c700004c2444,0xb02484c7480000000000b824\n"
-    ".octa 0xa02484c748000001902484290f000000,0xf000002802484290f00000000000001,0xf000002602484290f00000270248429\n"
-    ".octa 0xf000002402484290f00000250248429,0xf000002202484290f00000230248429,0x1402484c76600000130248429\n"
-    ".octa 0x442444c76600000000402444c700,0xa02484c7480000000000a82484c766,0xc748000001702484290f000000000000\n"
-    ".octa 0x2102484290f00000000000001802484,0x1e02484290f000001d02484290f0000,0x2002484290f000001f02484290f0000\n"
-    ".octa 0x1c02484290f000001b02484290f0000,0x84c76600000000000000902484c70000,0x2444c766202444290f00000000009424\n"
-    ".octa 0xbdfb0949ff588d4cff788d49000030,0x1a824b48948000ffffffb8149000000,0x8101b540feb70f41c0c683414c770000\n"
-    ".octa 0x41c3950f4101fc8041397700000574ff,0xff804002b540df0844c7920f400ff980,0x3c8d4abfffffffffffffffbb491d7501\n"
-    ".octa 0x61c830fdf394c03b540c3ff491a,0x262444c748000000002e2444c7d23145,0x2444c76600000000082444c700000000\n"
+    ".octa 0x298ec814853544155415641574155,0x8b486024448908428bfb8948f7894900,0x4c0c72b70f0c4a100ff3582444894802\n"
+    ".octa 0x72b60f44204ab60f4418428b4810428b,0x227a8b0000009c24bc8966267ab70f21,0x290fc0570f28528b4c0000009824bc89\n"
+    ".octa 0x1602484c766000001502484,0x6600000000402444c70000442444c766,0xb02484c7480000000000b82484c7\n"
+    ".octa 0x84c748000001902484290f0000000000,0x2802484290f00000000000001a024,0x2602484290f000002702484290f00\n"
+    ".octa 0x2402484290f000002502484290f00,0x2202484290f000002302484290f00,0x1402484c766000001302484290f00\n"
+    ".octa 0x3c2444c76600000000382444c7000000,0x2484c7480000000000a82484c7660000,0x1702484290f00000000000000a0\n"
+    ".octa 0x2484290f00000000000001802484c748,0x2484290f000001d02484290f00000210,0x2484290f000001f02484290f000001e0\n"
+    ".octa 0x2484290f000001b02484290f00000200,0x6600000000000000902484c7000001c0,0xc766202444290f0000000000942484c7\n"
+    ".octa 0xfb0949ff588d4cff788d490000302444,0x24bc894c000ffffffb814900000000bd,0x8101b540f6b70fc0c6834a77000001a8\n"
+    ".octa 0x41c6950f4001f98041397700000574fe,0xff804002b540f70840c7920f400ffe80,0x3c8d49bfffffffffffffffbe481d7501\n"
+    ".octa 0x639830ff7394803b540c6ff4832,0x262444c748000000002e2444c7e43145,0x2444c76600000000082444c700000000\n"
     ".octa 0x2444c76600000000102444c74800000c,0x802484c748702444290f000018,0x2484290f000001202484290f00000000\n"
     ".octa 0x2484290f000000f02484290f000000e0,0x2484290f000001102484290f00000100,0xbb41000000d02484290f000000c0\n"
-    ".octa 0x44c74800000000b800000000b8410000,0x3145f63145e43145d231000000005824,0x502444c748ed3145c931f631ff\n"
-    ".octa 0x13624bc894826247c8b48c9314500,0x8247c8b0000013e24bc892e247c8b00,0x8b4844247c89660c247cb70f40247c89\n"
-    ".octa 0x18247cb70f000000a024bc894810247c,0x8c290f70244c280f000000a824bc8966,0xbc89480000008024bc8b480000017024\n"
-    ".octa 0x8c290f00000120248c280f0000018024,0x94280f000000e0248c280f0000021024,0xa4280f00000100249c280f000000f024\n"
-    ".octa 0x94290f000001d0248c290f0000011024,0xa4290f000001f0249c290f000001e024,0x94280f000000c0248c280f0000020024\n"
-    ".octa 0x94290f000001b0248c290f000000d024,0x44c76620244c290fc9570f000001c024,0x2444c76600000000102444c700003024\n"
-    ".octa 0x2444c76600000000602444c748000014,0x802484c74870244c290f000068,0x248c290f00000120248c290f00000000\n"
-    ".octa 0x248c290f000000f0248c290f000000e0,0x248c290f00000110248c290f00000100,0xfdb8445000000d0248c290f000000c0\n"
-    ".octa 0x86f8b0000013624bc8d48000000d784,0x40247c8b26247c89483f8b482e246c89,0x8b4814247c896644247cb70f10247c89\n"
-    ".octa 0xa824bcb70f60247c8948000000a024bc,0x170248c280f68247c8966000000,0xbc89480000018024bc8b4870244c290f\n"
-    ".octa 0x8c290f00000210248c280f0000008024,0x94280f000001d0248c280f0000012024,0xa4280f000001f0249c280f000001e024\n"
-    ".octa 0x9c290f0000011024a4290f0000020024,0x8c290f000000f02494290f0000010024,0x94280f000001b0248c280f000000e024\n"
-    ".octa 0x8c290f000000d02494290f000001c024,0x31c031452febc8280fed31000000c024,0x45e43145d23100000000582444c748c0\n"
-    ".octa 0x2444c748ed3145c931f631ff3145f631,0x892e247c8bc93145d231450000000050,0x5624bc894826247c8b480000015e24bc\n"
-    ".octa 0x14247cb70f48247c8910247c8b000001,0xb024bc894860247c8b484c247c8966,0xf000000b824bc896668247cb70f0000\n"
-    ".octa 0x24bc8b48000001902484290f70244428,0x2484280f000001a024bc894800000080,0x2484280f000002802484290f00000120\n"
-    ".octa 0x249c280f000000f02494280f000000e0,0x24a4290f0000011024a4280f00000100,0x2494290f00000260249c290f00000270\n"
-    ".octa 0x2484280f000002402484290f00000250,0x2484290f000000d02494280f000000c0,0x87b8d48000002302494290f00000220\n"
-    ".octa 0x8d4c000003c766000001f2840fdb8445,0x1b8b4d086f89086b8b4100000156249c,0x204389481843894c144b110ff31f894c\n"
-    ".octa 0x48247c8b295388287b884058247c8b48,0x3063894c2e7b89664c247cb70f2a7b89,0x2494b70f38538948000000b024948b48\n"
-    ".octa 0x4443c7427389446640538966000000b8,0x4843110f000001902484280f00000000,0x607b894c58538948000001a024948b48\n"
-    ".octa 0x7043110f000002802484280f6843894c,0x894c000000888b894800000080b38948,0x9883c74800000090ab\n"
-    ".octa 0x280f000000a8b38948000000a08b8948,0x280f00000250248c280f000002402484,0x110f00000270249c280f000002602494\n"
-    ".octa 0xc08b110f000000d093110f000000e09b,0x485024548b48000000b083110f000000,0xf883c748000000f09389\n"
-    ".octa 0x4400000108b389480000010083894800,0x11483c7000001109389,0x1208b8948000000000000011883c748\n"
-    ".octa 0x13083c748000001288b894c0000,0x140b38948000001388b894800000000,0x230248c280f000002202484280f0000\n"
-    ".octa 0x1588b110f0000014883110f0000,0x83110fc0570f00000168838948e08948,0x808b8948000001a8248c8b4800000170\n"
-    ".octa 0x19083110f00000188838948000001,0xf000001a8838948000001a08b894800,0x84b70f000001c08b8948000001b08311\n"
-    ".octa 0x9024848b000001ce8389660000009424,0x88400103c626eb000001ca8389000000,0xce83c76600000000000001ca83c7016b\n"
-    ".quad 0x1c0ba0000000001\n"
-    ".long 0xf6310000\n"
+    ".octa 0x2444c748d231c03100000000b8410000,0x502444c748f63145d231450000000068,0x482444c748c931c93145f63100000000\n"
+    ".octa 0x4826247c8b48ed3145ff314500000000,0x13e24bc892e247c8b0000013624bc89,0x660c247cb70f38247c8908247c8b0000\n"
+    ".octa 0xa024bc894810247c8b483c247c89,0x280f000000a824bc896618247cb70f00,0x8024bc8b4800000170248c290f70244c\n"
+    ".octa 0x20248c280f0000018024bc8948000000,0xe0248c280f00000210248c290f000001,0x249c280f000000f02494280f000000\n"
+    ".octa 0xd0248c290f0000011024a4280f000001,0xf0249c290f000001e02494290f000001,0xc0248c280f0000020024a4290f000001\n"
+    ".octa 0xb0248c290f000000d02494280f000000,0x290fc9570f000001c02494290f000001,0x102444c70000302444c76620244c\n"
+    ".octa 0x582444c7480000142444c7660000,0xc74870244c290f0000602444c7660000,0x120248c290f00000000000000802484\n"
+    ".octa 0xf0248c290f000000e0248c290f0000,0x110248c290f00000100248c290f0000,0xd0248c290f000000c0248c290f0000\n"
+    ".octa 0x3624bc8d48000000d7840fdb84450000,0x7c89483f8b482e246c89086f8b000001,0x663c247cb70f10247c8938247c8b2624\n"
+    ".octa 0x247c8948000000a024bc8b4814247c89,0x280f60247c8966000000a824bcb70f58,0x8024bc8b4870244c290f00000170248c\n"
+    ".octa 0x10248c280f0000008024bc8948000001,0xd0248c280f00000120248c290f000002,0xf0249c280f000001e02494280f000001\n"
+    ".octa 0x1024a4290f0000020024a4280f000001,0xf02494290f00000100249c290f000001,0xb0248c280f000000e0248c290f000000\n"
+    ".octa 0xd02494290f000001c02494280f000001,0xc8280fed31000000c0248c290f000000,0x682444c748d231c031c0314538eb\n"
+    ".octa 0x502444c748f63145d231450000,0x482444c748c931c93145e43145f63100,0xbc892e247c8bed3145ff314500000000\n"
+    ".octa 0x15624bc894826247c8b480000015e24,0x6614247cb70f40247c8910247c8b0000,0xb024bc894858247c8b4844247c89\n"
+    ".octa 0x280f000000b824bc896660247cb70f00,0x8024bc8b48000001902484290f702444,0x202484280f000001a024bc8948000000\n"
+    ".octa 0xe02484280f000002802484290f000001,0x249c280f000000f02494280f000000,0x7024a4290f0000011024a4280f000001\n"
+    ".octa 0x502494290f00000260249c290f000002,0xc02484280f000002402484290f000002,0x202484290f000000d02494280f000000\n"
+    ".octa 0x45087b8d48000002302494290f000002,0x9c8d4c000003c76600000200840fdb84,0x4c1b8b4d086f89086b8b410000015624\n"
+    ".octa 0x88204389481843894c144b110ff31f89,0x7b8940247c8b2953886824548b482853,0x8b483053894c2e7b896644247cb70f2a\n"
+    ".octa 0xb82494b70f38538948000000b02494,0x4443c74273894466405389660000,0x8b484843110f000001902484280f0000\n"
+    ".octa 0x485024548b4858538948000001a02494,0xf000002802484280f6843894c605389,0x88a3894400000080b38948704311\n"
+    ".octa 0x908b894c000000000000008c83c700,0x8b8948000000000000009883c7480000,0x402484280f000000a8b38948000000a0\n"
+    ".octa 0x602494280f00000250248c280f000002,0xe09b110f00000270249c280f000002,0xc08b110f000000d093110f0000\n"
+    ".octa 0xf09389484824548b48000000b083110f,0x894800000000000000f883c748000000,0x10bb894400000108b389480000010083\n"
+    ".octa 0x83c748000000000000011483c7000001,0x4c000001208b89480000000000000118,0x13083c74800000128ab89\n"
+    ".octa 0xf00000140b38948000001388b894800,0xf00000230248c280f00000220248428,0xe08948000001588b110f000001488311\n"
+    ".octa 0x17083110fc0570f00000168838948,0x1808b8948000001a8248c8b4800,0x89480000019083110f00000188838948\n"
+    ".octa 0xb083110f000001a8838948000001a08b,0x942484b70f000001c08b8948000001,0x9024848b000001ce8389660000\n"
+    ".octa 0xc7016b88400103c626eb000001ca8389,0x1ce83c76600000000000001ca83\n"
+    ".quad 0x31000001c0ba0000\n"
+    ".byte 0xf6\n"
     "call memset\n"
-    ".octa 0x298c481480000000001c883c766,0xffffb88d49c35d5f415e415d415c415b,0x8b4c3eb60f3472fff00000ff8148ffef\n"
-    ".octa 0x1046c74806110f10768b4c087e,0xbf830fc6394d187501ff804000,0xc71076894c087e894c0000000106c748\n"
-    ".octa 0x262444c748000000002e2444,0x4800000c2444c76600000000082444c7,0xf0000182444c76600000000102444c7\n"
-    ".octa 0x802484c74870244429,0xe02484290f000001202484290f,0x1002484290f000000f02484290f\n"
-    ".octa 0xc02484290f000001102484290f,0x314504b540db3145000000d02484290f,0x3145d23100000000582444c748c031c0\n"
-    ".octa 0xc748ed3145c931f631ff3145f63145e4,0x44fffff9a1e9d2314500000000502444,0xfc0f64110c78348001ffff0e781c789\n"
-    ".octa 0x106c748fe29493f2c8d4df8440f49,0x483574c985481076894c086e894c0000,0xcd3c8d48ffffff13850f3cefc148cf89\n"
-    ".octa 0x49000000001046c74806110f00000000,0xe9086e894c0000000106c7481d73fe39,0xebe58949ea894d582464894cfffffee7\n"
-    ".octa 0xc38349f0e38349fb8949582464894c2d,0x48de294d2b148d4fdf440f4c01c1f610,0x8d481076894c0856894c0000000106c7\n"
-    ".octa 0xfe9d820ffff00000ff8148ffefffffb8,0xc63949000000001046c74806110fffff,0xfe79e90856894c0000000106c7481073\n"
-    ".octa 0xfa810c78348001ffff0e781c789ffff,0x106c748fe29493a2c8d49f8440f48,0x482874c985481076894c086e89480000\n"
-    ".octa 0x1046c74806110f00000000cd3c8d,0x89480000000106c7482073fe39490000,0x54894cca894cd48949fffffe24e9086e\n"
-    ".octa 0x54894cca894cd4894936ebe189495024,0x1c1f610c38349f0e38349fb89495024,0xc748de294d2b3c8d49e98949df440f4c\n"
-    ".octa 0xf789481076894c087e89480000000106,0x7489486024748b482e2474896824748b,0xb4b70f082474890000009824b48b2624\n"
-    ".octa 0x102444c7480c247489660000009c24,0x48702444290f0000182444c766000000,0x202484290f00000000000000802484c7\n"
-    ".octa 0xf02484290f000000e02484290f000001,0x102484290f000001002484290f000000,0xc02484290f000000d02484290f000001\n"
-    ".octa 0xfe8948ed3101b3410218be4166000000\n"
-    ".quad 0x98e9c1280fc28941\n"
-    ".short 0xfff7\n"
+    ".octa 0x298c481480000000001c883c766,0x682474894cc35d5f415e415d415c415b,0x3672fff00000fe8148ffefffffb08d49\n"
+    ".octa 0x7110f4110778b49086f8b4d3fb60f41,0x394c187501ff8040000000001047c749,0x894d0000000107c749000000b7830fc6\n"
+    ".octa 0xc748000000002e2444c710778949086f,0x6600000000082444c700000000262444,0x6600000000102444c74800000c2444c7\n"
+    ".octa 0x802484c748702444290f0000182444c7,0xf000001202484290f00000000000000,0xf000000f02484290f000000e0248429\n"
+    ".octa 0xf000001102484290f00000100248429,0x45000000d02484290f000000c0248429,0x2444c748d231c031c0314504b540db31\n"
+    ".octa 0x502444c748f63145d231450000000068,0x8944fffff97ae9e43145f63100000000,0x490fc0f64110c78348001ffff0e781c7\n"
+    ".octa 0x107c749fe29482f348d4ef8440f,0x89483674c98548107789490877894d00,0xcd3c8d48ffffff1b850f3cefc148cf\n"
+    ".octa 0x48000000001047c74907110f41000000,0xe90877894d0000000107c7491873fe39,0x49fb894928ebe68949f2894cfffffeee\n"
+    ".octa 0x8d4bdf440f4c01c1f610c38349f0e383,0x85789490000000107c749de294c1e14,0xff8148ffefffffb88d4810778949\n"
+    ".octa 0x1047c74907110f41fffffeae820ffff0,0x107c7491073c6394800000000,0x1ffff0e781c789fffffe89e908578949\n"
+    ".octa 0x483a2c8d48f8440f480fa810c7834800,0x778949086f89490000000107c749fe29,0xf4100000000cd3c8d482974c9854810\n"
+    ".octa 0x492573fe3948000000001047c7490711,0x48fffffe33e9086f89490000000107c7,0x4950246c894cf1894dca894c48245489\n"
+    ".octa 0x4cf1894dca894c48245489483bebe589,0xf610c38349f0e38349fb894950246c89,0xde294c2b3c8d49ed8949df440f4c01c1\n"
+    ".octa 0x8b10778949087f89490000000107c749,0x247489485824748b482e247489602474,0x24b4b70f082474890000009824b48b26\n"
+    ".octa 0x102444c7480c247489660000009c,0xc748702444290f0000182444c7660000,0x1202484290f00000000000000802484\n"
+    ".octa 0xf02484290f000000e02484290f0000,0x1102484290f000001002484290f0000,0xc02484290f000000d02484290f0000\n"
+    ".octa 0x41fe894ced3101b3410218be41660000\n"
+    ".quad 0xc1280fc78941cc89\n"
+    ".long 0xfff77fe9\n"
     ".byte 0xff\n"
     ".section .text.tcp.34,\"ax\",%progbits\n"
     ".balign 16\n"
@@ -1765,112 +1766,112 @@ __asm__(
     ".long 0xb1eb1060\n"
     ".reloc .Ltcp34+292,R_X86_64_PLT32,.Ltcp36-4\n"
     ".reloc .Ltcp34+348,R_X86_64_PC32,.Ltcp35+128\n"
-    ".reloc .Ltcp34+817,R_X86_64_PC32,.Ltcp118+44\n"
-    ".reloc .Ltcp34+857,R_X86_64_PC32,.Ltcp103-4\n"
-    ".reloc .Ltcp34+979,R_X86_64_PLT32,.Ltcp79-4\n"
-    ".reloc .Ltcp34+1124,R_X86_64_PLT32,.Ltcp85-4\n"
+    ".reloc .Ltcp34+817,R_X86_64_PC32,.Ltcp119+44\n"
+    ".reloc .Ltcp34+857,R_X86_64_PC32,.Ltcp104-4\n"
+    ".reloc .Ltcp34+979,R_X86_64_PLT32,.Ltcp80-4\n"
+    ".reloc .Ltcp34+1124,R_X86_64_PLT32,.Ltcp86-4\n"
     ".reloc .Ltcp34+1240,R_X86_64_PLT32,.Ltcp36-4\n"
-    ".reloc .Ltcp34+1357,R_X86_64_PLT32,.Ltcp73-4\n"
-    ".reloc .Ltcp34+1372,R_X86_64_PLT32,.Ltcp74-4\n"
-    ".reloc .Ltcp34+1468,R_X86_64_PLT32,.Ltcp83-4\n"
-    ".reloc .Ltcp34+1648,R_X86_64_PLT32,.Ltcp74-4\n"
-    ".reloc .Ltcp34+1757,R_X86_64_PC32,.Ltcp152-4\n"
+    ".reloc .Ltcp34+1357,R_X86_64_PLT32,.Ltcp74-4\n"
+    ".reloc .Ltcp34+1372,R_X86_64_PLT32,.Ltcp75-4\n"
+    ".reloc .Ltcp34+1468,R_X86_64_PLT32,.Ltcp84-4\n"
+    ".reloc .Ltcp34+1648,R_X86_64_PLT32,.Ltcp75-4\n"
+    ".reloc .Ltcp34+1757,R_X86_64_PC32,.Ltcp153-4\n"
     ".reloc .Ltcp34+1969,R_X86_64_PC32,.Ltcp35-4\n"
-    ".reloc .Ltcp34+2024,R_X86_64_PC32,.Ltcp171-4\n"
-    ".reloc .Ltcp34+2076,R_X86_64_PLT32,.Ltcp86-4\n"
-    ".reloc .Ltcp34+2096,R_X86_64_PC32,.Ltcp118+44\n"
-    ".reloc .Ltcp34+2111,R_X86_64_PLT32,.Ltcp77-4\n"
-    ".reloc .Ltcp34+2139,R_X86_64_PLT32,.Ltcp84-4\n"
-    ".reloc .Ltcp34+2192,R_X86_64_PLT32,.Ltcp79-4\n"
-    ".reloc .Ltcp34+2247,R_X86_64_PC32,.Ltcp170-4\n"
-    ".reloc .Ltcp34+2290,R_X86_64_PC32,.Ltcp100-4\n"
-    ".reloc .Ltcp34+2326,R_X86_64_PLT32,.Ltcp87-4\n"
-    ".reloc .Ltcp34+2379,R_X86_64_PLT32,.Ltcp73-4\n"
-    ".reloc .Ltcp34+2472,R_X86_64_PLT32,.Ltcp82-4\n"
-    ".reloc .Ltcp34+2517,R_X86_64_PC32,.Ltcp101-4\n"
-    ".reloc .Ltcp34+2599,R_X86_64_PC32,.Ltcp154-4\n"
-    ".reloc .Ltcp34+2657,R_X86_64_PC32,.Ltcp156-4\n"
-    ".reloc .Ltcp34+2664,R_X86_64_PC32,.Ltcp157-4\n"
-    ".reloc .Ltcp34+2791,R_X86_64_PLT32,.Ltcp83-4\n"
+    ".reloc .Ltcp34+2024,R_X86_64_PC32,.Ltcp172-4\n"
+    ".reloc .Ltcp34+2076,R_X86_64_PLT32,.Ltcp87-4\n"
+    ".reloc .Ltcp34+2096,R_X86_64_PC32,.Ltcp119+44\n"
+    ".reloc .Ltcp34+2111,R_X86_64_PLT32,.Ltcp78-4\n"
+    ".reloc .Ltcp34+2139,R_X86_64_PLT32,.Ltcp85-4\n"
+    ".reloc .Ltcp34+2192,R_X86_64_PLT32,.Ltcp80-4\n"
+    ".reloc .Ltcp34+2247,R_X86_64_PC32,.Ltcp171-4\n"
+    ".reloc .Ltcp34+2290,R_X86_64_PC32,.Ltcp101-4\n"
+    ".reloc .Ltcp34+2326,R_X86_64_PLT32,.Ltcp88-4\n"
+    ".reloc .Ltcp34+2379,R_X86_64_PLT32,.Ltcp74-4\n"
+    ".reloc .Ltcp34+2472,R_X86_64_PLT32,.Ltcp83-4\n"
+    ".reloc .Ltcp34+2517,R_X86_64_PC32,.Ltcp102-4\n"
+    ".reloc .Ltcp34+2599,R_X86_64_PC32,.Ltcp155-4\n"
+    ".reloc .Ltcp34+2657,R_X86_64_PC32,.Ltcp157-4\n"
+    ".reloc .Ltcp34+2664,R_X86_64_PC32,.Ltcp158-4\n"
+    ".reloc .Ltcp34+2791,R_X86_64_PLT32,.Ltcp84-4\n"
     ".reloc .Ltcp34+2810,R_X86_64_PC32,.Ltcp35+20\n"
-    ".reloc .Ltcp34+2837,R_X86_64_PLT32,.Ltcp82-4\n"
-    ".reloc .Ltcp34+2877,R_X86_64_PLT32,.Ltcp84-4\n"
-    ".reloc .Ltcp34+2905,R_X86_64_PC32,.Ltcp103-4\n"
-    ".reloc .Ltcp34+2920,R_X86_64_PLT32,.Ltcp77-4\n"
-    ".reloc .Ltcp34+2988,R_X86_64_PLT32,.Ltcp84-4\n"
-    ".reloc .Ltcp34+3116,R_X86_64_PC32,.Ltcp151-4\n"
-    ".reloc .Ltcp34+3158,R_X86_64_PC32,.Ltcp152-4\n"
-    ".reloc .Ltcp34+3181,R_X86_64_PLT32,.Ltcp76-4\n"
-    ".reloc .Ltcp34+3199,R_X86_64_PLT32,.Ltcp84-4\n"
-    ".reloc .Ltcp34+3251,R_X86_64_PC32,.Ltcp159-4\n"
-    ".reloc .Ltcp34+3324,R_X86_64_PC32,.Ltcp160-4\n"
-    ".reloc .Ltcp34+3463,R_X86_64_PC32,.Ltcp186-4\n"
-    ".reloc .Ltcp34+3474,R_X86_64_PC32,.Ltcp187-4\n"
-    ".reloc .Ltcp34+3658,R_X86_64_PLT32,.Ltcp84-4\n"
-    ".reloc .Ltcp34+3709,R_X86_64_PC32,.Ltcp155-4\n"
-    ".reloc .Ltcp34+3764,R_X86_64_PC32,.Ltcp153-4\n"
-    ".reloc .Ltcp34+3894,R_X86_64_PC32,.Ltcp186-4\n"
-    ".reloc .Ltcp34+3905,R_X86_64_PC32,.Ltcp187-4\n"
-    ".reloc .Ltcp34+4386,R_X86_64_PLT32,.Ltcp84-4\n"
+    ".reloc .Ltcp34+2837,R_X86_64_PLT32,.Ltcp83-4\n"
+    ".reloc .Ltcp34+2877,R_X86_64_PLT32,.Ltcp85-4\n"
+    ".reloc .Ltcp34+2905,R_X86_64_PC32,.Ltcp104-4\n"
+    ".reloc .Ltcp34+2920,R_X86_64_PLT32,.Ltcp78-4\n"
+    ".reloc .Ltcp34+2988,R_X86_64_PLT32,.Ltcp85-4\n"
+    ".reloc .Ltcp34+3116,R_X86_64_PC32,.Ltcp152-4\n"
+    ".reloc .Ltcp34+3158,R_X86_64_PC32,.Ltcp153-4\n"
+    ".reloc .Ltcp34+3181,R_X86_64_PLT32,.Ltcp77-4\n"
+    ".reloc .Ltcp34+3199,R_X86_64_PLT32,.Ltcp85-4\n"
+    ".reloc .Ltcp34+3251,R_X86_64_PC32,.Ltcp160-4\n"
+    ".reloc .Ltcp34+3324,R_X86_64_PC32,.Ltcp161-4\n"
+    ".reloc .Ltcp34+3463,R_X86_64_PC32,.Ltcp187-4\n"
+    ".reloc .Ltcp34+3474,R_X86_64_PC32,.Ltcp188-4\n"
+    ".reloc .Ltcp34+3658,R_X86_64_PLT32,.Ltcp85-4\n"
+    ".reloc .Ltcp34+3709,R_X86_64_PC32,.Ltcp156-4\n"
+    ".reloc .Ltcp34+3764,R_X86_64_PC32,.Ltcp154-4\n"
+    ".reloc .Ltcp34+3894,R_X86_64_PC32,.Ltcp187-4\n"
+    ".reloc .Ltcp34+3905,R_X86_64_PC32,.Ltcp188-4\n"
+    ".reloc .Ltcp34+4386,R_X86_64_PLT32,.Ltcp85-4\n"
     ".reloc .Ltcp34+4442,R_X86_64_PLT32,.Ltcp23-4\n"
-    ".reloc .Ltcp34+4464,R_X86_64_PLT32,.Ltcp84-4\n"
-    ".reloc .Ltcp34+4514,R_X86_64_PLT32,.Ltcp84-4\n"
-    ".reloc .Ltcp34+4563,R_X86_64_PLT32,.Ltcp84-4\n"
-    ".reloc .Ltcp34+4623,R_X86_64_PLT32,.Ltcp84-4\n"
-    ".reloc .Ltcp34+4671,R_X86_64_PLT32,.Ltcp84-4\n"
-    ".reloc .Ltcp34+4723,R_X86_64_PLT32,.Ltcp84-4\n"
+    ".reloc .Ltcp34+4464,R_X86_64_PLT32,.Ltcp85-4\n"
+    ".reloc .Ltcp34+4514,R_X86_64_PLT32,.Ltcp85-4\n"
+    ".reloc .Ltcp34+4563,R_X86_64_PLT32,.Ltcp85-4\n"
+    ".reloc .Ltcp34+4623,R_X86_64_PLT32,.Ltcp85-4\n"
+    ".reloc .Ltcp34+4671,R_X86_64_PLT32,.Ltcp85-4\n"
+    ".reloc .Ltcp34+4723,R_X86_64_PLT32,.Ltcp85-4\n"
     ".reloc .Ltcp34+4781,R_X86_64_PLT32,.Ltcp8-4\n"
-    ".reloc .Ltcp34+4801,R_X86_64_PLT32,.Ltcp84-4\n"
-    ".reloc .Ltcp34+4851,R_X86_64_PLT32,.Ltcp84-4\n"
-    ".reloc .Ltcp34+4901,R_X86_64_PLT32,.Ltcp84-4\n"
+    ".reloc .Ltcp34+4801,R_X86_64_PLT32,.Ltcp85-4\n"
+    ".reloc .Ltcp34+4851,R_X86_64_PLT32,.Ltcp85-4\n"
+    ".reloc .Ltcp34+4901,R_X86_64_PLT32,.Ltcp85-4\n"
     ".reloc .Ltcp34+5363,R_X86_64_PC32,.Ltcp0+828\n"
-    ".reloc .Ltcp34+5492,R_X86_64_PLT32,.Ltcp84-4\n"
-    ".reloc .Ltcp34+5541,R_X86_64_PLT32,.Ltcp84-4\n"
-    ".reloc .Ltcp34+5596,R_X86_64_PLT32,.Ltcp84-4\n"
-    ".reloc .Ltcp34+5874,R_X86_64_PC32,.Ltcp158-4\n"
+    ".reloc .Ltcp34+5492,R_X86_64_PLT32,.Ltcp85-4\n"
+    ".reloc .Ltcp34+5541,R_X86_64_PLT32,.Ltcp85-4\n"
+    ".reloc .Ltcp34+5596,R_X86_64_PLT32,.Ltcp85-4\n"
+    ".reloc .Ltcp34+5874,R_X86_64_PC32,.Ltcp159-4\n"
     ".reloc .Ltcp34+5962,R_X86_64_PC32,.Ltcp35+36\n"
-    ".reloc .Ltcp34+5978,R_X86_64_PC32,.Ltcp107-4\n"
-    ".reloc .Ltcp34+6008,R_X86_64_PC32,.Ltcp109-4\n"
-    ".reloc .Ltcp34+6020,R_X86_64_PC32,.Ltcp106-4\n"
-    ".reloc .Ltcp34+6254,R_X86_64_PC32,.Ltcp111-4\n"
-    ".reloc .Ltcp34+6279,R_X86_64_PC32,.Ltcp112-4\n"
-    ".reloc .Ltcp34+6313,R_X86_64_PC32,.Ltcp113-4\n"
-    ".reloc .Ltcp34+6348,R_X86_64_PC32,.Ltcp105-4\n"
-    ".reloc .Ltcp34+6383,R_X86_64_PC32,.Ltcp114-4\n"
-    ".reloc .Ltcp34+6418,R_X86_64_PC32,.Ltcp115-4\n"
-    ".reloc .Ltcp34+6453,R_X86_64_PC32,.Ltcp107-4\n"
-    ".reloc .Ltcp34+6488,R_X86_64_PC32,.Ltcp116-4\n"
-    ".reloc .Ltcp34+6998,R_X86_64_PLT32,.Ltcp77-4\n"
-    ".reloc .Ltcp34+7171,R_X86_64_PLT32,.Ltcp84-4\n"
-    ".reloc .Ltcp34+7212,R_X86_64_PC32,.Ltcp117-4\n"
-    ".reloc .Ltcp34+7230,R_X86_64_PLT32,.Ltcp77-4\n"
-    ".reloc .Ltcp34+7261,R_X86_64_PLT32,.Ltcp84-4\n"
-    ".reloc .Ltcp34+7297,R_X86_64_PC32,.Ltcp105-4\n"
-    ".reloc .Ltcp34+7311,R_X86_64_PC32,.Ltcp108-4\n"
-    ".reloc .Ltcp34+7320,R_X86_64_PC32,.Ltcp110-4\n"
-    ".reloc .Ltcp34+7608,R_X86_64_PC32,.Ltcp104-4\n"
-    ".reloc .Ltcp34+7717,R_X86_64_PC32,.Ltcp104-4\n"
-    ".reloc .Ltcp34+7754,R_X86_64_PC32,.Ltcp104-4\n"
-    ".reloc .Ltcp34+7877,R_X86_64_PC32,.Ltcp104-4\n"
-    ".reloc .Ltcp34+7997,R_X86_64_PC32,.Ltcp104-4\n"
-    ".reloc .Ltcp34+8129,R_X86_64_PC32,.Ltcp104-4\n"
-    ".reloc .Ltcp34+8166,R_X86_64_PC32,.Ltcp104-4\n"
-    ".reloc .Ltcp34+8222,R_X86_64_PC32,.Ltcp104-4\n"
-    ".reloc .Ltcp34+8352,R_X86_64_PC32,.Ltcp104-4\n"
-    ".reloc .Ltcp34+8442,R_X86_64_PC32,.Ltcp104-4\n"
-    ".reloc .Ltcp34+8479,R_X86_64_PC32,.Ltcp104-4\n"
-    ".reloc .Ltcp34+8790,R_X86_64_PC32,.Ltcp104-4\n"
-    ".reloc .Ltcp34+8854,R_X86_64_PLT32,.Ltcp84-4\n"
-    ".reloc .Ltcp34+9001,R_X86_64_PLT32,.Ltcp84-4\n"
-    ".reloc .Ltcp34+9040,R_X86_64_PLT32,.Ltcp84-4\n"
-    ".reloc .Ltcp34+9081,R_X86_64_PC32,.Ltcp99-4\n"
-    ".reloc .Ltcp34+9099,R_X86_64_PLT32,.Ltcp77-4\n"
-    ".reloc .Ltcp34+9127,R_X86_64_PLT32,.Ltcp84-4\n"
+    ".reloc .Ltcp34+5978,R_X86_64_PC32,.Ltcp108-4\n"
+    ".reloc .Ltcp34+6008,R_X86_64_PC32,.Ltcp110-4\n"
+    ".reloc .Ltcp34+6020,R_X86_64_PC32,.Ltcp107-4\n"
+    ".reloc .Ltcp34+6254,R_X86_64_PC32,.Ltcp112-4\n"
+    ".reloc .Ltcp34+6279,R_X86_64_PC32,.Ltcp113-4\n"
+    ".reloc .Ltcp34+6313,R_X86_64_PC32,.Ltcp114-4\n"
+    ".reloc .Ltcp34+6348,R_X86_64_PC32,.Ltcp106-4\n"
+    ".reloc .Ltcp34+6383,R_X86_64_PC32,.Ltcp115-4\n"
+    ".reloc .Ltcp34+6418,R_X86_64_PC32,.Ltcp116-4\n"
+    ".reloc .Ltcp34+6453,R_X86_64_PC32,.Ltcp108-4\n"
+    ".reloc .Ltcp34+6488,R_X86_64_PC32,.Ltcp117-4\n"
+    ".reloc .Ltcp34+6998,R_X86_64_PLT32,.Ltcp78-4\n"
+    ".reloc .Ltcp34+7171,R_X86_64_PLT32,.Ltcp85-4\n"
+    ".reloc .Ltcp34+7212,R_X86_64_PC32,.Ltcp118-4\n"
+    ".reloc .Ltcp34+7230,R_X86_64_PLT32,.Ltcp78-4\n"
+    ".reloc .Ltcp34+7261,R_X86_64_PLT32,.Ltcp85-4\n"
+    ".reloc .Ltcp34+7297,R_X86_64_PC32,.Ltcp106-4\n"
+    ".reloc .Ltcp34+7311,R_X86_64_PC32,.Ltcp109-4\n"
+    ".reloc .Ltcp34+7320,R_X86_64_PC32,.Ltcp111-4\n"
+    ".reloc .Ltcp34+7608,R_X86_64_PC32,.Ltcp105-4\n"
+    ".reloc .Ltcp34+7717,R_X86_64_PC32,.Ltcp105-4\n"
+    ".reloc .Ltcp34+7754,R_X86_64_PC32,.Ltcp105-4\n"
+    ".reloc .Ltcp34+7877,R_X86_64_PC32,.Ltcp105-4\n"
+    ".reloc .Ltcp34+7997,R_X86_64_PC32,.Ltcp105-4\n"
+    ".reloc .Ltcp34+8129,R_X86_64_PC32,.Ltcp105-4\n"
+    ".reloc .Ltcp34+8166,R_X86_64_PC32,.Ltcp105-4\n"
+    ".reloc .Ltcp34+8222,R_X86_64_PC32,.Ltcp105-4\n"
+    ".reloc .Ltcp34+8352,R_X86_64_PC32,.Ltcp105-4\n"
+    ".reloc .Ltcp34+8442,R_X86_64_PC32,.Ltcp105-4\n"
+    ".reloc .Ltcp34+8479,R_X86_64_PC32,.Ltcp105-4\n"
+    ".reloc .Ltcp34+8790,R_X86_64_PC32,.Ltcp105-4\n"
+    ".reloc .Ltcp34+8854,R_X86_64_PLT32,.Ltcp85-4\n"
+    ".reloc .Ltcp34+9001,R_X86_64_PLT32,.Ltcp85-4\n"
+    ".reloc .Ltcp34+9040,R_X86_64_PLT32,.Ltcp85-4\n"
+    ".reloc .Ltcp34+9081,R_X86_64_PC32,.Ltcp100-4\n"
+    ".reloc .Ltcp34+9099,R_X86_64_PLT32,.Ltcp78-4\n"
+    ".reloc .Ltcp34+9127,R_X86_64_PLT32,.Ltcp85-4\n"
     ".reloc .Ltcp34+9410,R_X86_64_PLT32,.Ltcp9-4\n"
-    ".reloc .Ltcp34+9458,R_X86_64_PLT32,.Ltcp81-4\n"
-    ".reloc .Ltcp34+9535,R_X86_64_PLT32,.Ltcp81-4\n"
-    ".reloc .Ltcp34+9565,R_X86_64_PLT32,.Ltcp84-4\n"
-    ".reloc .Ltcp34+9643,R_X86_64_PLT32,.Ltcp84-4\n"
+    ".reloc .Ltcp34+9458,R_X86_64_PLT32,.Ltcp82-4\n"
+    ".reloc .Ltcp34+9535,R_X86_64_PLT32,.Ltcp82-4\n"
+    ".reloc .Ltcp34+9565,R_X86_64_PLT32,.Ltcp85-4\n"
+    ".reloc .Ltcp34+9643,R_X86_64_PLT32,.Ltcp85-4\n"
     ".section .rodata.tcp.35,\"a\",%progbits\n"
     ".balign 4\n"
     ".Ltcp35:\n"
@@ -1922,97 +1923,97 @@ __asm__(
     ".balign 16\n"
     ".Ltcp36:\n"
     ".type \"tcp_replay::world::step_at::<#092612425c726c7d>\",%function\n"
-    ".size \"tcp_replay::world::step_at::<#092612425c726c7d>\",5736\n"
+    ".size \"tcp_replay::world::step_at::<#092612425c726c7d>\",5936\n"
     "\"tcp_replay::world::step_at::<#092612425c726c7d>\":\n"
     ".octa 0x570f78ec834853544155415641574155,0x202444c7482404290f102444290fc0,0x634900000000158d4c01b60f41000000\n"
-    ".octa 0xe8850fc0843141b60fe0ffd0014c8204,0x2de850f01b6400030798001b2000002,0x5189023041c60470b70f41108b410000\n"
-    ".octa 0x41c748000000004041c7483871896634,0x452e9010000014081c60000000148,0x602444c748502444290f08418b4900\n"
-    ".octa 0xcf860f00000168813948000000,0x4a400c8d4c04e0c14800000160b18b48,0x8b4e00000502870f0df88348080e448b\n"
-    ".octa 0xe0a8b60f41000000d8988b4d200e54,0xb60f00000650e9f63145db31d2890000,0xed3103b2000003b5840fdb8401b03159\n"
-    ".octa 0xb60f4110798b4d08518b4d00000be9e9,0x602444c748502444290f1869,0x4e9840fed844056760000016891394c\n"
-    ".octa 0xc8d4f04e2c14900000160818b480000,0x4c000005bf860ffa394d0808548b4e52,0x8b4a000006d1870f0dfa834928245489\n"
-    ".octa 0xe0a0b60f45000000d8988b4d20085c,0x6600000890e9ed3145f63145d2890000,0xfb8948e08948000008c2e900012404c7\n"
-    ".octa 0x1e900000001b9ce8948f28948c78948,0x190818b4810798b4d08718b4d000003,0x7bf870fc7394900000188812b480000\n"
-    ".octa 0x100000000000000b8483169b60f0000,0x4c766db3103b100000313840fed8440,0x244c88092444894801082444c6000024\n"
-    ".octa 0x44c600000000132444c712246c884011,0x202444c74818245c8948001724,0x110b18b4c08598b4900000b16e900\n"
-    ".octa 0x48000001b0818b48de420f49de394900,0x480000076a870fc33948000001a8812b,0xfe24f0893171b60f000002c0840fdb85\n"
-    ".octa 0x5489480100000000000000ba4803b241,0x840f30710a40000002c0840f023c2824,0x358d4c00000110b98b4c000005b4\n"
-    ".octa 0x108818b0000063b840fff854d0000,0xd73949f22948c289480000010cb18b00,0xff039000000e8918b48000006cf860f\n"
-    ".octa 0xb60f41000007ffe9d68948000007f785,0x8300000262840f02f8833051b60f0241,0xf0000044fbec03100000291850f01f8\n"
-    ".octa 0x4800000090818b48000005c4820fd6a3,0x8b00000088918b480000031c840fc085,0xff48f0014850718b4840518b48fcc244\n"
-    ".octa 0xb091894800000001000000a881c748c0,0xf00000233e9000000b8818948000000,0x1b203b64000000195840fc0843141b6\n"
-    ".octa 0x7488400924548800082444c6002404c6,0xb23159b60f000009c7e90b2444880a24,0x843051b60f0000099f850fdb8401b003\n"
-    ".octa 0x4fa80fdc280fe8949000003a9840fd2,0xc74841033871b70f34518b08418b3577,0x14cb18966000000010000014481\n"
-    ".octa 0x5481c748000001508189000001489189,0xe800000003becf894800000000000001,0x93ae9f7894cd231c03100000000\n"
-    ".octa 0x43041b60f0b750000000141b98001b0,0x2404c6000001418188c0920f033cfc,0x44fbec0313051b60f00000657e9\n"
-    ".octa 0x518b4840418b48000001f9820fd6a30f,0xf440c71b70f000001e6830fd0394848,0xba41013e7980c031453a49b7\n"
-    ".octa 0x4bb4104fa834900000128918b4c2475,0x4dd148d46d2854dda420f4d000000,0x4466f1420f41f1394166d0440f450000\n"
-    ".octa 0x48d63948c60148f6b70ff0420f41d629,0x894800000001000000a881c748f2430f,0x6fe901b0000000b8b18948000000b081\n"
-    ".octa 0x48f28948c78948fb8948e08948000001,0x87be9df894800000000e8c931ce89,0x3279800000025c840fd2853051b60f00\n"
-    ".octa 0x81ee9ed3102b20000032a840f00,0xc6fffffe61850f01b6400030798001b2,0x3059b60ffffffe54e9f631d231013041\n"
-    ".octa 0x2df850f01fb83000002e1840fdb85,0xfe24f0893171b60ffffffcd3e905b100,0x3c28245489480100000000000000ba48\n"
-    ".octa 0xdbfe9c03103b241000000ff850f02,0x1003041c766000000da850f0afa8300,0x14281c600000000014081c766\n"
-    ".octa 0xb881c748000000a881110f,0x44fbec03100000343e901b00000,0xc0920f48413b4840418b480b72d6a30f\n"
-    ".octa 0x2d0820fd0a30f410000044fb841f631,0x2c0850f48413b4c40418b4c0000,0xb941c8294df631c1ff4950498b4c\n"
-    ".octa 0x2a2860f6849394cc8430f4d0000,0x292e9c6940f4000000000c0b983,0x8b4d0d5bb60f41200e548b4e0e1c8b4e\n"
-    ".octa 0xf6d289000000e0a8b60f41000000d898,0x13ee9f631450000012f850f10c3,0xe90924448803082444c6002404c6c031\n"
-    ".octa 0x12404c76600000291e9c031000002a8,0xe4e840f30710a40c03100000426e901,0xc0311075013c798000000108a98b0000\n"
-    ".octa 0x2944c2b60fd0450f2151b60f01207980,0x10c938bd98948edd3c189cb8948f5,0x820fd63948f0894d000000f0b38b4800\n"
-    ".octa 0x128b983480e75c0854d000008e6,0x39c0310000010c918b000005e5840f00,0xb60f0000010c8189c2450f0000010891\n"
-    ".octa 0x2d75ed85317702fa80c031fcc2803051,0xc0311075013c7980c03100000108918b,0x2944c1b60fc8450f2149b60f01207980\n"
-    ".octa 0x41b980c0950fd285d98948ead3c189c2,0x88d0440f00000001bac0b60f00000001,0x2da840ff6854d01b00000014191\n"
-    ".octa 0xc76600000d72e900000000282444c748,0x5cce9ed3100000333e902012404,0xf41d6294940708b4d000005e3e9d231\n"
-    ".octa 0xf44fe2045c6960f41280e74394ec793,0xdc440f4dffffffffc4c749c3ff49fdb6,0xda394dc2930fd32949dc420f4dfb014d\n"
-    ".octa 0xf6f20844d220440f7504c3f6c2960f41,0x24548d480e0c8b4e000002ce850f01c2,0xc9894cca8948c6894cd78948fb894850\n"
-    ".octa 0x502444b60fdf894800000000e8c08949,0x2404c7666024548b4858244cb60f,0x2444c700000000092444c705082444c6\n"
-    ".octa 0x4818244c89481024448948000000000c,0xfffff9fde9d98900000553e920245489,0xfff9eae902b1000000e7840f00327980\n"
-    ".octa 0x58d48caff01b540013241c6ff,0xcf8948fe8949e2ffc201489014634800,0xf9894c00000000e8cf894900000003be\n"
-    ".octa 0x4e00000c51e9c031000004c2e9f7894c,0x988b4d0d73b60f4520085c8b4a081c8b,0xf641d289000000e0a0b60f45000000d8\n"
-    ".octa 0x1afe9ed3145000001a0850f10c6,0xb740000000090b983482b74c084f631,0xa881c748000000000000009081c748\n"
-    ".octa 0xb081110f4041100f000000010000,0x1409108c2940f02fa80fee28000,0x2404c6d008f0084000000142b10840\n"
-    ".octa 0x2444110fc0570f0924448803082444c6,0x1ebe9f6894cff314500000461e90a,0x68418b4c28518b48c1940f41ff854d00\n"
-    ".octa 0x845c2970f41f23948c6014c50718b48,0x188a98d4c000001aa850f01fa8041ca,0x4860718b48c2430f48f22948c0310000\n"
-    ".octa 0x49df3949d8420f48d83948c3294cf389,0x58418b4800000559840fdb8548df420f,0xf4cf33949c93145021c8d4f70518b4c\n"
-    ".octa 0x3948fa294cf28948cf294ddf894dce43,0x8348000008e3840ffe294cd3430f48da,0xff31450000063e830f28244c894c04fa\n"
-    ".octa 0x13be9000000e8b1034800000810e9,0x894cc78948fb894800000180818d4800,0x84df8948e1894c00000000e8cc8949fe\n"
-    ".octa 0x1a0818d4826ebfffff81b850fc0,0xe8cf8949de8948c78948fe8949,0x66fffff879850fc084f7894cf9894c00\n"
-    ".octa 0xe081b60f4472ebc0570f04012404c7,0x314500000000282444c748c0fe410000,0x41d5294940688b4d000008fbe9f631d2\n"
-    ".octa 0x45d52045c5960f4128086c394ec2930f,0x440f4dffffffffc2c749c3ff49e4b60f,0x394cc2930fd32949da420f4de3014dda\n"
-    ".octa 0x844d220441b7504c6f641c2960f41db,0x2444110f03012404c766107401c2f6ea,0x3d78db854828245c8b48000002d1e908\n"
-    ".octa 0x4908728b4d0ab60f4508348b4af28949,0x41000000001042c74902110f4110428b,0xc749000001e5830fd83948187501f980\n"
-    ".octa 0x4c766104289490872894d0000000102,0xf0b98b4cfffff72fe904b1a7eb040124,0xa8a98d48d68949d60148f72949000000\n"
-    ".octa 0x1a8918b48fb430f4cdf3949000001,0x3949d02948e0894c000001b0a18b4c00,0x1a0898b4c3a1c8d4e000003d8870fc7\n"
-    ".octa 0xc0894911048d490045110fc0570f0000,0x82830f30244c894cf8394df02949,0x128830f20f883490a7204ff834900\n"
-    ".octa 0x147403e28349c1894dfa894dc0314500,0x49c1ff49081c88460e1cb60f46c1894d,0x4c3a1c8d4efcf88349f8294def75caff\n"
-    ".octa 0xf4203c0834812048d4a73773024548b,0x8842010e54b60f42fd085488420e14b6,0xf42ff08548842020e54b60f42fe0854\n"
-    ".octa 0x75cf394d04c1834908148842030e54b6,0xfc8949702464894c38246c894836ebcd\n"
-    ".quad 0x8949fa894cc78948\n"
-    ".long 0xdd894ccd\n"
+    ".octa 0xf6850fc0843141b60fe0ffd0014c8204,0x2ec850f01b6400030798001b2000002,0x5189023041c60470b70f41108b410000\n"
+    ".octa 0x41c748000000004041c7483871896634,0x4aee9010000014081c60000000148,0x602444c748502444290f08418b4900\n"
+    ".octa 0xcf860f00000168813948000000,0x4a400c8d4c04e0c14800000160b18b48,0x8b4e0000055e870f0df88348080e448b\n"
+    ".octa 0xe0a8b60f41000000d8988b4d200e54,0xb60f000006ace9f63145db31d2890000,0xed3103b200000411840fdb8401b03159\n"
+    ".octa 0xb60f4110798b4d08518b4d00000760e9,0x602444c748502444290f1869,0x545840fed844056760000016891394c\n"
+    ".octa 0xc8d4f04e2c14900000160818b480000,0x4c0000061b860ffa394d0808548b4e52,0x8b4a00000751870f0dfa834928245489\n"
+    ".octa 0xe0a0b60f45000000d8988b4d20085c,0x660000091fe9ed3145f63145d2890000,0xfb8948e0894800000951e900012404c7\n"
+    ".octa 0x5de900000001b9ce8948f28948c78948,0x190818b4810798b4d08718b4d000003,0x84e870fc7394900000188812b480000\n"
+    ".octa 0x100000000000000b8483169b60f0000,0x4c766db3103b10000036f840fed8440,0x244c88092444894801082444c6000024\n"
+    ".octa 0x44c600000000132444c712246c884011,0x202444c74818245c8948001724,0x110b18b4c08598b4900001122e900\n"
+    ".octa 0x48000001b0818b48de420f49de394900,0x48000007f9870fc33948000001a8812b,0xfe24f0893171b60f0000031c840fdb85\n"
+    ".octa 0x5489480100000000000000ba4803b241,0x840f30710a400000031c840f023c2824,0x358d4c00000110b98b4c00000634\n"
+    ".octa 0x108818b000006ca840fff854d0000,0xd73949f22948c289480000010cb18b00,0xff039000000e8918b480000075e860f\n"
+    ".octa 0xb60f4100000893e9d689480000088b85,0x83000002be840f02f8833051b60f0241,0xf0000044fbec031000002ed850f01f8\n"
+    ".octa 0x4800000090818b480000064e820fd6a3,0x8b00000088918b4800000378840fc085,0xf48d02948f63100000084918bfcc244\n"
+    ".octa 0x480116548d4850518b4840418b48f043,0xb081894800000001000000a881c7,0x41b60f00000281e9000000b891894800\n"
+    ".octa 0x4c601b203b640000001e3840fc08431,0xa247488400924548800082444c60024,0xb003b23159b60f00000530e90b244488\n"
+    ".octa 0xfd2843051b60f00000508850fdb8401,0x357704fa80fdc280fe8949000003f784,0x4481c74841033871b70f34518b08418b\n"
+    ".octa 0x91890000014cb1896600000001000001,0x15481c74800000150818900000148,0xf58798d4803003041c7660000000000\n"
+    ".octa 0xb881c748000000a88111,0xf8894c00000000e8cf894968718b4800,0x128bf8349000000000000011087c749\n"
+    ".octa 0x12880c7480b74000000,0x14280c600000000014080c766,0xb98001b000000455e9f7894cd231c031\n"
+    ".octa 0xf033cfc043041b60f0b750000000141,0x68ae9002404c6000001418188c092,0xfd6a30f0000044fbec0313051b60f00\n"
+    ".octa 0xd0394848518b4840418b48000001f982,0x453a49b70f440c71b70f000001e6830f,0x8b4c247500000000ba41013e7980c031\n"
+    ".octa 0x4d00000004bb4104fa83490000012891,0xf4500000004dd148d46d2854dda420f,0xf41d6294466f1420f41f1394166d044\n"
+    ".octa 0x48f2430f48d63948c60148f6b70ff042,0xb081894800000001000000a881c7,0x480000016fe901b0000000b8b1894800\n"
+    ".octa 0xc931ce8948f28948c78948fb8948e089,0x51b60f00000e2be9df894800000000e8,0x25840f003279800000025c840fd28530\n"
+    ".octa 0x798001b200000339e9ed3102b2000003,0x31013041c6fffffe13850f01b6400030,0x840fdb853059b60ffffffe06e9f631d2\n"
+    ".octa 0xe905b1000002da850f01fb83000002dc,0xba48fe24f0893171b60ffffffc77,0xff850f023c2824548948010000000000\n"
+    ".octa 0xafa8300000e2be9c03103b241000000,0x4081c76601003041c766000000da850f,0xa881110f000000014281c60000000001\n"
+    ".octa 0x1b000000000000000b881c748000000,0x72d6a30f0000044fbec03100000371e9,0xb841f631c0920f48413b4840418b480b\n"
+    ".octa 0x8b4c000002f4820fd0a30f410000044f,0x50498b4c000002e4850f48413b4c4041,0xf4d00000000b941c8294df631c1ff49\n"
+    ".octa 0xc0b983000002c6860f6849394cc843,0xe1c8b4e000002b6e9c6940f40000000,0xd8988b4d0d5bb60f41200e548b4e\n"
+    ".octa 0x850f10c3f6d289000000e0a8b60f4100,0x4c6c0310000013ee9f631450000012f,0x2d6e90924448803082444c60024\n"
+    ".octa 0x459e901012404c766000002bfe9c031,0xa98b00000eba840f30710a40c0310000,0x1207980c0311075013c798000000108\n"
+    ".octa 0xcb8948f52944c2b60fd0450f2151b60f,0xb38b480000010c938bd98948edd3c189,0x8d2820fd63948f0894d000000f0\n"
+    ".octa 0x8b840f0000000128b983480e75c0854d,0x1089139c0310000010c918b000006,0xc2803051b60f0000010c8189c2450f00\n"
+    ".octa 0x108918b2d75ed85317702fa80c031fc,0x1207980c0311075013c7980c0310000,0xd3c189c22944c1b60fc8450f2149b60f\n"
+    ".octa 0x141b980c0950fd285d98948ea,0x1419188d0440f00000001bac0b60f,0x2444c7480000030d840ff6854d01b000\n"
+    ".octa 0x2012404c76600000ddee90000000028,0xfee9d231000000e7e9ed3100000366e9,0x394ec7930f41d6294940708b4d000000\n"
+    ".octa 0xff49fdb60f44fe2045c6960f41280e74,0x4dfb014ddc440f4dffffffffc4c749c3,0xc2960f41da394dc2930fd32949dc420f\n"
+    ".octa 0x850f01c2f6f20844d220440f7504c3f6,0xfb89485024548d480e0c8b4e00000301,0xe8c08949c9894cca8948c6894cd78948\n"
+    ".octa 0x244cb60f502444b60fdf894800000000,0x82444c600002404c7666024548b4858,0xc2444c700000000092444c705\n"
+    ".octa 0xbd4e918244c8948102444894800,0x11f840f00327980fffff9a6e9d989,0xff01b540013241c6fffff993e902b100\n"
+    ".octa 0xffc201489014634800000000058d48ca,0x1c0b980f5b60f40d231c031e2,0x1c0818844c6440f4400000001b841\n"
+    ".octa 0x54880924448800082444c6002404c600,0x110f0c2444110fc0570f0b245c880a24,0x4e00000c99e9c03100000a90e9182444\n"
+    ".octa 0x988b4d0d73b60f4520085c8b4a081c8b,0xf641d289000000e0a0b60f45000000d8,0x1bee9ed3145000001af850f10c6\n"
+    ".octa 0xb740000000090b983483574c084f631,0x8481c7000000000000009081c748,0x1000000a881c7480000000000\n"
+    ".octa 0xfa80fee280000000b081110f4041100f,0x142b10840000001409108c2940f02,0x8803082444c6002404c6d008f0084000\n"
+    ".octa 0x182444110f0a2444110fc0570f092444,0x1f0e9f6894cff3145000009e3e9,0x4868418b4c28518b48c1940f41ff854d\n"
+    ".octa 0xca0845c2970f41f23948c6014c50718b,0x188a98d4c000001af850f01fa8041,0x894860718b48c2430f48f22948c03100\n"
+    ".octa 0xf49df3949d8420f48d83948c3294cf3,0x4c58418b4800000512840fdb8548df42,0x430f4cf33949c93145021c8d4f70518b\n"
+    ".octa 0xda3948fa294cf28948cf294ddf894dce,0xfa83480000089c840ffe294cd3430f48,0xe9ff3145000005f7830f28244c894c04\n"
+    ".octa 0x140e9000000e8b10348000007c9,0xfe894cc78948fb894800000180818d48,0xc084df8948e1894c00000000e8cc8949\n"
+    ".octa 0x49000001a0818d4826ebfffff78c850f,0xe8cf8949de8948c78948fe89,0xc766fffff7ea850fc084f7894cf9894c\n"
+    ".octa 0xe081b60f4472ebc0570f04012404,0xd2314500000000282444c748c0fe4100,0xf41d5294940688b4d00000934e9f631\n"
+    ".octa 0xf45d52045c5960f4128086c394ec293,0xda440f4dffffffffc2c749c3ff49e4b6,0xdb394cc2930fd32949da420f4de3014d\n"
+    ".octa 0xea0844d22044207504c6f641c2960f41,0x82444110f03012404c766157401c2f6,0x4828245c8b480000084ee9182444110f\n"
+    ".octa 0x4d0ab60f4508348b4af289493d78db85,0x1042c74902110f4110428b4908728b,0x253830fd83948187501f98041000000\n"
+    ".octa 0x4289490872894d0000000102c7490000,0xfffff69be904b1a2eb04012404c76610,0xd68949d60148f72949000000f0b98b4c\n"
+    ".octa 0x8b48fb430f4cdf3949000001a8a98d48,0x48e0894c000001b0a18b4c000001a891,0x4c3a1c8d4e0000038c870fc73949d029\n"
+    ".octa 0x48d490045110fc0570f000001a0898b,0xf30244c894cf8394df02949c0894911,0xf20f883490a7204ff83490000008283\n"
+    ".octa 0x8349c1894dfa894dc031450000019683,0x81c88460e1cb60f46c1894d147403e2,0x4efcf88349f8294def75caff49c1ff49\n"
+    ".octa 0x834812048d4a73773024548b4c3a1c8d,0x54b60f42fd085488420e14b60f4203c0,0x548842020e54b60f42fe08548842010e\n"
+    ".octa 0x4c1834908148842030e54b60f42ff08,0x2464894c38246c894836ebcd75cf394d,0xdd894ccd8949fa894cc78948fc894970\n"
     "call memmove\n"
     ".octa 0x8b4ce7894ce9894ceb89493024548b4c,0x4c000001a091894c38246c8b48702464,0xda8948000001b0a1894c000001a89989\n"
-    ".octa 0x31e870fc23948d8294ce0894cfa294c,0xc0570f000001a0b98b4c132c8d4d0000,0x3948f6294cc689481f048d4b0045110f\n"
-    ".octa 0x313b7320fe8348067204fa83481373d6,0x4cc78948fc8949e5894c0000071fe9f6\n"
-    ".long 0x8949f689\n"
+    ".octa 0x2d2870fc23948d8294ce0894cfa294c,0xc0570f000001a0b98b4c132c8d4d0000,0x3948f6294cc689481f048d4b0045110f\n"
+    ".octa 0xa5830f20fe83480a7204fa83481773d6,0xfc8949e5894c0000074fe9f631000000\n"
+    ".quad 0x8949f6894cc78948\n"
     ".byte 0xce\n"
     "call memmove\n"
-    ".octa 0x83490000070ee9ec8949e7894cf1894c,0x199e9c0314500000159830f20ff,0x1f9e9f631000001bd830f20fa8348\n"
-    ".octa 0xffffffffffe0ba48fffffa25e9c03100,0xfc3f610c18349d92149104a8d4c7fff,0x102c749c8294c0e1c8d4fcb440f4c\n"
-    ".octa 0xf12949f1894d10428949085a894d0000,0xc031000002d6830f48247c8948d93949,0x820f20f983490000036a820f04fb8348\n"
-    ".octa 0xc03100000305830f20fb834800000360,0x31053041c604eb093041c60000032de9,0xb84100000001c0b980f5b60f40d231c0\n"
-    ".octa 0xc6000001c0818844c6440f4400000001,0xa2454880924448800082444c6002404,0x2444110f0c2444110fc0570f0b245c88\n"
-    ".octa 0x4cb60f082444b60f0789662404b70f18,0x24448b440b2474b60f0a2454b60f0924,0xb60f44112454b60f4410244cb60f440c\n"
-    ".octa 0x24748b4c17246cb60f13245c8b12245c,0x47882077894c2024748b4c1877894c18,0x440c4789440b7788400a5788094f8808\n"
-    ".octa 0x8840135f89125f884411578844104f88,0x5d5f415e415d415c415b78c48348176f,0x4510c18349d10149e0e08349f8894dc3\n"
-    ".octa 0x110f4310164c100f421604100f42d231,0x75d0394d20c28349110c110f43f01144,0x41fffffddf840f3024548b4cc7394de1\n"
-    ".octa 0x49f8894dc1894dfffffd30840f1cc7f6,0x4d04c18349081489460e148b46fce083,0xfdac840f3024548b4cc7394def75c839\n"
-    ".octa 0x8d4fe0e68348d68948fffffd02e9ffff,0xf430e04100f43c9314510c083493b04,0x49080c110f43f00844110f43100e4c10\n"
-    ".octa 0x4fb840ff23948e175ce394c20c183,0xd68948f08949000004e1840f1cc2f600,0x4c08349000c8946060c8b47fce68348\n"
-    ".octa 0x7c8948e8894c000004cde9ef75c6394c,0x8b48282454894800000190918b484824,0xf00000188898b48cd89490000018091\n"
-    ".octa 0xe90a048d48d48949cf894900110fc057,0x48247c8948000001a0818d48000006c3,0x8949fe894cf5894838246c8948c78948\n"
-    ".octa 0x894c38246c8b48ee894800000000e8cc,0x8b4d000001a824948b4948247c8b48e1,0xfffbdb850fc084d38949000001b024a4\n"
-    ".octa 0x1a0818d4838246c8948fffffccde9ff,0x8949d68948d78949c78948fc89490000,0x840fc084e7894ce9894c00000000e8cd\n"
-    ".octa 0x1b0a18b4c000001a8998b4c0000042d,0x48fffffc99e938246c8b48fa894c0000,0x8948ff894947244c8d48000000e8818b\n"
-    ".octa 0x4cff894cd9894800000000e8c03145c7,0xe9fffff6fd850fc0854d00000110838b,0xc4894dcd8949da8948f7894cfffff6ea\n"
+    ".octa 0x89490000073ee9ec8949e7894cf1894c,0xa881110f58798d4803003041c766fe,0x718b4800000000000000b881c7480000\n"
+    ".octa 0x1087c749f9894c00000000e8cf894968,0x740000000128bf834900000000000001,0x4081c766000000000000012881c7480b\n"
+    ".octa 0xd231c031000000014281c60000000001,0x9f830f20ff8349fffffb1ae9f7894c,0x830f20fa8348000000dfe9c031450000\n"
+    ".octa 0xf97fe9c0310000013fe9f63100000103,0x104a8d4c7fffffffffffffe0ba48ffff,0x8d4fcb440f4c0fc3f610c18349d92149\n"
+    ".octa 0x85a894d0000000102c749c8294c0e1c,0x7c8948d93949f12949f1894d10428949,0x820f04fb8348c0310000021c830f4824\n"
+    ".octa 0x8348000002a6820f20f98349000002b0,0xc600000273e9c0310000024b830f20fb,0xfffa6de9053041c6fffffa76e9093041\n"
+    ".octa 0x4510c18349d10149e0e08349f8894dff,0x110f4310164c100f421604100f42d231,0x75d0394d20c28349110c110f43f01144\n"
+    ".octa 0x41fffffe2b840f3024548b4cc7394de1,0x49f8894dc1894dfffffd7c840f1cc7f6,0x4d04c18349081489460e148b46fce083\n"
+    ".octa 0xfdf8840f3024548b4cc7394def75c839,0x8d4fe0e68348d68948fffffd4ee9ffff,0xf430e04100f43c9314510c083493b04\n"
+    ".octa 0x49080c110f43f00844110f43100e4c10,0x57b840ff23948e175ce394c20c183,0xd68948f0894900000561840f1cc2f600\n"
+    ".octa 0x4c08349000c8946060c8b47fce68348,0x7c8948e8894c0000054de9ef75c6394c,0x8b48282454894800000190918b484824\n"
+    ".octa 0xf00000188898b48cd89490000018091,0xe90a048d48d48949cf894900110fc057,0x48247c8948000001a0818d4800000743\n"
+    ".octa 0x8949fe894cf5894838246c8948c78948,0x894c38246c8b48ee894800000000e8cc,0x8b4d000001a824948b4948247c8b48e1\n"
+    ".octa 0xfffc27850fc084d38949000001b024a4,0x1a0818d4838246c8948fffffd19e9ff,0x8949d68948d78949c78948fc89490000\n"
+    ".octa 0x840fc084e7894ce9894c00000000e8cd,0x1b0a18b4c000001a8998b4c000004ad,0x48fffffce5e938246c8b48fa894c0000\n"
+    ".octa 0x8948ff894947244c8d48000000e8818b,0x4cff894cd9894800000000e8c03145c7,0xe9fffff711850fc0854d00000110838b\n"
+    ".octa 0xc4894dcd8949da8948f7894cfffff6fe\n"
     "call memmove\n"
     ".octa 0x14dc30149000000dce9e9894ce0894d,0x4c8b4cff31450d7320fb8349cb294df1,0x113830f20fa8348000001bee92824\n"
     ".octa 0x894800000153e928244c8b4cff314500,0x41103e4c100f3e04100fff31d02148d8,0x394820c78348103e4c110f413e04110f\n"
@@ -2020,7 +2021,7 @@ __asm__(
     ".octa 0xf44c28948147403e78348c28948df89,0x48ef75cfff48c2ff48160c8845160cb6,0x160488411604b60f2f77fcf88348d829\n"
     ".octa 0x41021644b60f0116448841011644b60f,0x83480316448841031644b60f02164488,0x50247c8d483e2c3043d175d3394804c2\n"
     ".octa 0xe8d88949f1894cca8948c6894c,0x6024548b4858244cb60f502444b60f00,0x92444c705082444c600002404c766\n"
-    ".octa 0x1024448948000000000c2444c7000000,0xe948247c8b48202454894818244c8948,0x8d4de0e28349d28949d3894dfffffc48\n"
+    ".octa 0x1024448948000000000c2444c7000000,0xe948247c8b48202454894818244c8948,0x8d4de0e28349d28949d3894d0000020c\n"
     ".octa 0x4100f43d23145d7894d10c18349070c,0x110f43f01144110f4310164c100f4316,0x8b4cfa394ce175d7394d20c28349110c\n"
     ".octa 0x741cc2f6da894d00000118840f28244c,0x894cfc294de3894dfce48349d4894954,0xc50149cd294dc5014d172c8d4f302454\n"
     ".octa 0x49000d5489470f148b47c93145f7014d,0x8d4cda394cdf894dee75cc394d04c183,0xf28244c8b4c3024548b4c00000188a9\n"
@@ -2028,48 +2029,50 @@ __asm__(
     ".octa 0x4900155c8847111cb60f47d231451e0c,0xa98d4cdff749eb75d4394dcfff49c2ff,0x8b4c28244c8b4c3024548b4c00000188\n"
     ".octa 0x4dd389495577fcfb8349d3294938245c,0x4902048d4dca294dc2014dfa014dfb29,0xf47d2314503c18349370c8d4f03c083\n"
     ".octa 0x47fe117cb60f47fd107c8847fd117cb6,0x47ff107c8847ff117cb60f47fe107c88,0x75d3394d04c28349103c8847113cb60f\n"
-    ".octa 0x894916348d4900000269860ff33948cd,0xf12949c189490c7204f88349d02949d8,0x834900000234e9c93145087320f98349\n"
+    ".octa 0x894916348d49000002e9860ff33948cd,0xf12949c189490c7204f88349d02949d8,0x8349000002b4e9c93145087320f98349\n"
     ".octa 0xe0e18349c1894d44ebc93145057320f8,0x1a44100f43db314510c2834932148d4e,0x184c110f421804110f421a0c100f43f0\n"
-    ".octa 0x840fc8394de175d9394d20c3834910,0xcf894d000001e5840f1cc0f641000002,0x1c8d4efa294dca894dfce18349c1894d\n"
-    ".octa 0x89473a248b46ff3145f2014cfa014c38,0x1bee9ef75fa394d04c783493b24,0x940f4102f88041c0b60f45d231c03145\n"
-    ".octa 0x2404c766000001c1890844c12041c1,0x9244489482824448b4802082444c600,0x132444c712247488401124548844\n"
-    ".octa 0x24548948182444894c00172444c60000,0x48300488443604b60f45fffff9e6e920,0x894c000001a0b9894cef75f23948c6ff\n"
-    ".octa 0x3171b60f000001b0a1894c000001a8a9,0x41d231c03145c0310f75023cfe24f089,0x844c0313051b60f44ffffff6ee903b2\n"
-    ".octa 0xb18b4c00000108b18b000000e9840fd6,0x31107501f980413c49b60f4400000110,0x89c2b60fd0450f2151b60f01207980c0\n"
-    ".octa 0x3949c1894cedd3c189c88949f52944f5,0x894dd32949f3894dd6420f49da8948de,0x128b983480e77de39490000011098\n"
-    ".octa 0xf3890000010c818b00000092840f0000,0x41f0420f44da3948def741de8941c329,0x41c031fcc280410000010cb18944d601\n"
-    ".octa 0x1074c98445c0312675ed852a7702fa80,0xc1b60fc8450f2149b60f01207980c031,0xfc0950ff685c1894ceed3c189de2944\n"
-    ".octa 0x440f00000001be0000000141b980c0b6,0x282444c74801b000000141b18840f0,0xfffffe75e9c03145f631d23145000000\n"
-    ".octa 0x10c81c7fffffe66e9f631d23145,0x857602fa8041c031fcc2804100000000,0x394dc1ff49081488420e14b60f42adeb\n"
-    ".octa 0x8b4c00000188918b4868590148ef75c8,0x870fc33948d02948d8894c0000019099,0xf00000180a18b4c1a3c8d4c0000012f\n"
-    ".octa 0x294cc6894814048d490045110f41c057,0x14348d49117204fb83487f73de3948f6,0x49f631000000ae830f20fe8348f6294c\n"
-    ".octa 0xf47f08949147403e18349f08949d989,0x48ef75c9ff49c0ff49001488460614b6,0x3c0834822048d4a6577fcfe8348de29\n"
-    ".octa 0x10654b60f43fd005488420614b60f43,0xff00548842020654b60f43fe00548842,0x394c04c0834900148842030654b60f43\n"
-    ".octa 0x7c8948cd894928245c894c28ebcd75c3\n"
+    ".octa 0x80840fc8394de175d9394d20c3834910,0xcf894d00000265840f1cc0f641000002,0x1c8d4efa294dca894dfce18349c1894d\n"
+    ".octa 0x89473a248b46ff3145f2014cfa014c38,0x23ee9ef75fa394d04c783493b24,0x244cb60f082444b60f0789662404b70f\n"
+    ".octa 0xc24448b440b2474b60f0a2454b60f09,0x5cb60f44112454b60f4410244cb60f44,0x1824748b4c17246cb60f13245c8b1224\n"
+    ".octa 0x847882077894c2024748b4c1877894c,0x88440c4789440b7788400a5788094f88,0x6f8840135f89125f884411578844104f\n"
+    ".octa 0xc35d5f415e415d415c415b78c4834817,0x940f4102f88041c0b60f45d231c03145,0x2404c766000001c1890844c12041c1\n"
+    ".octa 0x9244489482824448b4802082444c600,0x132444c712247488401124548844,0x24548948182444894c00172444c60000\n"
+    ".octa 0x48300488443604b60f45ffffff2ae920,0x894c000001a0b9894cef75f23948c6ff,0x3171b60f000001b0a1894c000001a8a9\n"
+    ".octa 0x41d231c03145c0310f75023cfe24f089,0x844c0313051b60f44ffffff6ee903b2,0xb18b4c00000108b18b000000e9840fd6\n"
+    ".octa 0x31107501f980413c49b60f4400000110,0x89c2b60fd0450f2151b60f01207980c0,0x3949c1894cedd3c189c88949f52944f5\n"
+    ".octa 0x894dd32949f3894dd6420f49da8948de,0x128b983480e77de39490000011098,0xf3890000010c818b00000092840f0000\n"
+    ".octa 0x41f0420f44da3948def741de8941c329,0x41c031fcc280410000010cb18944d601,0x1074c98445c0312675ed852a7702fa80\n"
+    ".octa 0xc1b60fc8450f2149b60f01207980c031,0xfc0950ff685c1894ceed3c189de2944,0x440f00000001be0000000141b980c0b6\n"
+    ".octa 0x282444c74801b000000141b18840f0,0xfffffe75e9c03145f631d23145000000,0x10c81c7fffffe66e9f631d23145\n"
+    ".octa 0x857602fa8041c031fcc2804100000000,0x394dc1ff49081488420e14b60f42adeb,0x8b4c00000188918b4868590148ef75c8\n"
+    ".octa 0x870fc33948d02948d8894c0000019099,0xf00000180a18b4c1a3c8d4c0000012f,0x294cc6894814048d490045110f41c057\n"
+    ".octa 0x14348d49117204fb83487f73de3948f6,0x49f631000000ae830f20fe8348f6294c,0xf47f08949147403e18349f08949d989\n"
+    ".octa 0x48ef75c9ff49c0ff49001488460614b6,0x3c0834822048d4a6577fcfe8348de29,0x10654b60f43fd005488420614b60f43\n"
+    ".octa 0xff00548842020654b60f43fe00548842,0x394c04c0834900148842030654b60f43,0x7c8948cd894928245c894c28ebcd75c3\n"
     ".quad 0xf6894cc789484824\n"
     ".short 0x8948\n"
     ".byte 0xda\n"
     "call memmove\n"
-    ".octa 0xa1894c28245c8b4ce9894c48247c8b48,0x19099894c00000188b9894c00000180,0x7320fb8348ffffec22e9c931c0310000\n"
+    ".octa 0xa1894c28245c8b4ce9894c48247c8b48,0x19099894c00000188b9894c00000180,0x7320fb8348ffffeb5ae9c931c0310000\n"
     ".octa 0x4ee2894de0e68348de89487eebf63104,0x430e04100f43c9314510c0834922048d,0x80c110f43f00844110f43100e4c100f\n"
     ".octa 0x894d3975f33948e175ce394c20c18349,0x180b98d48cc8949ff89499aebd4,0x49e1894c5074c08400000000e8de8948\n"
     ".octa 0x4c00000190249c8b4d0000018824948b,0xcc840fd4894d1cc3f6fffffe9de9ff89,0xc8b47fce68348de8948f08949fffffe\n"
     ".octa 0x3948ef75c6394c04c08349000c894606,0xc931c031fffffea3e9ffffff36840ff3\n"
-    ".quad 0xffffeb65e9ff894c\n"
+    ".quad 0xffffea9de9ff894c\n"
     ".reloc .Ltcp36+42,R_X86_64_PC32,.Ltcp37-4\n"
-    ".reloc .Ltcp36+622,R_X86_64_PC32,.Ltcp101-4\n"
-    ".reloc .Ltcp36+944,R_X86_64_PLT32,.Ltcp41-4\n"
-    ".reloc .Ltcp36+1173,R_X86_64_PLT32,.Ltcp42-4\n"
-    ".reloc .Ltcp36+1924,R_X86_64_PLT32,.Ltcp53-4\n"
-    ".reloc .Ltcp36+2029,R_X86_64_PC32,.Ltcp37+48\n"
-    ".reloc .Ltcp36+2057,R_X86_64_PLT32,.Ltcp41-4\n"
-    ".reloc .Ltcp36+2437,R_X86_64_PLT32,.Ltcp38-4\n"
-    ".reloc .Ltcp36+2477,R_X86_64_PLT32,.Ltcp38-4\n"
-    ".reloc .Ltcp36+3789,R_X86_64_PLT32,.Ltcp38-4\n"
-    ".reloc .Ltcp36+3869,R_X86_64_PLT32,.Ltcp38-4\n"
-    ".reloc .Ltcp36+3936,R_X86_64_PLT32,.Ltcp40-4\n"
-    ".reloc .Ltcp36+4237,R_X86_64_PLT32,.Ltcp53-4\n"
-    ".reloc .Ltcp36+5636,R_X86_64_PLT32,.Ltcp38-4\n"
+    ".reloc .Ltcp36+622,R_X86_64_PC32,.Ltcp102-4\n"
+    ".reloc .Ltcp36+985,R_X86_64_PLT32,.Ltcp41-4\n"
+    ".reloc .Ltcp36+1265,R_X86_64_PLT32,.Ltcp43-4\n"
+    ".reloc .Ltcp36+2016,R_X86_64_PLT32,.Ltcp54-4\n"
+    ".reloc .Ltcp36+2116,R_X86_64_PC32,.Ltcp37+48\n"
+    ".reloc .Ltcp36+2580,R_X86_64_PLT32,.Ltcp38-4\n"
+    ".reloc .Ltcp36+2620,R_X86_64_PLT32,.Ltcp38-4\n"
+    ".reloc .Ltcp36+3320,R_X86_64_PLT32,.Ltcp41-4\n"
+    ".reloc .Ltcp36+3861,R_X86_64_PLT32,.Ltcp38-4\n"
+    ".reloc .Ltcp36+3941,R_X86_64_PLT32,.Ltcp38-4\n"
+    ".reloc .Ltcp36+4008,R_X86_64_PLT32,.Ltcp40-4\n"
+    ".reloc .Ltcp36+4309,R_X86_64_PLT32,.Ltcp54-4\n"
+    ".reloc .Ltcp36+5836,R_X86_64_PLT32,.Ltcp38-4\n"
     ".section .rodata.tcp.37,\"a\",%progbits\n"
     ".balign 4\n"
     ".Ltcp37:\n"
@@ -2078,28 +2081,28 @@ __asm__(
     ".quad 0x0\n"
     ".long 0x0\n"
     ".reloc .Ltcp37+0,R_X86_64_PC32,.Ltcp36+55\n"
-    ".reloc .Ltcp37+4,R_X86_64_PC32,.Ltcp36+803\n"
+    ".reloc .Ltcp37+4,R_X86_64_PC32,.Ltcp36+817\n"
     ".reloc .Ltcp37+8,R_X86_64_PC32,.Ltcp36+411\n"
     ".reloc .Ltcp37+12,R_X86_64_PC32,.Ltcp36+530\n"
     ".reloc .Ltcp37+16,R_X86_64_PC32,.Ltcp36+238\n"
-    ".reloc .Ltcp37+20,R_X86_64_PC32,.Ltcp36+863\n"
-    ".reloc .Ltcp37+24,R_X86_64_PC32,.Ltcp36+984\n"
+    ".reloc .Ltcp37+20,R_X86_64_PC32,.Ltcp36+877\n"
+    ".reloc .Ltcp37+24,R_X86_64_PC32,.Ltcp36+1076\n"
     ".reloc .Ltcp37+28,R_X86_64_PC32,.Ltcp36+713\n"
-    ".reloc .Ltcp37+32,R_X86_64_PC32,.Ltcp36+1187\n"
+    ".reloc .Ltcp37+32,R_X86_64_PC32,.Ltcp36+1279\n"
     ".reloc .Ltcp37+36,R_X86_64_PC32,.Ltcp36+414\n"
-    ".reloc .Ltcp37+40,R_X86_64_PC32,.Ltcp36+1037\n"
+    ".reloc .Ltcp37+40,R_X86_64_PC32,.Ltcp36+1129\n"
     ".reloc .Ltcp37+44,R_X86_64_PC32,.Ltcp36+173\n"
     ".reloc .Ltcp37+48,R_X86_64_PC32,.Ltcp36+293\n"
-    ".reloc .Ltcp37+52,R_X86_64_PC32,.Ltcp36+2042\n"
-    ".reloc .Ltcp37+56,R_X86_64_PC32,.Ltcp36+2046\n"
-    ".reloc .Ltcp37+60,R_X86_64_PC32,.Ltcp36+3298\n"
-    ".reloc .Ltcp37+64,R_X86_64_PC32,.Ltcp36+3298\n"
-    ".reloc .Ltcp37+68,R_X86_64_PC32,.Ltcp36+3306\n"
-    ".reloc .Ltcp37+72,R_X86_64_PC32,.Ltcp36+3310\n"
-    ".reloc .Ltcp37+76,R_X86_64_PC32,.Ltcp36+3304\n"
-    ".reloc .Ltcp37+80,R_X86_64_PC32,.Ltcp36+3318\n"
-    ".reloc .Ltcp37+84,R_X86_64_PC32,.Ltcp36+3322\n"
-    ".reloc .Ltcp37+88,R_X86_64_PC32,.Ltcp36+3326\n"
+    ".reloc .Ltcp37+52,R_X86_64_PC32,.Ltcp36+3281\n"
+    ".reloc .Ltcp37+56,R_X86_64_PC32,.Ltcp36+3285\n"
+    ".reloc .Ltcp37+60,R_X86_64_PC32,.Ltcp36+2137\n"
+    ".reloc .Ltcp37+64,R_X86_64_PC32,.Ltcp36+3559\n"
+    ".reloc .Ltcp37+68,R_X86_64_PC32,.Ltcp36+2145\n"
+    ".reloc .Ltcp37+72,R_X86_64_PC32,.Ltcp36+2149\n"
+    ".reloc .Ltcp37+76,R_X86_64_PC32,.Ltcp36+3562\n"
+    ".reloc .Ltcp37+80,R_X86_64_PC32,.Ltcp36+2157\n"
+    ".reloc .Ltcp37+84,R_X86_64_PC32,.Ltcp36+2161\n"
+    ".reloc .Ltcp37+88,R_X86_64_PC32,.Ltcp36+2165\n"
     ".section .text.tcp.38,\"ax\",%progbits\n"
     ".balign 16\n"
     ".Ltcp38:\n"
@@ -2157,20 +2160,56 @@ __asm__(
     ".section .text.tcp.41,\"ax\",%progbits\n"
     ".balign 16\n"
     ".Ltcp41:\n"
-    ".type \"tcp_conn::endpoint::Endpoint::end_by::<#4d7786d65df9050b>\",%function\n"
-    ".size \"tcp_conn::endpoint::Endpoint::end_by::<#4d7786d65df9050b>\",306\n"
-    "\"tcp_conn::endpoint::Endpoint::end_by::<#4d7786d65df9050b>\":\n"
-    ".octa 0x877f0ff3c0ef0f6631778840003047c6,0x4800000000000000b887c748000000a8,0x70578b48604f8b482374c0854868478b\n"
-    ".octa 0x48f22948f1430f48ca3948f631c20148,0x888f8b48000000006847c748705789,0x98978b4800000090b78b480000\n"
-    ".octa 0x6e0f663f74f6854800000090877f0ff3,0x801f0fc0314500c0700f66c0,0xc83f380f66c10c7e0f42f304c14c8b46\n"
-    ".octa 0x491276c13941c10cd60f4266c8fa0f66,0xebc0314540ebf08949d975c6394cc0ff,0x441f0f663273f1394901488d4d3b\n"
-    ".octa 0x42c8fa0f66c83f380f66c90c7e0f42f3,0xc10cd60f4266c90cd60f426604c9443b,0x888f8948d475ce394cc1ff4900d08349\n"
-    ".octa 0x989789480000009087894c000000,0x28bf8348000000000000011087c74800,0x12887c7480b7400000001\n"
-    ".octa 0x14287c600000000014087c76600\n"
-    ".short 0xc300\n"
+    ".type \"tcp_sendq::queue::SendQueue::release::<#4d7786d65df9050b>\",%function\n"
+    ".size \"tcp_sendq::queue::SendQueue::release::<#4d7786d65df9050b>\",383\n"
+    "\"tcp_sendq::queue::SendQueue::release::<#4d7786d65df9050b>\":\n"
+    ".octa 0x482073c83948f02948c88948104f8b48,0xca3948c03145f2014818578b48084f8b,0x411047894818578948c2294cc1430f4c\n"
+    ".octa 0x8d48747680000000fe812c7703505356,0x8d4c30478d48385f8b4c30578b48384f,0x4d38477f0ff3c0ef0f6640478b4c404f\n"
+    ".octa 0xc0700f66c66e0f66000000a7840fdb85,0x841f0f2e666666d2314500,0xc83f380f66d20c7e0f42f304d25c8b42\n"
+    ".octa 0x90860ff339d20cd60f4266c8fa0f66,0xb7e9da894dd675d3394dc2ff490000,0x485574c0854d38478b4c30478d480000\n"
+    ".octa 0xd1743b2c7501f88349d231fb8948088b,0xe8f631f68949c78948ffda834804,0x1f0f00000087e9df8948f0894c0000\n"
+    ".octa 0x4cefd148c7894cd47601f88349f82949,0x45e1ebca894ce67704c9743942170c8d,0x40478b4c30578b48384f8d4855ebd231\n"
+    ".octa 0xd2314538477f0ff3c0ef0f66404f8d4c,0x441f0f2e73db394c015a8d4937eb,0x743bc8fa0f66c83f380f66da0c7e0ff3\n"
+    ".octa 0xd28349d20cd60f4266da0cd60f6604da,0x4d11894c108948d775db3949c3ff4800\n"
+    ".quad 0x482c4789c0310189\n"
+    ".long 0x5b08c483\n"
+    ".short 0x5e41\n"
+    ".byte 0xc3\n"
+    ".reloc .Ltcp41+222,R_X86_64_PLT32,.Ltcp42-4\n"
     ".section .text.tcp.42,\"ax\",%progbits\n"
     ".balign 16\n"
     ".Ltcp42:\n"
+    ".type \"tcp_sendq::marks::Marks::remove_range::<#4d7786d65df9050b>\",%function\n"
+    ".size \"tcp_sendq::marks::Marks::remove_range::<#4d7786d65df9050b>\",1137\n"
+    "\"tcp_sendq::marks::Marks::remove_range::<#4d7786d65df9050b>\":\n"
+    ".octa 0x5641574100000464840ff12948d18948,0xc850f01f9834808478b4c084f8d4c53,0x110f41c0570f10478b480f8b48000001\n"
+    ".octa 0xd18949ff508d4900000000f5148d4c01,0xf9814900000210840ffffe8348f12949,0x8d4a111c8d4e000002cd820f00000101\n"
+    ".octa 0x90662debdf894df6314538c38348111c,0xc6ff49f12949d1894900000100b28d49,0x814900000800c7814900000800c38148\n"
+    ".octa 0x8348f289490000027a860f00000100f9,0x841f0f2e66f6314c74fffe,0xff0f354100fe0f34c100fd0f344100f\n"
+    ".octa 0x54110fd8f34c110fc8f344110ff31c10,0x100fe814808c68348f8f35c110fe8f3,0x841f0f2e668aebcc750000\n"
+    ".octa 0x410000080033b48b490be6c148f6894c,0x841f0f2e666600000800b9,0x4be80f74894bf00f74894bf80f74894b\n"
+    ".octa 0x4cffffff41e9e675e0c18349e00f7489,0x8949d72948c7894c0f8b48c82948c089,0x6d840fff854800000093830ff22949d2\n"
+    ".octa 0xfcbb49000001e4820f06ff8348000002,0x1d1840fda854d1fffffffffffff,0x8d4903e28341fa8941fce38349fb8949\n"
+    ".octa 0x294cd91c8d4800000000d5348d4c301c,0xde894df0c08349c1048d4ef0c38348f3,0x841f0f2e66ff3145def749\n"
+    ".octa 0xfb0c110f42f80c100f43f0f844100f43,0x4ce175fe394dfcc78349f0fb44110f42,0xd03949000001e3e90000016c850fdf39\n"
+    ".octa 0x1ad820f06ff8348000001da840f,0x1ffffffffffffffcba49d02949f08949,0xfce08349f8894900000194840fd0854d\n"
+    ".octa 0x10c38349d11c8d4c10c28349f1148d4c,0x841f0f2e6666666666db31,0xda44110f41db0c100f41f0db44100f41\n"
+    ".octa 0x4ce175d8394904c38348da0c110f41f0,0xc0854d00000163e900000148850fc739,0x48697206f98349db3145000001fa840f\n"
+    ".octa 0x587220fb8348dbf74800000000f51c8d,0x348d4edbf748db894cfce38349cb894d,0x49c1148d4ece0149d6294dffffffe8c5\n"
+    ".octa 0x841f0f2e66ff3145e8c283,0xfa0c110f43fe0c100f43f0fe44100f43,0x4de175fb394cfcc78349f0fa44110f43\n"
+    ".octa 0x48de014c330c8d4d00000188840fd939,0xf0c18349c90149d9f74903e1c149c6ff,0x90f0c2834919148d4edbf74903e3c149\n"
+    ".octa 0xf075c6394cc8ff49c21c894fc11c8b4f,0x4c00000114840ffffe83480000014be9,0x130840ff2394800000000f5148d\n"
+    ".octa 0xd4e9f63100000097830f04f98349,0x7a8d491a7401c2f641d7894cfa894900,0x321c8d4dc1048b4ec8ff4912048d4dff\n"
+    ".octa 0x348d48537401fa8349d904894ecbff49,0xfa8948f8c18348d10c8d48f8c68348f1,0xf9448b4cfec28348fe04894cf9048b4c\n"
+    ".octa 0xc0314523ebe575d78948f8fe44894cf8,0x841f0fd10c8d48f1348d48,0xf075c7394cc0ff49c614894ac1148b4a\n"
+    ".octa 0x9ae9018949000000a2860f013949,0x83490a048d4d000001fce681ce894400,0x841f0f2e6666db314518c0\n"
+    ".octa 0xd844110f43d80c100f43f0d844100f43,0xe075de394c04c38349f8d84c110f43e8,0x1f0f08c0834911048d4e4b74f13949\n"
+    ".octa 0x75f13949c6ff48f8f054894df0148b4d,0xc08149f8c1748b4a2874c0854d2debef,0x841f0f2e666666fffffeff\n"
+    ".octa 0xf075c2394dc8ff49000007f8c1b4894a,0x5f415e415b10478948085789480f8948\n"
+    ".byte 0xc3\n"
+    ".section .text.tcp.43,\"ax\",%progbits\n"
+    ".balign 16\n"
+    ".Ltcp43:\n"
     ".type \"tcp_replay::party::Party::emit::<#244039bd4e0652a3>\",%function\n"
     ".size \"tcp_replay::party::Party::emit::<#244039bd4e0652a3>\",4735\n"
     "\"tcp_replay::party::Party::emit::<#244039bd4e0652a3>\":\n"
@@ -2288,26 +2327,26 @@ __asm__(
     ".octa 0x6608c0c166d8894900000000e828244c,0x4c000000c024ac8b4c00000080248489,0x68e92024748b482824548b4850245c8b\n"
     ".short 0xffef\n"
     ".byte 0xff\n"
-    ".reloc .Ltcp42+182,R_X86_64_PLT32,.Ltcp43-4\n"
-    ".reloc .Ltcp42+431,R_X86_64_PLT32,.Ltcp45-4\n"
-    ".reloc .Ltcp42+463,R_X86_64_PLT32,.Ltcp48-4\n"
-    ".reloc .Ltcp42+476,R_X86_64_PC32,.Ltcp101-4\n"
-    ".reloc .Ltcp42+820,R_X86_64_PLT32,.Ltcp51-4\n"
-    ".reloc .Ltcp42+1149,R_X86_64_PLT32,.Ltcp50-4\n"
-    ".reloc .Ltcp42+2065,R_X86_64_PLT32,.Ltcp51-4\n"
-    ".reloc .Ltcp42+2326,R_X86_64_PC32,.Ltcp0+844\n"
-    ".reloc .Ltcp42+2406,R_X86_64_PC32,.Ltcp0+860\n"
-    ".reloc .Ltcp42+2588,R_X86_64_PLT32,.Ltcp44-4\n"
-    ".reloc .Ltcp42+3224,R_X86_64_PC32,.Ltcp101-4\n"
-    ".reloc .Ltcp42+3485,R_X86_64_PLT32,.Ltcp38-4\n"
-    ".reloc .Ltcp42+3544,R_X86_64_PLT32,.Ltcp38-4\n"
-    ".reloc .Ltcp42+3985,R_X86_64_PLT32,.Ltcp52-4\n"
-    ".reloc .Ltcp42+4430,R_X86_64_PC32,.Ltcp101-4\n"
-    ".reloc .Ltcp42+4635,R_X86_64_PLT32,.Ltcp46-4\n"
-    ".reloc .Ltcp42+4688,R_X86_64_PLT32,.Ltcp52-4\n"
-    ".section .text.tcp.43,\"ax\",%progbits\n"
+    ".reloc .Ltcp43+182,R_X86_64_PLT32,.Ltcp44-4\n"
+    ".reloc .Ltcp43+431,R_X86_64_PLT32,.Ltcp46-4\n"
+    ".reloc .Ltcp43+463,R_X86_64_PLT32,.Ltcp49-4\n"
+    ".reloc .Ltcp43+476,R_X86_64_PC32,.Ltcp102-4\n"
+    ".reloc .Ltcp43+820,R_X86_64_PLT32,.Ltcp52-4\n"
+    ".reloc .Ltcp43+1149,R_X86_64_PLT32,.Ltcp51-4\n"
+    ".reloc .Ltcp43+2065,R_X86_64_PLT32,.Ltcp52-4\n"
+    ".reloc .Ltcp43+2326,R_X86_64_PC32,.Ltcp0+844\n"
+    ".reloc .Ltcp43+2406,R_X86_64_PC32,.Ltcp0+860\n"
+    ".reloc .Ltcp43+2588,R_X86_64_PLT32,.Ltcp45-4\n"
+    ".reloc .Ltcp43+3224,R_X86_64_PC32,.Ltcp102-4\n"
+    ".reloc .Ltcp43+3485,R_X86_64_PLT32,.Ltcp38-4\n"
+    ".reloc .Ltcp43+3544,R_X86_64_PLT32,.Ltcp38-4\n"
+    ".reloc .Ltcp43+3985,R_X86_64_PLT32,.Ltcp53-4\n"
+    ".reloc .Ltcp43+4430,R_X86_64_PC32,.Ltcp102-4\n"
+    ".reloc .Ltcp43+4635,R_X86_64_PLT32,.Ltcp47-4\n"
+    ".reloc .Ltcp43+4688,R_X86_64_PLT32,.Ltcp53-4\n"
+    ".section .text.tcp.44,\"ax\",%progbits\n"
     ".balign 16\n"
-    ".Ltcp43:\n"
+    ".Ltcp44:\n"
     ".type \"tcp_replay::growth::emit_alone::<#b999dbadf68999a9>\",%function\n"
     ".size \"tcp_replay::growth::emit_alone::<#b999dbadf68999a9>\",832\n"
     "\"tcp_replay::growth::emit_alone::<#b999dbadf68999a9>\":\n"
@@ -2338,13 +2377,13 @@ __asm__(
     ".long 0x87e93067\n"
     ".short 0xfffd\n"
     ".byte 0xff\n"
-    ".reloc .Ltcp43+365,R_X86_64_PLT32,.Ltcp50-4\n"
-    ".reloc .Ltcp43+427,R_X86_64_PLT32,.Ltcp44-4\n"
-    ".reloc .Ltcp43+609,R_X86_64_PC32,.Ltcp0+876\n"
-    ".reloc .Ltcp43+689,R_X86_64_PC32,.Ltcp0+892\n"
-    ".section .text.tcp.44,\"ax\",%progbits\n"
+    ".reloc .Ltcp44+365,R_X86_64_PLT32,.Ltcp51-4\n"
+    ".reloc .Ltcp44+427,R_X86_64_PLT32,.Ltcp45-4\n"
+    ".reloc .Ltcp44+609,R_X86_64_PC32,.Ltcp0+876\n"
+    ".reloc .Ltcp44+689,R_X86_64_PC32,.Ltcp0+892\n"
+    ".section .text.tcp.45,\"ax\",%progbits\n"
     ".balign 16\n"
-    ".Ltcp44:\n"
+    ".Ltcp45:\n"
     ".type \"std_alloc::vec::Vec::grow_amortized::<#d48bdf10996749c1>\",%function\n"
     ".size \"std_alloc::vec::Vec::grow_amortized::<#d48bdf10996749c1>\",890\n"
     "\"std_alloc::vec::Vec::grow_amortized::<#d48bdf10996749c1>\":\n"
@@ -2374,9 +2413,9 @@ __asm__(
     ".octa 0xf201054110f201654100f10164c100f,0x75d1394830c283481004110f10104c11\n"
     ".long 0xfd7be9db\n"
     ".short 0xffff\n"
-    ".section .text.tcp.45,\"ax\",%progbits\n"
+    ".section .text.tcp.46,\"ax\",%progbits\n"
     ".balign 16\n"
-    ".Ltcp45:\n"
+    ".Ltcp46:\n"
     ".type \"tcp_conn::endpoint::Endpoint::write_reset::<#4d7786d65df9050b>\",%function\n"
     ".size \"tcp_conn::endpoint::Endpoint::write_reset::<#4d7786d65df9050b>\",245\n"
     "\"tcp_conn::endpoint::Endpoint::write_reset::<#4d7786d65df9050b>\":\n"
@@ -2387,11 +2426,11 @@ __asm__(
     ".octa 0x892feec148f0af0f4880008001be0001,0xc289000100190532048dc62910e0c1f0,0xb810518966d0440fc08508c2c166d2f7\n"
     ".long 0x14\n"
     ".byte 0xc3\n"
-    ".reloc .Ltcp45+95,R_X86_64_PC32,.Ltcp0+908\n"
-    ".reloc .Ltcp45+156,R_X86_64_PC32,.Ltcp0+924\n"
-    ".section .text.tcp.46,\"ax\",%progbits\n"
+    ".reloc .Ltcp46+95,R_X86_64_PC32,.Ltcp0+908\n"
+    ".reloc .Ltcp46+156,R_X86_64_PC32,.Ltcp0+924\n"
+    ".section .text.tcp.47,\"ax\",%progbits\n"
     ".balign 16\n"
-    ".Ltcp46:\n"
+    ".Ltcp47:\n"
     ".type \"tcp_wire::encoding::write_unsummed\",%function\n"
     ".size \"tcp_wire::encoding::write_unsummed\",1169\n"
     "\"tcp_wire::encoding::write_unsummed\":\n"
@@ -2426,24 +2465,24 @@ __asm__(
     ".octa 0x124089416608c0c1661047b70f000010,0x415d415c415b58c48348c88948e90148\n"
     ".long 0x5d5f415e\n"
     ".byte 0xc3\n"
-    ".reloc .Ltcp46+195,R_X86_64_PC32,.Ltcp47-4\n"
-    ".reloc .Ltcp46+299,R_X86_64_PC32,.Ltcp0+956\n"
-    ".reloc .Ltcp46+362,R_X86_64_PC32,.Ltcp0+940\n"
-    ".reloc .Ltcp46+859,R_X86_64_PC32,.Ltcp0+940\n"
-    ".section .rodata.tcp.47,\"a\",%progbits\n"
+    ".reloc .Ltcp47+195,R_X86_64_PC32,.Ltcp48-4\n"
+    ".reloc .Ltcp47+299,R_X86_64_PC32,.Ltcp0+956\n"
+    ".reloc .Ltcp47+362,R_X86_64_PC32,.Ltcp0+940\n"
+    ".reloc .Ltcp47+859,R_X86_64_PC32,.Ltcp0+940\n"
+    ".section .rodata.tcp.48,\"a\",%progbits\n"
     ".balign 4\n"
-    ".Ltcp47:\n"
+    ".Ltcp48:\n"
     ".octa 0x0\n"
     ".quad 0x0\n"
-    ".reloc .Ltcp47+0,R_X86_64_PC32,.Ltcp46+208\n"
-    ".reloc .Ltcp47+4,R_X86_64_PC32,.Ltcp46+459\n"
-    ".reloc .Ltcp47+8,R_X86_64_PC32,.Ltcp46+126\n"
-    ".reloc .Ltcp47+12,R_X86_64_PC32,.Ltcp46+452\n"
-    ".reloc .Ltcp47+16,R_X86_64_PC32,.Ltcp46+234\n"
-    ".reloc .Ltcp47+20,R_X86_64_PC32,.Ltcp46+504\n"
-    ".section .text.tcp.48,\"ax\",%progbits\n"
+    ".reloc .Ltcp48+0,R_X86_64_PC32,.Ltcp47+208\n"
+    ".reloc .Ltcp48+4,R_X86_64_PC32,.Ltcp47+459\n"
+    ".reloc .Ltcp48+8,R_X86_64_PC32,.Ltcp47+126\n"
+    ".reloc .Ltcp48+12,R_X86_64_PC32,.Ltcp47+452\n"
+    ".reloc .Ltcp48+16,R_X86_64_PC32,.Ltcp47+234\n"
+    ".reloc .Ltcp48+20,R_X86_64_PC32,.Ltcp47+504\n"
+    ".section .text.tcp.49,\"ax\",%progbits\n"
     ".balign 16\n"
-    ".Ltcp48:\n"
+    ".Ltcp49:\n"
     ".type \"tcp_conn::endpoint::Endpoint::write_syn::<#4d7786d65df9050b>\",%function\n"
     ".size \"tcp_conn::endpoint::Endpoint::write_syn::<#4d7786d65df9050b>\",1168\n"
     "\"tcp_conn::endpoint::Endpoint::write_syn::<#4d7786d65df9050b>\":\n"
@@ -2484,12 +2523,12 @@ __asm__(
     ".octa 0xc1c166d1f7d189ca01f22910e6c1d689,0x270c48148104b8966ca440fd28508\n"
     ".quad 0x5f415e415c415b00\n"
     ".short 0xc35d\n"
-    ".reloc .Ltcp48+531,R_X86_64_PLT32,.Ltcp46-4\n"
-    ".reloc .Ltcp48+614,R_X86_64_PLT32,.Ltcp8-4\n"
-    ".reloc .Ltcp48+1069,R_X86_64_PC32,.Ltcp0+972\n"
-    ".section .text.tcp.49,\"ax\",%progbits\n"
+    ".reloc .Ltcp49+531,R_X86_64_PLT32,.Ltcp47-4\n"
+    ".reloc .Ltcp49+614,R_X86_64_PLT32,.Ltcp8-4\n"
+    ".reloc .Ltcp49+1069,R_X86_64_PC32,.Ltcp0+972\n"
+    ".section .text.tcp.50,\"ax\",%progbits\n"
     ".balign 16\n"
-    ".Ltcp49:\n"
+    ".Ltcp50:\n"
     ".type \"tcp_sendq::ring::copy_over_end\",%function\n"
     ".size \"tcp_sendq::ring::copy_over_end\",577\n"
     "\"tcp_sendq::ring::copy_over_end\":\n"
@@ -2516,9 +2555,9 @@ __asm__(
     ".octa 0x415b08c48348f075c33948c0ff48070c\n"
     ".quad 0x5d5f415e415d415c\n"
     ".byte 0xc3\n"
-    ".section .text.tcp.50,\"ax\",%progbits\n"
+    ".section .text.tcp.51,\"ax\",%progbits\n"
     ".balign 16\n"
-    ".Ltcp50:\n"
+    ".Ltcp51:\n"
     ".type \"tcp_conn::endpoint::Endpoint::write_blocks::<#4d7786d65df9050b>\",%function\n"
     ".size \"tcp_conn::endpoint::Endpoint::write_blocks::<#4d7786d65df9050b>\",2447\n"
     "\"tcp_conn::endpoint::Endpoint::write_blocks::<#4d7786d65df9050b>\":\n"
@@ -2579,32 +2618,35 @@ __asm__(
     ".octa 0x3949ef75d6394c04c28349101c894711\n"
     ".quad 0xe9fffffcc9840ff1\n"
     ".long 0xfffffbdc\n"
-    ".reloc .Ltcp50+1502,R_X86_64_PLT32,.Ltcp49-4\n"
-    ".reloc .Ltcp50+1651,R_X86_64_PLT32,.Ltcp46-4\n"
-    ".reloc .Ltcp50+1734,R_X86_64_PLT32,.Ltcp8-4\n"
-    ".reloc .Ltcp50+2189,R_X86_64_PC32,.Ltcp0+988\n"
-    ".section .text.tcp.51,\"ax\",%progbits\n"
-    ".balign 16\n"
-    ".Ltcp51:\n"
-    ".type \"tcp_halves::sender::Sender::due::<#4d7786d65df9050b>\",%function\n"
-    ".size \"tcp_halves::sender::Sender::due::<#4d7786d65df9050b>\",564\n"
-    "\"tcp_halves::sender::Sender::due::<#4d7786d65df9050b>\":\n"
-    ".octa 0xf88949c5894453544155415641574155,0x7e8b4c000000d4850f0e8b4c01687e80,0x45c7ff48107e8b48f9470f4df9394d70\n"
-    ".octa 0x485e8b48da420f4dfb2949fb894dd231,0xfc244c892574f6854df4894d50768b4c,0xd3448b420000016e850f01fe8349e989\n"
-    ".octa 0x244c8bcd89d4894dffda8349c3394904,0x3949e3048b420e73f4394d28568b4cfc,0xfc860fda394d04e35c8b460572c3\n"
-    ".octa 0x45ea89fc2454892474f6854df7894d00,0xfb048b4200000159850f01fe8349ff31,0xd4894dfc24548bd589ffdf8349c33949\n"
-    ".octa 0x1c8d4978768b4cfb248b460473f7394d,0x4de6394ddc294dc2b70f2676de29493b,0xbbe9c031e0430f4cc43949e6420f\n"
-    ".octa 0x80868bc7ff4828568b4c107e8b4800,0xc9310b76f1394908768b48c101490000,0x8949c031c9b60f03ebc9430f49f12949\n"
-    ".octa 0xf4cd9294dd1894dd8420f4cfb2949f3,0x4cc13949c9420f4cc9394cc2b70fc842,0x490000000100c7491974c9854dc8430f\n"
-    ".octa 0xeb1848894d10708949000000010840c7,0x48e82040c931c0940ffe3948d7014c5e,0x4908408949c001008949c0b60fce450f\n"
-    ".octa 0x1c8d4932eb000000001840c749104889,0x830f785e3b48ffffff62870fdf39493a,0x100c74900000003b8e43145ffffff58\n"
-    ".octa 0x5b1860894d1058894908408949000000,0xf4894dd23145c35d5f415e415d415c41,0x841f0f2e66666666661beb\n"
-    ".octa 0xe5894dfffffe6f860f01fc8349ec294d,0xe072c3394904eb448b2a2c8d4bedd149,0x441f0f6613ebf4894ddbebea8949\n"
-    ".octa 0xe5894dfffffe8f860f01fc8349ec294d,0x49e172c33949eb048b2f2c8d4bedd149\n"
-    ".long 0xdcebef89\n"
+    ".reloc .Ltcp51+1502,R_X86_64_PLT32,.Ltcp50-4\n"
+    ".reloc .Ltcp51+1651,R_X86_64_PLT32,.Ltcp47-4\n"
+    ".reloc .Ltcp51+1734,R_X86_64_PLT32,.Ltcp8-4\n"
+    ".reloc .Ltcp51+2189,R_X86_64_PC32,.Ltcp0+988\n"
     ".section .text.tcp.52,\"ax\",%progbits\n"
     ".balign 16\n"
     ".Ltcp52:\n"
+    ".type \"tcp_halves::sender::Sender::due::<#4d7786d65df9050b>\",%function\n"
+    ".size \"tcp_halves::sender::Sender::due::<#4d7786d65df9050b>\",622\n"
+    "\"tcp_halves::sender::Sender::due::<#4d7786d65df9050b>\":\n"
+    ".octa 0x8b4c01687e8053544155415641574155,0xf4dea394d706e8b4c0000014a850f16,0xdb3145c1ff4928468b48104e8b4cea47\n"
+    ".octa 0x92860fd8394cdb430f4ccb294ceb894c,0x149444e8bec244c89e8245489000001,0x48ed8548ee8949506e8b48487e8b4ccb\n"
+    ".octa 0x8348f631452374e424448944f0246c89,0xc3394d04f7448b47000000a5850f01fd,0x3949f0246c8b48e424448b44ffde8349\n"
+    ".octa 0xf75c8b470572db3949f71c8b430e73ee,0x8be0394ccc2949f8244c8948dc894d04,0xed894900000118860fe824548bec244c\n"
+    ".octa 0x8b477b7501fd8348ed31452674ed8548,0x4c8be424448b44ffdd8349c3394def04,0x830fed3949f0246c8b48e824548bec24\n"
+    ".octa 0x4ccc014d786e8b48ef3c8b4700000125,0x801f0f00000123e96876e529,0xeb8948ffffff5b860f01fd8348dd2948\n"
+    ".octa 0x72c3394d04e7448b4733248d4eebd148,0x841f0f2e66daebe6894ddf,0x4eebd148eb8948857601fd8348dd2948\n"
+    ".octa 0xebf5894de472c3394df7048b472b348d,0x809e8b44c1ff4928468b48104e8b4cdf,0x310b76f2394908768b48da014d000000\n"
+    ".octa 0x49db31c9b60f03ebca430f49f22949c9,0x4cda294dc28949db420f4ccb294df389,0xd23949d1420f4cd1394cd2b70fd3420f\n"
+    ".octa 0x107c7483474d2854dd2430f4c,0x1857894c10778948000000010847c748,0x3b4c8e77e5394d08248d4e0000008ee9\n"
+    ".octa 0xc1014963eb00000003b9c03188737866,0xfce450f48c02044c931c0940fce394c,0x48104f894808478948c001078948c0b6\n"
+    ".octa 0x786e8b48ff31454aeb000000001847c7,0x24440348ffffff40860fe5294ccc014d,0xd8294ccab70fc7420f49f0246c3b4cf8\n"
+    ".octa 0xc931c1430f48c83948c5420f48c53948,0x481067894c084f89480000000107c748\n"
+    ".quad 0x5d415c415b184789\n"
+    ".long 0x5f415e41\n"
+    ".short 0xc35d\n"
+    ".section .text.tcp.53,\"ax\",%progbits\n"
+    ".balign 16\n"
+    ".Ltcp53:\n"
     ".type \"tcp_numbers::parts::checksum_in_parts\",%function\n"
     ".size \"tcp_numbers::parts::checksum_in_parts\",2608\n"
     "\"tcp_numbers::parts::checksum_in_parts\":\n"
@@ -2663,15 +2705,15 @@ __asm__(
     ".octa 0xc40f660c24448b0824446e0f66c40141,0x500380f6603c0c40f6610e8c102c0,0xc1700f66c8fe0f66eec8700f66000000\n"
     ".octa 0x144e50145d801c07e0f66c1fe0f6655,0xe9c148c8af0f4880008001b906c083e8,0x440fd0f7c889c101d12910e2c1ca892f\n"
     ".octa 0xc35d5f415e415d415c415b18c48348c1\n"
-    ".reloc .Ltcp52+83,R_X86_64_PLT32,.Ltcp8-4\n"
-    ".reloc .Ltcp52+662,R_X86_64_PLT32,.Ltcp8-4\n"
-    ".reloc .Ltcp52+675,R_X86_64_PLT32,.Ltcp8-4\n"
-    ".reloc .Ltcp52+1165,R_X86_64_PLT32,.Ltcp8-4\n"
-    ".reloc .Ltcp52+2054,R_X86_64_PLT32,.Ltcp8-4\n"
-    ".reloc .Ltcp52+2527,R_X86_64_PC32,.Ltcp0+1004\n"
-    ".section .text.tcp.53,\"ax\",%progbits\n"
+    ".reloc .Ltcp53+83,R_X86_64_PLT32,.Ltcp8-4\n"
+    ".reloc .Ltcp53+662,R_X86_64_PLT32,.Ltcp8-4\n"
+    ".reloc .Ltcp53+675,R_X86_64_PLT32,.Ltcp8-4\n"
+    ".reloc .Ltcp53+1165,R_X86_64_PLT32,.Ltcp8-4\n"
+    ".reloc .Ltcp53+2054,R_X86_64_PLT32,.Ltcp8-4\n"
+    ".reloc .Ltcp53+2527,R_X86_64_PC32,.Ltcp0+1004\n"
+    ".section .text.tcp.54,\"ax\",%progbits\n"
     ".balign 16\n"
-    ".Ltcp53:\n"
+    ".Ltcp54:\n"
     ".type \"tcp_replay::party::Party::take_in::<#244039bd4e0652a3>\",%function\n"
     ".size \"tcp_replay::party::Party::take_in::<#244039bd4e0652a3>\",2320\n"
     "\"tcp_replay::party::Party::take_in::<#244039bd4e0652a3>\":\n"
@@ -2699,7 +2741,7 @@ __asm__(
     ".octa 0x894127247c884418efc141d789412024,0x4408edc14925247c89446608efc141d7,0x446608c6c14166282444894821246c89\n"
     ".octa 0x322444c76614418d49c9014c30247489,0x48382444894800000000342444c70000,0x894810e8c1d88940244489480824448b\n"
     ".octa 0x894c01c1203a0f6608e9c1d98948244c,0xf6604244cb70f411824648b4c502444,0x6603c0203a0f6618e8c1d88902c0203a\n"
-    ".octa 0x44b70f0f75342444394101b141c07e0f,0x75cd3966c1950f413824443b41662024,0xc18441c0930f02fd8330246cb60f4111\n"
+    ".octa 0x44b70f0f75342444394101b141c07e0f,0x75e93966c1950f413824443b41662024,0xc18441c0930f02fd8330246cb60f4111\n"
     ".octa 0xe7894cff894920244c8d48f631453b74,0x1b8ff894c00000000e8da89f631,0x8348105789480877894c078948d23100\n"
     ".octa 0xfd458dc35d5f415e415d415c415b68c4,0xd4248c8b45000000a7830f08f883,0x10a88b440000010824a48b45e0894c00\n"
     ".octa 0x244c894808488bef2945e78945000001,0x48408b48c6894940488b4840508d4c10,0x1e3ba0f4101e083d889440824448948\n"
@@ -2724,48 +2766,44 @@ __asm__(
     ".octa 0x41c0950f00307e804108750000000141,0x8244439480eb2414eeb000001418688,0xf3894cc8490f49c98545ffffff74820f\n"
     ".octa 0xdf89482024748d4c00000000e8ce8948,0xe8df894800000000e8f6894c,0x894cdf894800000000e8f6894cdf8948\n"
     ".octa 0xffffff42e900000003b800000000e8f6\n"
-    ".reloc .Ltcp53+158,R_X86_64_PLT32,.Ltcp8-4\n"
-    ".reloc .Ltcp53+620,R_X86_64_PC32,.Ltcp0+1020\n"
-    ".reloc .Ltcp53+1221,R_X86_64_PLT32,.Ltcp67-4\n"
-    ".reloc .Ltcp53+2023,R_X86_64_PLT32,.Ltcp67-4\n"
-    ".reloc .Ltcp53+2042,R_X86_64_PLT32,.Ltcp54-4\n"
-    ".reloc .Ltcp53+2064,R_X86_64_PLT32,.Ltcp67-4\n"
-    ".reloc .Ltcp53+2074,R_X86_64_PC32,.Ltcp183-4\n"
-    ".reloc .Ltcp53+2121,R_X86_64_PLT32,.Ltcp67-4\n"
-    ".reloc .Ltcp53+2169,R_X86_64_PLT32,.Ltcp55-4\n"
-    ".reloc .Ltcp53+2184,R_X86_64_PLT32,.Ltcp56-4\n"
-    ".reloc .Ltcp53+2194,R_X86_64_PLT32,.Ltcp60-4\n"
-    ".reloc .Ltcp53+2260,R_X86_64_PLT32,.Ltcp55-4\n"
-    ".reloc .Ltcp53+2276,R_X86_64_PLT32,.Ltcp56-4\n"
-    ".reloc .Ltcp53+2284,R_X86_64_PLT32,.Ltcp60-4\n"
-    ".reloc .Ltcp53+2295,R_X86_64_PLT32,.Ltcp62-4\n"
-    ".reloc .Ltcp53+2306,R_X86_64_PLT32,.Ltcp66-4\n"
-    ".section .text.tcp.54,\"ax\",%progbits\n"
+    ".reloc .Ltcp54+158,R_X86_64_PLT32,.Ltcp8-4\n"
+    ".reloc .Ltcp54+620,R_X86_64_PC32,.Ltcp0+1020\n"
+    ".reloc .Ltcp54+1221,R_X86_64_PLT32,.Ltcp68-4\n"
+    ".reloc .Ltcp54+2023,R_X86_64_PLT32,.Ltcp68-4\n"
+    ".reloc .Ltcp54+2042,R_X86_64_PLT32,.Ltcp55-4\n"
+    ".reloc .Ltcp54+2064,R_X86_64_PLT32,.Ltcp68-4\n"
+    ".reloc .Ltcp54+2074,R_X86_64_PC32,.Ltcp184-4\n"
+    ".reloc .Ltcp54+2121,R_X86_64_PLT32,.Ltcp68-4\n"
+    ".reloc .Ltcp54+2169,R_X86_64_PLT32,.Ltcp56-4\n"
+    ".reloc .Ltcp54+2184,R_X86_64_PLT32,.Ltcp57-4\n"
+    ".reloc .Ltcp54+2194,R_X86_64_PLT32,.Ltcp61-4\n"
+    ".reloc .Ltcp54+2260,R_X86_64_PLT32,.Ltcp56-4\n"
+    ".reloc .Ltcp54+2276,R_X86_64_PLT32,.Ltcp57-4\n"
+    ".reloc .Ltcp54+2284,R_X86_64_PLT32,.Ltcp61-4\n"
+    ".reloc .Ltcp54+2295,R_X86_64_PLT32,.Ltcp63-4\n"
+    ".reloc .Ltcp54+2306,R_X86_64_PLT32,.Ltcp67-4\n"
+    ".section .text.tcp.55,\"ax\",%progbits\n"
     ".balign 16\n"
-    ".Ltcp54:\n"
+    ".Ltcp55:\n"
     ".type \"tcp_conn::endpoint::Endpoint::judge_syn_sent::<#4d7786d65df9050b>\",%function\n"
     ".size \"tcp_conn::endpoint::Endpoint::judge_syn_sent::<#4d7786d65df9050b>\",104\n"
     "\"tcp_conn::endpoint::Endpoint::judge_syn_sent::<#4d7786d65df9050b>\":\n"
     ".octa 0xce29c101084f8b40478b48187410c2f6,0x4c2f63d7548473b482a78f685f00148,0xc3040402e0c0c0940f12c2f6d2f60e75\n"
     ".octa 0xc1440f00000007b800000001b910c2f6,0xf029480000000100000000be48c931c3,0xf04c2f6c031c37448473b48c1420f48\n"
     ".quad 0xc3c0ff80048dc094\n"
-    ".section .text.tcp.55,\"ax\",%progbits\n"
-    ".balign 16\n"
-    ".Ltcp55:\n"
-    ".type \"tcp_halves::sender::Sender::take_ack::<#4d7786d65df9050b>\",%function\n"
-    ".size \"tcp_halves::sender::Sender::take_ack::<#4d7786d65df9050b>\",265\n"
-    "\"tcp_halves::sender::Sender::take_ack::<#4d7786d65df9050b>\":\n"
-    ".octa 0xf5870f08773b48000000ff830f373948,0x3101418d4c28578b48104f8b48000000,0xf48c23948c1430f49c1294df18949c0\n"
-    ".octa 0x48d18948104f8948c10148378948c242,0x4830778b4820578b482073d13948c129,0x48c6294cc2430f4cd63948c03145c601\n"
-    ".octa 0x4850778b48484f8b48284f8948307789,0x74f6854850477f0ff3c0ef0f6658578b,0x1f0fc0314500c0700f66c06e0f663b\n"
-    ".octa 0xc83f380f66c10c7e0f42f304c14c8b46,0x491276c13941c10cd60f4266c8fa0f66,0xebc0314540ebf08949d975c6394cc0ff\n"
-    ".octa 0x441f0f663273f1394901488d4d3b,0x42c8fa0f66c83f380f66c90c7e0f42f3,0xc10cd60f4266c90cd60f426604c9443b\n"
-    ".octa 0x484f8948d475ce394cc1ff4900d08349\n"
-    ".quad 0x585789485047894c\n"
-    ".byte 0xc3\n"
     ".section .text.tcp.56,\"ax\",%progbits\n"
     ".balign 16\n"
     ".Ltcp56:\n"
+    ".type \"tcp_halves::sender::Sender::take_ack::<#4d7786d65df9050b>\",%function\n"
+    ".size \"tcp_halves::sender::Sender::take_ack::<#4d7786d65df9050b>\",65\n"
+    "\"tcp_halves::sender::Sender::take_ack::<#4d7786d65df9050b>\":\n"
+    ".octa 0x104f8b48c3017608773b480673373948,0xc1294df18949c03101418d4c28578b48,0x148378948c2420f48c23948c1430f49\n"
+    ".octa 0xe9c6894818c78348104f8948c1\n"
+    ".byte 0x0\n"
+    ".reloc .Ltcp56+61,R_X86_64_PLT32,.Ltcp41-4\n"
+    ".section .text.tcp.57,\"ax\",%progbits\n"
+    ".balign 16\n"
+    ".Ltcp57:\n"
     ".type \"tcp_conn::endpoint::Endpoint::take_window_and_blocks::<#4d7786d65df9050b>\",%function\n"
     ".size \"tcp_conn::endpoint::Endpoint::take_window_and_blocks::<#4d7786d65df9050b>\",174\n"
     "\"tcp_conn::endpoint::Endpoint::take_window_and_blocks::<#4d7786d65df9050b>\":\n"
@@ -2776,53 +2814,36 @@ __asm__(
     ".quad 0x18768b480974d285\n"
     ".long 0xe9\n"
     ".short 0xc300\n"
-    ".reloc .Ltcp56+169,R_X86_64_PLT32,.Ltcp57-4\n"
-    ".section .text.tcp.57,\"ax\",%progbits\n"
-    ".balign 16\n"
-    ".Ltcp57:\n"
-    ".type \"tcp_conn::endpoint::Endpoint::take_blocks::<#4d7786d65df9050b>\",%function\n"
-    ".size \"tcp_conn::endpoint::Endpoint::take_blocks::<#4d7786d65df9050b>\",1335\n"
-    "\"tcp_conn::endpoint::Endpoint::take_blocks::<#4d7786d65df9050b>\":\n"
-    ".octa 0xf8ec814853544155415641574155,0x2484290fc0570f085f8b08247c894800,0x2484290f000000a02484290f000000b0\n"
-    ".octa 0xc02484c74800000090,0x88249489480000008024b48948,0x8024b48d480000009024bc8d48\n"
-    ".octa 0xb2850f010000009024bc8000000000e8,0x4800000088888d480824448b48000004,0x48602444894800000090054818244c89\n"
-    ".octa 0x841f0f2e662deb38245c89,0x8024b48d480000009024bc8d48,0x62850f010000009024bc8000000000e8\n"
-    ".octa 0x8245c8b4c040000009824bc80000004,0x894c20708b4c000000a024848d48ce75,0x8c290f1048100f00100f000000f024b4\n"
-    ".octa 0xf6854d000000d02484290f000000e024,0x247c8b4836eb000000d024848d4c9e74,0x245c8b4c00000000e8e18944fa894418\n"
-    ".octa 0x841f0f2e66666666666608,0xff5e840fceff4908c083496824448b4c,0x8d48d62903148d40438b49308b41ffff\n"
-    ".octa 0x100000000bf48f6311379f685060c,0x48d62904708b41ce420f48f929480000,0xbf48f6311379682444894cf68530148d\n"
-    ".octa 0x49d6420f48fa29480000000100000000,0xcf8949c03145c6ff48687b8b4950738b,0x420f4df42949d48949f8420f4df72949\n"
-    ".octa 0x3948c0930fc83948e7420f4ce7394ce0,0xfe7394dffffff64850fc108c1930fd1,0x4dffffff51870f48533b49ffffff5b83\n"
-    ".octa 0xee894c00000090ab8b4d00000088838b,0x31000002a2850f01fd83491574ed854d,0x80838b4900d6834804f07c3945f6\n"
-    ".octa 0x830f1024748948ee394c482444894800,0xf5048d48402474894c000002bf,0xfff8ed048d4af00c8d4d702444894800\n"
-    ".octa 0x4838c08348f0048d495824448948ffff,0xfffeffc68149f62949ee894d50244489,0x2444894cd23145f0c78348e83c8d4bff\n"
-    ".octa 0x841f0f2e664bebcb894c20,0xab894d0000008883894d20edc148e889,0x988b894978244c8b4800000090\n"
-    ".octa 0xff49e5470f44e53944f8420f44f83944,0x215860ff53949f8c78348ceff49c2,0x98838b490000020f870f21394500\n"
-    ".octa 0x110f6024448b48c0570f782444894800,0x4c8b48f22948ea894ccdff49298b4900,0x247c894800000101fa8148f089487024\n"
-    ".octa 0xd5048d4a00000119820f282454894c30,0x31c629485824748b48f1894800000000,0xebc8894850244c8b4cc8894df2894dff\n"
-    ".octa 0x841f0f2e66666666666640,0x49c7ff48c22948ea894c000001000548,0x918d4c00000800c0814900000800c181\n"
-    ".octa 0x8f860f00000100fa8148ffffff00,0x401f0fd2314674fff88348d1894c00,0x54100f41e0d14c100f41d0d144100f41\n"
-    ".octa 0x110f41c8d144110f41d11c100f41f0d1,0x48f8d15c110f41e8d154110f41d8d14c,0x906682ebc47500000100fa814808c283\n"
-    ".octa 0x410000080013948b480be2c148fa8948,0x841f0f2e666600000800ba,0x4be81054894bf01054894bf81054894b\n"
-    ".octa 0x90ffffff41e9e675e0c28349e0105489,0x8b4800000000c50c8d485e74fff88348,0x30247c8b48d989492024448b4c102474\n"
-    ".octa 0x8d49fffffe52840fc539492824548b4c\n"
-    ".quad 0x834808348d49083c\n"
-    ".long 0xc14808c6\n"
-    ".short 0x3e2\n"
-    "call memmove\n"
-    ".octa 0x448b4cd9894930247c8b482824548b4c,0xfffe1ce908245c8b4c1024748b482024,0x4830247c8b4830048b492024448b4cff\n"
-    ".octa 0x662824548b4cd989491024748b48fa89,0x289480000000000841f0f2e66666666,0xc931fffffddfe9f475c9ff48f8c28348\n"
-    ".octa 0xd029480000000000841f0f18ebe8894c,0xc28948fffffd41860f01f88348f18948,0x8948df7204f07c39450a348d48ead148\n"
-    ".octa 0x4024748b4c38245c8b48f58949daebce,0x98838b49fffffc42860f48246c394c,0xfffc08850ffffffc0e820fc539490000\n"
-    ".octa 0x1024748b4800000000e818247c8b48ff,0xfc0be9fffffbec850fc08408245c8b4c,0x5e415d415c415b000000f8c48148ffff\n"
-    ".long 0xc35d5f41\n"
-    ".reloc .Ltcp57+97,R_X86_64_PLT32,.Ltcp9-4\n"
-    ".reloc .Ltcp57+177,R_X86_64_PLT32,.Ltcp9-4\n"
-    ".reloc .Ltcp57+280,R_X86_64_PLT32,.Ltcp59-4\n"
-    ".reloc .Ltcp57+1290,R_X86_64_PLT32,.Ltcp58-4\n"
+    ".reloc .Ltcp57+169,R_X86_64_PLT32,.Ltcp58-4\n"
     ".section .text.tcp.58,\"ax\",%progbits\n"
     ".balign 16\n"
     ".Ltcp58:\n"
+    ".type \"tcp_conn::endpoint::Endpoint::take_blocks::<#4d7786d65df9050b>\",%function\n"
+    ".size \"tcp_conn::endpoint::Endpoint::take_blocks::<#4d7786d65df9050b>\",649\n"
+    "\"tcp_conn::endpoint::Endpoint::take_blocks::<#4d7786d65df9050b>\":\n"
+    ".octa 0x88ec814853544155415641574155,0x402444290fc0570f087f8b44fb894800,0x502444c748202444290f302444290f\n"
+    ".octa 0x1f0f18245489481024748948000000,0x8000000000e81024748d4820247c8d48,0x750428247c800000021d850f0120247c\n"
+    ".octa 0x8024ac894c20688b4c3024448d48df,0x290f70244c290f1048100f00100f0000,0x413eeb60246c8d48b874ed854d602444\n"
+    ".octa 0x39fcd1448b41f0420f44f03944f1048b,0xc6ff4804f14c8941f1348945c8470fc8,0x401f0f00000000e800000088bb8d48\n"
+    ".octa 0x558bffffff73840fcdff4908c58348,0xd28502348d48ca29070c8d4140438b48,0x29480000000100000000bf48d2311379\n"
+    ".octa 0xd285103c8d48ca2904558bf2420f48fe,0x29480000000100000000ba48c9311379,0xc2ff4868438b4c50538b48f9420f48d7\n"
+    ".octa 0xf98948f1420f4dd62949f68949c93145,0x3948c8420f49c83949c9420f49d12948,0xff6e850fc208c2930ffe3948c0930ff0\n"
+    ".octa 0xf487b3b48ffffff65830fce3949ffff,0x84838b00000080bb8bffffff5b87,0xc6894c00000090838b4cc101c6014100\n"
+    ".octa 0x888b8b4c0000009d840fc0854d,0xc6920f4004713945f6311f7501f88349,0xdc820fd63948ffda8348d10c3b41d231\n"
+    ".octa 0x1f0f0febc0894cd2314571ebfffffe,0x49c38949167601f88348f28949d8294c,0xd6894ce37204f174394513348d4bebd1\n"
+    ".octa 0x90660bebc3894dd23104f1548b45deeb,0x49ecd149dc894d157601fb8349e3294d,0x3945e2ebc28948e777c10c394114048d\n"
+    ".octa 0xd63948ffda8348d10c3b4100d68348f2,0x48fffffe91830ff83949fffffe69820f,0xbb8d4814740272c0394900000098838b\n"
+    ".octa 0xfffe6fe900000000e8f2894400000088,0x824748948cc894900000088bb8d48ff,0xfc084e1894c0824748b4800000000e8\n"
+    ".octa 0x415b00000088c48148c6ebfffffe4b84\n"
+    ".quad 0x5d5f415e415d415c\n"
+    ".byte 0xc3\n"
+    ".reloc .Ltcp58+75,R_X86_64_PLT32,.Ltcp9-4\n"
+    ".reloc .Ltcp58+184,R_X86_64_PLT32,.Ltcp42-4\n"
+    ".reloc .Ltcp58+584,R_X86_64_PLT32,.Ltcp60-4\n"
+    ".reloc .Ltcp58+609,R_X86_64_PLT32,.Ltcp59-4\n"
+    ".section .text.tcp.59,\"ax\",%progbits\n"
+    ".balign 16\n"
+    ".Ltcp59:\n"
     ".type \"std_alloc::vec::Vec::grow_amortized::<#4a791bdeba1adbb6>\",%function\n"
     ".size \"std_alloc::vec::Vec::grow_amortized::<#4a791bdeba1adbb6>\",596\n"
     "\"std_alloc::vec::Vec::grow_amortized::<#4a791bdeba1adbb6>\":\n"
@@ -2843,9 +2864,9 @@ __asm__(
     ".quad 0xe075ed8440ff894c\n"
     ".long 0xfffea8e9\n"
     ".byte 0xff\n"
-    ".section .text.tcp.59,\"ax\",%progbits\n"
+    ".section .text.tcp.60,\"ax\",%progbits\n"
     ".balign 16\n"
-    ".Ltcp59:\n"
+    ".Ltcp60:\n"
     ".type \"std_alloc::vec::Vec::put_at::<#4a791bdeba1adbb6>\",%function\n"
     ".size \"std_alloc::vec::Vec::put_at::<#4a791bdeba1adbb6>\",708\n"
     "\"std_alloc::vec::Vec::put_at::<#4a791bdeba1adbb6>\":\n"
@@ -2865,37 +2886,37 @@ __asm__(
     ".octa 0xe075fb394cfcc78349f0fe4c110f43fe,0x90000000ffc18149d0294d1c74d33945,0x75c1394dc8ff49c014894ef8c0548b4e\n"
     ".octa 0x8948f0148948ca0948d28920e1c148ef,0x415b08477f0ff30000000005d40f6607\n"
     ".long 0xc35f415e\n"
-    ".reloc .Ltcp59+693,R_X86_64_PC32,.Ltcp0+1036\n"
-    ".section .text.tcp.60,\"ax\",%progbits\n"
+    ".reloc .Ltcp60+693,R_X86_64_PC32,.Ltcp0+1036\n"
+    ".section .text.tcp.61,\"ax\",%progbits\n"
     ".balign 16\n"
-    ".Ltcp60:\n"
+    ".Ltcp61:\n"
     ".type \"tcp_conn::endpoint::Endpoint::take_own_fin::<#4d7786d65df9050b>\",%function\n"
     ".size \"tcp_conn::endpoint::Endpoint::take_own_fin::<#4d7786d65df9050b>\",104\n"
     "\"tcp_conn::endpoint::Endpoint::take_own_fin::<#4d7786d65df9050b>\":\n"
     ".octa 0x48d1014868578b48504f8b4848478b48,0x47b60f1475404739481a73c13948c1ff,0xffc8014881046348000000000d8d4830\n"
     ".octa 0x87c76601003047c766c30a3047c6c3e0,0xc0570f000000014287c6000000000140,0xb887c748000000a887110f\n"
     ".quad 0xc3063047c6c30000\n"
-    ".reloc .Ltcp60+36,R_X86_64_PC32,.Ltcp61-4\n"
-    ".section .rodata.tcp.61,\"a\",%progbits\n"
+    ".reloc .Ltcp61+36,R_X86_64_PC32,.Ltcp62-4\n"
+    ".section .rodata.tcp.62,\"a\",%progbits\n"
     ".balign 4\n"
-    ".Ltcp61:\n"
+    ".Ltcp62:\n"
     ".octa 0x0,0x0\n"
     ".quad 0x0\n"
     ".long 0x0\n"
-    ".reloc .Ltcp61+0,R_X86_64_PC32,.Ltcp60+49\n"
-    ".reloc .Ltcp61+4,R_X86_64_PC32,.Ltcp60+53\n"
-    ".reloc .Ltcp61+8,R_X86_64_PC32,.Ltcp60+57\n"
-    ".reloc .Ltcp61+12,R_X86_64_PC32,.Ltcp60+61\n"
-    ".reloc .Ltcp61+16,R_X86_64_PC32,.Ltcp60+65\n"
-    ".reloc .Ltcp61+20,R_X86_64_PC32,.Ltcp60+119\n"
-    ".reloc .Ltcp61+24,R_X86_64_PC32,.Ltcp60+73\n"
-    ".reloc .Ltcp61+28,R_X86_64_PC32,.Ltcp60+77\n"
-    ".reloc .Ltcp61+32,R_X86_64_PC32,.Ltcp60+82\n"
-    ".reloc .Ltcp61+36,R_X86_64_PC32,.Ltcp60+91\n"
-    ".reloc .Ltcp61+40,R_X86_64_PC32,.Ltcp60+89\n"
-    ".section .text.tcp.62,\"ax\",%progbits\n"
+    ".reloc .Ltcp62+0,R_X86_64_PC32,.Ltcp61+49\n"
+    ".reloc .Ltcp62+4,R_X86_64_PC32,.Ltcp61+53\n"
+    ".reloc .Ltcp62+8,R_X86_64_PC32,.Ltcp61+57\n"
+    ".reloc .Ltcp62+12,R_X86_64_PC32,.Ltcp61+61\n"
+    ".reloc .Ltcp62+16,R_X86_64_PC32,.Ltcp61+65\n"
+    ".reloc .Ltcp62+20,R_X86_64_PC32,.Ltcp61+119\n"
+    ".reloc .Ltcp62+24,R_X86_64_PC32,.Ltcp61+73\n"
+    ".reloc .Ltcp62+28,R_X86_64_PC32,.Ltcp61+77\n"
+    ".reloc .Ltcp62+32,R_X86_64_PC32,.Ltcp61+82\n"
+    ".reloc .Ltcp62+36,R_X86_64_PC32,.Ltcp61+91\n"
+    ".reloc .Ltcp62+40,R_X86_64_PC32,.Ltcp61+89\n"
+    ".section .text.tcp.63,\"ax\",%progbits\n"
     ".balign 16\n"
-    ".Ltcp62:\n"
+    ".Ltcp63:\n"
     ".type \"tcp_conn::endpoint::Endpoint::take_its_text::<#4d7786d65df9050b>\",%function\n"
     ".size \"tcp_conn::endpoint::Endpoint::take_its_text::<#4d7786d65df9050b>\",1843\n"
     "\"tcp_conn::endpoint::Endpoint::take_its_text::<#4d7786d65df9050b>\":\n"
@@ -2943,14 +2964,14 @@ __asm__(
     ".quad 0x10247c8b48f63145\n"
     ".long 0xffff73e9\n"
     ".byte 0xff\n"
-    ".reloc .Ltcp62+612,R_X86_64_PLT32,.Ltcp63-4\n"
-    ".reloc .Ltcp62+862,R_X86_64_PC32,.Ltcp101-4\n"
-    ".reloc .Ltcp62+874,R_X86_64_PLT32,.Ltcp64-4\n"
-    ".reloc .Ltcp62+1329,R_X86_64_PLT32,.Ltcp63-4\n"
-    ".reloc .Ltcp62+1770,R_X86_64_PLT32,.Ltcp65-4\n"
-    ".section .text.tcp.63,\"ax\",%progbits\n"
+    ".reloc .Ltcp63+612,R_X86_64_PLT32,.Ltcp64-4\n"
+    ".reloc .Ltcp63+862,R_X86_64_PC32,.Ltcp102-4\n"
+    ".reloc .Ltcp63+874,R_X86_64_PLT32,.Ltcp65-4\n"
+    ".reloc .Ltcp63+1329,R_X86_64_PLT32,.Ltcp64-4\n"
+    ".reloc .Ltcp63+1770,R_X86_64_PLT32,.Ltcp66-4\n"
+    ".section .text.tcp.64,\"ax\",%progbits\n"
     ".balign 16\n"
-    ".Ltcp63:\n"
+    ".Ltcp64:\n"
     ".type \"tcp_reasm::lay::lay::<#4d7786d65df9050b>\",%function\n"
     ".size \"tcp_reasm::lay::lay::<#4d7786d65df9050b>\",3690\n"
     "\"tcp_reasm::lay::lay::<#4d7786d65df9050b>\":\n"
@@ -3045,14 +3066,14 @@ __asm__(
     ".octa 0xfffffce7e9fffffd1c840f0824548b4c,0x86e900000000e8f9894cca894cdd894c,0x88c48148f1894cfa894cf631fffffc\n"
     ".octa 0xe95d5f415e415d415c415b0000\n"
     ".byte 0x0\n"
-    ".reloc .Ltcp63+1415,R_X86_64_PLT32,.Ltcp64-4\n"
-    ".reloc .Ltcp63+2028,R_X86_64_PLT32,.Ltcp64-4\n"
-    ".reloc .Ltcp63+2060,R_X86_64_PLT32,.Ltcp64-4\n"
-    ".reloc .Ltcp63+3651,R_X86_64_PLT32,.Ltcp64-4\n"
-    ".reloc .Ltcp63+3686,R_X86_64_PLT32,.Ltcp64-4\n"
-    ".section .text.tcp.64,\"ax\",%progbits\n"
+    ".reloc .Ltcp64+1415,R_X86_64_PLT32,.Ltcp65-4\n"
+    ".reloc .Ltcp64+2028,R_X86_64_PLT32,.Ltcp65-4\n"
+    ".reloc .Ltcp64+2060,R_X86_64_PLT32,.Ltcp65-4\n"
+    ".reloc .Ltcp64+3651,R_X86_64_PLT32,.Ltcp65-4\n"
+    ".reloc .Ltcp64+3686,R_X86_64_PLT32,.Ltcp65-4\n"
+    ".section .text.tcp.65,\"ax\",%progbits\n"
     ".balign 16\n"
-    ".Ltcp64:\n"
+    ".Ltcp65:\n"
     ".type \"tcp_reasm::ring::grow::<#4d7786d65df9050b>\",%function\n"
     ".size \"tcp_reasm::ring::grow::<#4d7786d65df9050b>\",590\n"
     "\"tcp_reasm::ring::grow::<#4d7786d65df9050b>\":\n"
@@ -3080,11 +3101,11 @@ __asm__(
     ".quad 0x25e9e2894ce98948\n"
     ".short 0xfffe\n"
     ".byte 0xff\n"
-    ".reloc .Ltcp64+492,R_X86_64_PLT32,.Ltcp38-4\n"
-    ".reloc .Ltcp64+536,R_X86_64_PLT32,.Ltcp38-4\n"
-    ".section .text.tcp.65,\"ax\",%progbits\n"
+    ".reloc .Ltcp65+492,R_X86_64_PLT32,.Ltcp38-4\n"
+    ".reloc .Ltcp65+536,R_X86_64_PLT32,.Ltcp38-4\n"
+    ".section .text.tcp.66,\"ax\",%progbits\n"
     ".balign 16\n"
-    ".Ltcp65:\n"
+    ".Ltcp66:\n"
     ".type \"std_alloc::vec::Vec::grow_amortized::<#223e4d609cd45952>\",%function\n"
     ".size \"std_alloc::vec::Vec::grow_amortized::<#223e4d609cd45952>\",596\n"
     "\"std_alloc::vec::Vec::grow_amortized::<#223e4d609cd45952>\":\n"
@@ -3105,9 +3126,9 @@ __asm__(
     ".quad 0xe075ed8440ff894c\n"
     ".long 0xfffea8e9\n"
     ".byte 0xff\n"
-    ".section .text.tcp.66,\"ax\",%progbits\n"
+    ".section .text.tcp.67,\"ax\",%progbits\n"
     ".balign 16\n"
-    ".Ltcp66:\n"
+    ".Ltcp67:\n"
     ".type \"tcp_conn::endpoint::Endpoint::take_fin::<#4d7786d65df9050b>\",%function\n"
     ".size \"tcp_conn::endpoint::Endpoint::take_fin::<#4d7786d65df9050b>\",102\n"
     "\"tcp_conn::endpoint::Endpoint::take_fin::<#4d7786d65df9050b>\":\n"
@@ -3115,52 +3136,56 @@ __asm__(
     ".octa 0xe087c6000000d48789c0ff31740000,0x87c7480b740000000128bf8348010000,0xa0807b803e1c00000000000000128\n"
     ".long 0x4788e8d3\n"
     ".short 0xc330\n"
-    ".section .text.tcp.67,\"ax\",%progbits\n"
+    ".section .text.tcp.68,\"ax\",%progbits\n"
     ".balign 16\n"
-    ".Ltcp67:\n"
+    ".Ltcp68:\n"
     ".type \"tcp_conn::endpoint::Endpoint::follow_other::<#4d7786d65df9050b>\",%function\n"
-    ".size \"tcp_conn::endpoint::Endpoint::follow_other::<#4d7786d65df9050b>\",273\n"
+    ".size \"tcp_conn::endpoint::Endpoint::follow_other::<#4d7786d65df9050b>\",363\n"
     "\"tcp_conn::endpoint::Endpoint::follow_other::<#4d7786d65df9050b>\":\n"
     ".octa 0x488604634800000000358d48c6b60f40,0x418bf6740100000144bf80c3e0fff001,0x9789000000010000014487c709b70f08\n"
-    ".octa 0x15087890000014c8f896600000148,0x2bec3000000000000015487c74800,0xf6f7510a80d41b60f00000000e90000\n"
-    ".octa 0x44103c0b60f001401e6ba0f0124f0b6,0x48d68959ebc0314500000001be304103,0x8000000000e9ce894800000000e9ca89\n"
-    ".octa 0x87c709b70f08418b2e740100000144bf,0x89660000014897890000000100000144,0x15487c7480000015087890000014c8f\n"
-    ".octa 0x8b44c3010000014187c6000000000000,0x31840f0100000144bf80c031f6310841,0x10000014487c709b70fffffff\n"
-    ".octa 0x8789440000014c8f8966000001489789,0x158878900000154b78900000150\n"
+    ".octa 0x15087890000014c8f896600000148,0xc76653c3000000000000015487c74800,0xa887110fc0570f58478d4802003047\n"
+    ".octa 0x778b4800000000000000b887c7480000,0x48d8894800000000e8c78948fb894868,0x128bb8348000000000000011083c7\n"
+    ".octa 0x12880c7480b745b0000,0x14280c600000000014080c766,0xba0f0124f0b60f6f7510a80d41b60fc3\n"
+    ".octa 0x1be304103044103c0b60f001401e6,0xe9ca8948d68959ebc031450000,0x100000144bf8000000000e9ce894800\n"
+    ".octa 0x10000014487c709b70f08418b2e74,0x890000014c8f89660000014897890000,0x15487c7480000015087\n"
+    ".octa 0xc031f63108418b44c3010000014187c6,0x9b70ffffffed7840f0100000144bf80,0x1489789000000010000014487c7\n"
+    ".octa 0xb789000001508789440000014c8f8966\n"
+    ".quad 0x158878900000154\n"
+    ".short 0x0\n"
     ".byte 0xc3\n"
-    ".reloc .Ltcp67+7,R_X86_64_PC32,.Ltcp68-4\n"
-    ".reloc .Ltcp67+83,R_X86_64_PLT32,.Ltcp41-4\n"
-    ".reloc .Ltcp67+131,R_X86_64_PLT32,.Ltcp69-4\n"
-    ".reloc .Ltcp67+139,R_X86_64_PLT32,.Ltcp71-4\n"
-    ".section .rodata.tcp.68,\"a\",%progbits\n"
+    ".reloc .Ltcp68+7,R_X86_64_PC32,.Ltcp69-4\n"
+    ".reloc .Ltcp68+120,R_X86_64_PLT32,.Ltcp41-4\n"
+    ".reloc .Ltcp68+221,R_X86_64_PLT32,.Ltcp70-4\n"
+    ".reloc .Ltcp68+229,R_X86_64_PLT32,.Ltcp72-4\n"
+    ".section .rodata.tcp.69,\"a\",%progbits\n"
     ".balign 4\n"
-    ".Ltcp68:\n"
+    ".Ltcp69:\n"
     ".octa 0x0,0x0,0x0\n"
     ".octa 0x0\n"
     ".quad 0x0\n"
     ".long 0x0\n"
-    ".reloc .Ltcp68+0,R_X86_64_PC32,.Ltcp67+20\n"
-    ".reloc .Ltcp68+4,R_X86_64_PC32,.Ltcp67+24\n"
-    ".reloc .Ltcp68+8,R_X86_64_PC32,.Ltcp67+95\n"
-    ".reloc .Ltcp68+12,R_X86_64_PC32,.Ltcp67+33\n"
-    ".reloc .Ltcp68+16,R_X86_64_PC32,.Ltcp67+36\n"
-    ".reloc .Ltcp68+20,R_X86_64_PC32,.Ltcp67+145\n"
-    ".reloc .Ltcp68+24,R_X86_64_PC32,.Ltcp67+45\n"
-    ".reloc .Ltcp68+28,R_X86_64_PC32,.Ltcp67+105\n"
-    ".reloc .Ltcp68+32,R_X86_64_PC32,.Ltcp67+167\n"
-    ".reloc .Ltcp68+36,R_X86_64_PC32,.Ltcp67+234\n"
-    ".reloc .Ltcp68+40,R_X86_64_PC32,.Ltcp67+117\n"
-    ".reloc .Ltcp68+44,R_X86_64_PC32,.Ltcp67+242\n"
-    ".reloc .Ltcp68+48,R_X86_64_PC32,.Ltcp67+246\n"
-    ".reloc .Ltcp68+52,R_X86_64_PC32,.Ltcp67+72\n"
-    ".reloc .Ltcp68+56,R_X86_64_PC32,.Ltcp67+254\n"
-    ".reloc .Ltcp68+60,R_X86_64_PC32,.Ltcp67+81\n"
-    ".reloc .Ltcp68+64,R_X86_64_PC32,.Ltcp67+207\n"
-    ".reloc .Ltcp68+68,R_X86_64_PC32,.Ltcp67+88\n"
-    ".reloc .Ltcp68+72,R_X86_64_PC32,.Ltcp67+92\n"
-    ".section .text.tcp.69,\"ax\",%progbits\n"
+    ".reloc .Ltcp69+0,R_X86_64_PC32,.Ltcp68+20\n"
+    ".reloc .Ltcp69+4,R_X86_64_PC32,.Ltcp68+24\n"
+    ".reloc .Ltcp69+8,R_X86_64_PC32,.Ltcp68+185\n"
+    ".reloc .Ltcp69+12,R_X86_64_PC32,.Ltcp68+33\n"
+    ".reloc .Ltcp69+16,R_X86_64_PC32,.Ltcp68+36\n"
+    ".reloc .Ltcp69+20,R_X86_64_PC32,.Ltcp68+235\n"
+    ".reloc .Ltcp69+24,R_X86_64_PC32,.Ltcp68+45\n"
+    ".reloc .Ltcp69+28,R_X86_64_PC32,.Ltcp68+105\n"
+    ".reloc .Ltcp69+32,R_X86_64_PC32,.Ltcp68+257\n"
+    ".reloc .Ltcp69+36,R_X86_64_PC32,.Ltcp68+324\n"
+    ".reloc .Ltcp69+40,R_X86_64_PC32,.Ltcp68+117\n"
+    ".reloc .Ltcp69+44,R_X86_64_PC32,.Ltcp68+332\n"
+    ".reloc .Ltcp69+48,R_X86_64_PC32,.Ltcp68+336\n"
+    ".reloc .Ltcp69+52,R_X86_64_PC32,.Ltcp68+72\n"
+    ".reloc .Ltcp69+56,R_X86_64_PC32,.Ltcp68+344\n"
+    ".reloc .Ltcp69+60,R_X86_64_PC32,.Ltcp68+81\n"
+    ".reloc .Ltcp69+64,R_X86_64_PC32,.Ltcp68+297\n"
+    ".reloc .Ltcp69+68,R_X86_64_PC32,.Ltcp68+88\n"
+    ".reloc .Ltcp69+72,R_X86_64_PC32,.Ltcp68+92\n"
+    ".section .text.tcp.70,\"ax\",%progbits\n"
     ".balign 16\n"
-    ".Ltcp69:\n"
+    ".Ltcp70:\n"
     ".type \"tcp_conn::endpoint::Endpoint::peer_opens::<#4d7786d65df9050b>\",%function\n"
     ".size \"tcp_conn::endpoint::Endpoint::peer_opens::<#4d7786d65df9050b>\",381\n"
     "\"tcp_conn::endpoint::Endpoint::peer_opens::<#4d7786d65df9050b>\":\n"
@@ -3175,23 +3200,23 @@ __asm__(
     ".quad 0x415d415c415b58c4\n"
     ".long 0x5d5f415e\n"
     ".byte 0xc3\n"
-    ".reloc .Ltcp69+81,R_X86_64_PLT32,.Ltcp9-4\n"
-    ".reloc .Ltcp69+139,R_X86_64_PLT32,.Ltcp9-4\n"
-    ".reloc .Ltcp69+158,R_X86_64_PC32,.Ltcp70-4\n"
-    ".section .rodata.tcp.70,\"a\",%progbits\n"
+    ".reloc .Ltcp70+81,R_X86_64_PLT32,.Ltcp9-4\n"
+    ".reloc .Ltcp70+139,R_X86_64_PLT32,.Ltcp9-4\n"
+    ".reloc .Ltcp70+158,R_X86_64_PC32,.Ltcp71-4\n"
+    ".section .rodata.tcp.71,\"a\",%progbits\n"
     ".balign 4\n"
-    ".Ltcp70:\n"
+    ".Ltcp71:\n"
     ".octa 0x0\n"
     ".quad 0x0\n"
-    ".reloc .Ltcp70+0,R_X86_64_PC32,.Ltcp69+128\n"
-    ".reloc .Ltcp70+4,R_X86_64_PC32,.Ltcp69+175\n"
-    ".reloc .Ltcp70+8,R_X86_64_PC32,.Ltcp69+197\n"
-    ".reloc .Ltcp70+12,R_X86_64_PC32,.Ltcp69+196\n"
-    ".reloc .Ltcp70+16,R_X86_64_PC32,.Ltcp69+144\n"
-    ".reloc .Ltcp70+20,R_X86_64_PC32,.Ltcp69+148\n"
-    ".section .text.tcp.71,\"ax\",%progbits\n"
+    ".reloc .Ltcp71+0,R_X86_64_PC32,.Ltcp70+128\n"
+    ".reloc .Ltcp71+4,R_X86_64_PC32,.Ltcp70+175\n"
+    ".reloc .Ltcp71+8,R_X86_64_PC32,.Ltcp70+197\n"
+    ".reloc .Ltcp71+12,R_X86_64_PC32,.Ltcp70+196\n"
+    ".reloc .Ltcp71+16,R_X86_64_PC32,.Ltcp70+144\n"
+    ".reloc .Ltcp71+20,R_X86_64_PC32,.Ltcp70+148\n"
+    ".section .text.tcp.72,\"ax\",%progbits\n"
     ".balign 16\n"
-    ".Ltcp71:\n"
+    ".Ltcp72:\n"
     ".type \"tcp_conn::endpoint::Endpoint::peer_accepts::<#4d7786d65df9050b>\",%function\n"
     ".size \"tcp_conn::endpoint::Endpoint::peer_accepts::<#4d7786d65df9050b>\",384\n"
     "\"tcp_conn::endpoint::Endpoint::peer_accepts::<#4d7786d65df9050b>\":\n"
@@ -3203,23 +3228,23 @@ __asm__(
     ".octa 0xf0000000eb90efa80d5b60f41ff3102,0xcf450fc9b60fd4b60f4101fc8041ca42,0x7b80f7b60f41cf440fd7440f012043f6\n"
     ".octa 0x403d4b883c53883a438966f7440f0022,0x484b8b480e46b70f41003f43c63e7388,0x8948000000c08389404b894804568b49\n"
     ".octa 0x1000000d083c604468b41000000c493,0x14083c766000000d48389c0ff,0xc35d5f415e415d415c415b58c4834801\n"
-    ".reloc .Ltcp71+71,R_X86_64_PLT32,.Ltcp9-4\n"
-    ".reloc .Ltcp71+123,R_X86_64_PLT32,.Ltcp9-4\n"
-    ".reloc .Ltcp71+142,R_X86_64_PC32,.Ltcp72-4\n"
-    ".section .rodata.tcp.72,\"a\",%progbits\n"
+    ".reloc .Ltcp72+71,R_X86_64_PLT32,.Ltcp9-4\n"
+    ".reloc .Ltcp72+123,R_X86_64_PLT32,.Ltcp9-4\n"
+    ".reloc .Ltcp72+142,R_X86_64_PC32,.Ltcp73-4\n"
+    ".section .rodata.tcp.73,\"a\",%progbits\n"
     ".balign 4\n"
-    ".Ltcp72:\n"
+    ".Ltcp73:\n"
     ".octa 0x0\n"
     ".quad 0x0\n"
-    ".reloc .Ltcp72+0,R_X86_64_PC32,.Ltcp71+112\n"
-    ".reloc .Ltcp72+4,R_X86_64_PC32,.Ltcp71+159\n"
-    ".reloc .Ltcp72+8,R_X86_64_PC32,.Ltcp71+185\n"
-    ".reloc .Ltcp72+12,R_X86_64_PC32,.Ltcp71+184\n"
-    ".reloc .Ltcp72+16,R_X86_64_PC32,.Ltcp71+128\n"
-    ".reloc .Ltcp72+20,R_X86_64_PC32,.Ltcp71+132\n"
-    ".section .text.tcp.73,\"ax\",%progbits\n"
+    ".reloc .Ltcp73+0,R_X86_64_PC32,.Ltcp72+112\n"
+    ".reloc .Ltcp73+4,R_X86_64_PC32,.Ltcp72+159\n"
+    ".reloc .Ltcp73+8,R_X86_64_PC32,.Ltcp72+185\n"
+    ".reloc .Ltcp73+12,R_X86_64_PC32,.Ltcp72+184\n"
+    ".reloc .Ltcp73+16,R_X86_64_PC32,.Ltcp72+128\n"
+    ".reloc .Ltcp73+20,R_X86_64_PC32,.Ltcp72+132\n"
+    ".section .text.tcp.74,\"ax\",%progbits\n"
     ".balign 16\n"
-    ".Ltcp73:\n"
+    ".Ltcp74:\n"
     ".type \"kit_text::numbers::push_number_word::<#fc995fe602e3aacb>\",%function\n"
     ".size \"kit_text::numbers::push_number_word::<#fc995fe602e3aacb>\",437\n"
     "\"kit_text::numbers::push_number_word::<#fc995fe602e3aacb>\":\n"
@@ -3239,13 +3264,13 @@ __asm__(
     ".octa 0xc48148c0311063894c087b894c33894c,0x8948c35f415e415d415c415b00000080,0x1b0c18900000000e8d68948d58949df\n"
     ".octa 0xebea894c10638b4c087b8b4cd974c984\n"
     ".byte 0xac\n"
-    ".reloc .Ltcp73+146,R_X86_64_PC32,.Ltcp104-4\n"
-    ".reloc .Ltcp73+250,R_X86_64_PC32,.Ltcp104-4\n"
-    ".reloc .Ltcp73+289,R_X86_64_PC32,.Ltcp104-4\n"
-    ".reloc .Ltcp73+412,R_X86_64_PLT32,.Ltcp84-4\n"
-    ".section .text.tcp.74,\"ax\",%progbits\n"
+    ".reloc .Ltcp74+146,R_X86_64_PC32,.Ltcp105-4\n"
+    ".reloc .Ltcp74+250,R_X86_64_PC32,.Ltcp105-4\n"
+    ".reloc .Ltcp74+289,R_X86_64_PC32,.Ltcp105-4\n"
+    ".reloc .Ltcp74+412,R_X86_64_PLT32,.Ltcp85-4\n"
+    ".section .text.tcp.75,\"ax\",%progbits\n"
     ".balign 16\n"
-    ".Ltcp74:\n"
+    ".Ltcp75:\n"
     ".type \"kit_report::events::push_event::<#fc995fe602e3aacb>\",%function\n"
     ".size \"kit_report::events::push_event::<#fc995fe602e3aacb>\",1872\n"
     "\"kit_report::events::push_event::<#fc995fe602e3aacb>\":\n"
@@ -3294,76 +3319,76 @@ __asm__(
     ".octa 0xe7894800000000358d48fffffc08e9fa,0xfdb1850fc08400000000e800000001ba,0xe800000001bee78948fffffd94e9ffff\n"
     ".octa 0x24448b48fffffd97840fc08400000000,0x358d48fffffd5be910244c8b4808,0x8400000000e800000001bae789480000\n"
     ".octa 0xbee78948fffffed8e9fffffd6c850fc0,0xfffd52840fc08400000000e800000001,0xfffffe9fe910244c8b480824448b48ff\n"
-    ".reloc .Ltcp74+37,R_X86_64_PC32,.Ltcp75-4\n"
-    ".reloc .Ltcp74+53,R_X86_64_PC32,.Ltcp137-4\n"
-    ".reloc .Ltcp74+65,R_X86_64_PC32,.Ltcp146-4\n"
-    ".reloc .Ltcp74+77,R_X86_64_PC32,.Ltcp140-4\n"
-    ".reloc .Ltcp74+94,R_X86_64_PC32,.Ltcp147-4\n"
-    ".reloc .Ltcp74+103,R_X86_64_PC32,.Ltcp144-4\n"
-    ".reloc .Ltcp74+120,R_X86_64_PC32,.Ltcp98+20\n"
-    ".reloc .Ltcp74+129,R_X86_64_PC32,.Ltcp139-4\n"
-    ".reloc .Ltcp74+138,R_X86_64_PC32,.Ltcp143-4\n"
-    ".reloc .Ltcp74+152,R_X86_64_PC32,.Ltcp138-4\n"
-    ".reloc .Ltcp74+166,R_X86_64_PC32,.Ltcp141-4\n"
-    ".reloc .Ltcp74+180,R_X86_64_PC32,.Ltcp142-4\n"
-    ".reloc .Ltcp74+197,R_X86_64_PC32,.Ltcp145-4\n"
-    ".reloc .Ltcp74+214,R_X86_64_PC32,.Ltcp98+24\n"
-    ".reloc .Ltcp74+505,R_X86_64_PC32,.Ltcp75+48\n"
-    ".reloc .Ltcp74+545,R_X86_64_PC32,.Ltcp103-4\n"
-    ".reloc .Ltcp74+575,R_X86_64_PLT32,.Ltcp76-4\n"
-    ".reloc .Ltcp74+684,R_X86_64_PC32,.Ltcp184-4\n"
-    ".reloc .Ltcp74+695,R_X86_64_PC32,.Ltcp185-4\n"
-    ".reloc .Ltcp74+867,R_X86_64_PC32,.Ltcp103-4\n"
-    ".reloc .Ltcp74+1050,R_X86_64_PLT32,.Ltcp79-4\n"
-    ".reloc .Ltcp74+1159,R_X86_64_PLT32,.Ltcp79-4\n"
-    ".reloc .Ltcp74+1277,R_X86_64_PLT32,.Ltcp84-4\n"
-    ".reloc .Ltcp74+1327,R_X86_64_PLT32,.Ltcp84-4\n"
-    ".reloc .Ltcp74+1374,R_X86_64_PLT32,.Ltcp84-4\n"
-    ".reloc .Ltcp74+1547,R_X86_64_PLT32,.Ltcp80-4\n"
-    ".reloc .Ltcp74+1608,R_X86_64_PLT32,.Ltcp84-4\n"
-    ".reloc .Ltcp74+1652,R_X86_64_PLT32,.Ltcp84-4\n"
-    ".reloc .Ltcp74+1694,R_X86_64_PLT32,.Ltcp84-4\n"
-    ".reloc .Ltcp74+1737,R_X86_64_PC32,.Ltcp103-4\n"
-    ".reloc .Ltcp74+1750,R_X86_64_PLT32,.Ltcp77-4\n"
-    ".reloc .Ltcp74+1776,R_X86_64_PLT32,.Ltcp84-4\n"
-    ".reloc .Ltcp74+1806,R_X86_64_PC32,.Ltcp103-4\n"
-    ".reloc .Ltcp74+1819,R_X86_64_PLT32,.Ltcp77-4\n"
-    ".reloc .Ltcp74+1845,R_X86_64_PLT32,.Ltcp84-4\n"
-    ".section .rodata.tcp.75,\"a\",%progbits\n"
+    ".reloc .Ltcp75+37,R_X86_64_PC32,.Ltcp76-4\n"
+    ".reloc .Ltcp75+53,R_X86_64_PC32,.Ltcp138-4\n"
+    ".reloc .Ltcp75+65,R_X86_64_PC32,.Ltcp147-4\n"
+    ".reloc .Ltcp75+77,R_X86_64_PC32,.Ltcp141-4\n"
+    ".reloc .Ltcp75+94,R_X86_64_PC32,.Ltcp148-4\n"
+    ".reloc .Ltcp75+103,R_X86_64_PC32,.Ltcp145-4\n"
+    ".reloc .Ltcp75+120,R_X86_64_PC32,.Ltcp99+20\n"
+    ".reloc .Ltcp75+129,R_X86_64_PC32,.Ltcp140-4\n"
+    ".reloc .Ltcp75+138,R_X86_64_PC32,.Ltcp144-4\n"
+    ".reloc .Ltcp75+152,R_X86_64_PC32,.Ltcp139-4\n"
+    ".reloc .Ltcp75+166,R_X86_64_PC32,.Ltcp142-4\n"
+    ".reloc .Ltcp75+180,R_X86_64_PC32,.Ltcp143-4\n"
+    ".reloc .Ltcp75+197,R_X86_64_PC32,.Ltcp146-4\n"
+    ".reloc .Ltcp75+214,R_X86_64_PC32,.Ltcp99+24\n"
+    ".reloc .Ltcp75+505,R_X86_64_PC32,.Ltcp76+48\n"
+    ".reloc .Ltcp75+545,R_X86_64_PC32,.Ltcp104-4\n"
+    ".reloc .Ltcp75+575,R_X86_64_PLT32,.Ltcp77-4\n"
+    ".reloc .Ltcp75+684,R_X86_64_PC32,.Ltcp185-4\n"
+    ".reloc .Ltcp75+695,R_X86_64_PC32,.Ltcp186-4\n"
+    ".reloc .Ltcp75+867,R_X86_64_PC32,.Ltcp104-4\n"
+    ".reloc .Ltcp75+1050,R_X86_64_PLT32,.Ltcp80-4\n"
+    ".reloc .Ltcp75+1159,R_X86_64_PLT32,.Ltcp80-4\n"
+    ".reloc .Ltcp75+1277,R_X86_64_PLT32,.Ltcp85-4\n"
+    ".reloc .Ltcp75+1327,R_X86_64_PLT32,.Ltcp85-4\n"
+    ".reloc .Ltcp75+1374,R_X86_64_PLT32,.Ltcp85-4\n"
+    ".reloc .Ltcp75+1547,R_X86_64_PLT32,.Ltcp81-4\n"
+    ".reloc .Ltcp75+1608,R_X86_64_PLT32,.Ltcp85-4\n"
+    ".reloc .Ltcp75+1652,R_X86_64_PLT32,.Ltcp85-4\n"
+    ".reloc .Ltcp75+1694,R_X86_64_PLT32,.Ltcp85-4\n"
+    ".reloc .Ltcp75+1737,R_X86_64_PC32,.Ltcp104-4\n"
+    ".reloc .Ltcp75+1750,R_X86_64_PLT32,.Ltcp78-4\n"
+    ".reloc .Ltcp75+1776,R_X86_64_PLT32,.Ltcp85-4\n"
+    ".reloc .Ltcp75+1806,R_X86_64_PC32,.Ltcp104-4\n"
+    ".reloc .Ltcp75+1819,R_X86_64_PLT32,.Ltcp78-4\n"
+    ".reloc .Ltcp75+1845,R_X86_64_PLT32,.Ltcp85-4\n"
+    ".section .rodata.tcp.76,\"a\",%progbits\n"
     ".balign 4\n"
-    ".Ltcp75:\n"
+    ".Ltcp76:\n"
     ".octa 0x0,0x0,0x0\n"
     ".octa 0x0,0x0,0x0\n"
     ".quad 0x0\n"
-    ".reloc .Ltcp75+0,R_X86_64_PC32,.Ltcp74+50\n"
-    ".reloc .Ltcp75+4,R_X86_64_PC32,.Ltcp74+153\n"
-    ".reloc .Ltcp75+8,R_X86_64_PC32,.Ltcp74+125\n"
-    ".reloc .Ltcp75+12,R_X86_64_PC32,.Ltcp74+138\n"
-    ".reloc .Ltcp75+16,R_X86_64_PC32,.Ltcp74+90\n"
-    ".reloc .Ltcp75+20,R_X86_64_PC32,.Ltcp74+183\n"
-    ".reloc .Ltcp75+24,R_X86_64_PC32,.Ltcp74+201\n"
-    ".reloc .Ltcp75+28,R_X86_64_PC32,.Ltcp74+163\n"
-    ".reloc .Ltcp75+32,R_X86_64_PC32,.Ltcp74+243\n"
-    ".reloc .Ltcp75+36,R_X86_64_PC32,.Ltcp74+136\n"
-    ".reloc .Ltcp75+40,R_X86_64_PC32,.Ltcp74+234\n"
-    ".reloc .Ltcp75+44,R_X86_64_PC32,.Ltcp74+106\n"
-    ".reloc .Ltcp75+48,R_X86_64_PC32,.Ltcp74+139\n"
-    ".reloc .Ltcp75+52,R_X86_64_PC32,.Ltcp74+518\n"
-    ".reloc .Ltcp75+56,R_X86_64_PC32,.Ltcp74+522\n"
-    ".reloc .Ltcp75+60,R_X86_64_PC32,.Ltcp74+526\n"
-    ".reloc .Ltcp75+64,R_X86_64_PC32,.Ltcp74+550\n"
-    ".reloc .Ltcp75+68,R_X86_64_PC32,.Ltcp74+534\n"
-    ".reloc .Ltcp75+72,R_X86_64_PC32,.Ltcp74+538\n"
-    ".reloc .Ltcp75+76,R_X86_64_PC32,.Ltcp74+542\n"
-    ".reloc .Ltcp75+80,R_X86_64_PC32,.Ltcp74+667\n"
-    ".reloc .Ltcp75+84,R_X86_64_PC32,.Ltcp74+550\n"
-    ".reloc .Ltcp75+88,R_X86_64_PC32,.Ltcp74+554\n"
-    ".reloc .Ltcp75+92,R_X86_64_PC32,.Ltcp74+558\n"
-    ".reloc .Ltcp75+96,R_X86_64_PC32,.Ltcp74+582\n"
-    ".reloc .Ltcp75+100,R_X86_64_PC32,.Ltcp74+900\n"
-    ".section .text.tcp.76,\"ax\",%progbits\n"
+    ".reloc .Ltcp76+0,R_X86_64_PC32,.Ltcp75+50\n"
+    ".reloc .Ltcp76+4,R_X86_64_PC32,.Ltcp75+153\n"
+    ".reloc .Ltcp76+8,R_X86_64_PC32,.Ltcp75+125\n"
+    ".reloc .Ltcp76+12,R_X86_64_PC32,.Ltcp75+138\n"
+    ".reloc .Ltcp76+16,R_X86_64_PC32,.Ltcp75+90\n"
+    ".reloc .Ltcp76+20,R_X86_64_PC32,.Ltcp75+183\n"
+    ".reloc .Ltcp76+24,R_X86_64_PC32,.Ltcp75+201\n"
+    ".reloc .Ltcp76+28,R_X86_64_PC32,.Ltcp75+163\n"
+    ".reloc .Ltcp76+32,R_X86_64_PC32,.Ltcp75+243\n"
+    ".reloc .Ltcp76+36,R_X86_64_PC32,.Ltcp75+136\n"
+    ".reloc .Ltcp76+40,R_X86_64_PC32,.Ltcp75+234\n"
+    ".reloc .Ltcp76+44,R_X86_64_PC32,.Ltcp75+106\n"
+    ".reloc .Ltcp76+48,R_X86_64_PC32,.Ltcp75+139\n"
+    ".reloc .Ltcp76+52,R_X86_64_PC32,.Ltcp75+518\n"
+    ".reloc .Ltcp76+56,R_X86_64_PC32,.Ltcp75+522\n"
+    ".reloc .Ltcp76+60,R_X86_64_PC32,.Ltcp75+526\n"
+    ".reloc .Ltcp76+64,R_X86_64_PC32,.Ltcp75+550\n"
+    ".reloc .Ltcp76+68,R_X86_64_PC32,.Ltcp75+534\n"
+    ".reloc .Ltcp76+72,R_X86_64_PC32,.Ltcp75+538\n"
+    ".reloc .Ltcp76+76,R_X86_64_PC32,.Ltcp75+542\n"
+    ".reloc .Ltcp76+80,R_X86_64_PC32,.Ltcp75+667\n"
+    ".reloc .Ltcp76+84,R_X86_64_PC32,.Ltcp75+550\n"
+    ".reloc .Ltcp76+88,R_X86_64_PC32,.Ltcp75+554\n"
+    ".reloc .Ltcp76+92,R_X86_64_PC32,.Ltcp75+558\n"
+    ".reloc .Ltcp76+96,R_X86_64_PC32,.Ltcp75+582\n"
+    ".reloc .Ltcp76+100,R_X86_64_PC32,.Ltcp75+900\n"
+    ".section .text.tcp.77,\"ax\",%progbits\n"
     ".balign 16\n"
-    ".Ltcp76:\n"
+    ".Ltcp77:\n"
     ".type \"kit_text::numbers::push_word_number::<#fc995fe602e3aacb>\",%function\n"
     ".size \"kit_text::numbers::push_word_number::<#fc995fe602e3aacb>\",463\n"
     "\"kit_text::numbers::push_word_number::<#fc995fe602e3aacb>\":\n"
@@ -3383,13 +3408,13 @@ __asm__(
     ".octa 0xc48148c0311063894c087b894c2b894c,0x8948c35f415e415d415c415b00000080,0x1b0c18900000000e8d68948d58949df\n"
     ".octa 0xebea894c10638b4c087b8b4cd974c984\n"
     ".byte 0xad\n"
-    ".reloc .Ltcp76+149,R_X86_64_PC32,.Ltcp104-4\n"
-    ".reloc .Ltcp76+258,R_X86_64_PC32,.Ltcp104-4\n"
-    ".reloc .Ltcp76+298,R_X86_64_PC32,.Ltcp104-4\n"
-    ".reloc .Ltcp76+438,R_X86_64_PLT32,.Ltcp84-4\n"
-    ".section .text.tcp.77,\"ax\",%progbits\n"
+    ".reloc .Ltcp77+149,R_X86_64_PC32,.Ltcp105-4\n"
+    ".reloc .Ltcp77+258,R_X86_64_PC32,.Ltcp105-4\n"
+    ".reloc .Ltcp77+298,R_X86_64_PC32,.Ltcp105-4\n"
+    ".reloc .Ltcp77+438,R_X86_64_PLT32,.Ltcp85-4\n"
+    ".section .text.tcp.78,\"ax\",%progbits\n"
     ".balign 16\n"
-    ".Ltcp77:\n"
+    ".Ltcp78:\n"
     ".type \"core::fmt::formatter::Formatter::write_indented::<#66b2f40cbd927778>\",%function\n"
     ".size \"core::fmt::formatter::Formatter::write_indented::<#66b2f40cbd927778>\",306\n"
     "\"core::fmt::formatter::Formatter::write_indented::<#66b2f40cbd927778>\":\n"
@@ -3401,15 +3426,15 @@ __asm__(
     ".octa 0xe6014de375cbff482975c08400000000,0x8348ea894cf6894cff894c004047c641,0xe95d5f415e415d415c415b08c4\n"
     ".octa 0x5f415e415d415c415b08c4834801b000\n"
     ".short 0xc35d\n"
-    ".reloc .Ltcp77+66,R_X86_64_PLT32,.Ltcp78-4\n"
-    ".reloc .Ltcp77+147,R_X86_64_PC32,.Ltcp98+4\n"
-    ".reloc .Ltcp77+160,R_X86_64_PLT32,.Ltcp78-4\n"
-    ".reloc .Ltcp77+227,R_X86_64_PC32,.Ltcp98+4\n"
-    ".reloc .Ltcp77+240,R_X86_64_PLT32,.Ltcp78-4\n"
-    ".reloc .Ltcp77+285,R_X86_64_PLT32,.Ltcp78-4\n"
-    ".section .text.tcp.78,\"ax\",%progbits\n"
+    ".reloc .Ltcp78+66,R_X86_64_PLT32,.Ltcp79-4\n"
+    ".reloc .Ltcp78+147,R_X86_64_PC32,.Ltcp99+4\n"
+    ".reloc .Ltcp78+160,R_X86_64_PLT32,.Ltcp79-4\n"
+    ".reloc .Ltcp78+227,R_X86_64_PC32,.Ltcp99+4\n"
+    ".reloc .Ltcp78+240,R_X86_64_PLT32,.Ltcp79-4\n"
+    ".reloc .Ltcp78+285,R_X86_64_PLT32,.Ltcp79-4\n"
+    ".section .text.tcp.79,\"ax\",%progbits\n"
     ".balign 16\n"
-    ".Ltcp78:\n"
+    ".Ltcp79:\n"
     ".type \"core::fmt::formatter::Formatter::write_raw::<#66b2f40cbd927778>\",%function\n"
     ".size \"core::fmt::formatter::Formatter::write_raw::<#66b2f40cbd927778>\",706\n"
     "\"core::fmt::formatter::Formatter::write_raw::<#66b2f40cbd927778>\":\n"
@@ -3433,10 +3458,10 @@ __asm__(
     ".octa 0x48fffffedae9ffffff69840fc2394cef,0xe8d78949d68948f68949fb89,0x4cf6894cffffff54840fc98401b0c189\n"
     ".octa 0xfe70e9105b8b48084b8b48df8948fa89\n"
     ".short 0xffff\n"
-    ".reloc .Ltcp78+668,R_X86_64_PLT32,.Ltcp84-4\n"
-    ".section .text.tcp.79,\"ax\",%progbits\n"
+    ".reloc .Ltcp79+668,R_X86_64_PLT32,.Ltcp85-4\n"
+    ".section .text.tcp.80,\"ax\",%progbits\n"
     ".balign 16\n"
-    ".Ltcp79:\n"
+    ".Ltcp80:\n"
     ".type \"core::fmt::formatter::Formatter::write_piece::<#2411bf40c49e81b6>\",%function\n"
     ".size \"core::fmt::formatter::Formatter::write_piece::<#2411bf40c49e81b6>\",383\n"
     "\"core::fmt::formatter::Formatter::write_piece::<#2411bf40c49e81b6>\":\n"
@@ -3454,11 +3479,11 @@ __asm__(
     ".quad 0x894c107b8b4c0873\n"
     ".long 0xea894ce6\n"
     ".short 0xa3eb\n"
-    ".reloc .Ltcp79+336,R_X86_64_PLT32,.Ltcp77-4\n"
-    ".reloc .Ltcp79+355,R_X86_64_PLT32,.Ltcp84-4\n"
-    ".section .text.tcp.80,\"ax\",%progbits\n"
+    ".reloc .Ltcp80+336,R_X86_64_PLT32,.Ltcp78-4\n"
+    ".reloc .Ltcp80+355,R_X86_64_PLT32,.Ltcp85-4\n"
+    ".section .text.tcp.81,\"ax\",%progbits\n"
     ".balign 16\n"
-    ".Ltcp80:\n"
+    ".Ltcp81:\n"
     ".type \"core::fmt::formatter::Formatter::write_piece::<#fa26af870f156c24>\",%function\n"
     ".size \"core::fmt::formatter::Formatter::write_piece::<#fa26af870f156c24>\",319\n"
     "\"core::fmt::formatter::Formatter::write_piece::<#fa26af870f156c24>\":\n"
@@ -3475,11 +3500,11 @@ __asm__(
     ".quad 0x894c107b8b4c0873\n"
     ".long 0xea894ce6\n"
     ".short 0xa3eb\n"
-    ".reloc .Ltcp80+272,R_X86_64_PLT32,.Ltcp77-4\n"
-    ".reloc .Ltcp80+291,R_X86_64_PLT32,.Ltcp84-4\n"
-    ".section .text.tcp.81,\"ax\",%progbits\n"
+    ".reloc .Ltcp81+272,R_X86_64_PLT32,.Ltcp78-4\n"
+    ".reloc .Ltcp81+291,R_X86_64_PLT32,.Ltcp85-4\n"
+    ".section .text.tcp.82,\"ax\",%progbits\n"
     ".balign 16\n"
-    ".Ltcp81:\n"
+    ".Ltcp82:\n"
     ".type \"kit_text::options::push_block::<#fc995fe602e3aacb>\",%function\n"
     ".size \"kit_text::options::push_block::<#fc995fe602e3aacb>\",743\n"
     "\"kit_text::options::push_block::<#fc995fe602e3aacb>\":\n"
@@ -3502,16 +3527,16 @@ __asm__(
     ".octa 0xc48148c0311063894c087b894c33894c,0x8948c35f415e415d415c415b00000080,0x1b0c18900000000e8d68948d58949df\n"
     ".octa 0xebea894c10638b4c087b8b4cd974c984\n"
     ".byte 0xac\n"
-    ".reloc .Ltcp81+143,R_X86_64_PC32,.Ltcp104-4\n"
-    ".reloc .Ltcp81+272,R_X86_64_PC32,.Ltcp104-4\n"
-    ".reloc .Ltcp81+330,R_X86_64_PC32,.Ltcp104-4\n"
-    ".reloc .Ltcp81+464,R_X86_64_PC32,.Ltcp104-4\n"
-    ".reloc .Ltcp81+556,R_X86_64_PC32,.Ltcp104-4\n"
-    ".reloc .Ltcp81+595,R_X86_64_PC32,.Ltcp104-4\n"
-    ".reloc .Ltcp81+718,R_X86_64_PLT32,.Ltcp84-4\n"
-    ".section .text.tcp.82,\"ax\",%progbits\n"
+    ".reloc .Ltcp82+143,R_X86_64_PC32,.Ltcp105-4\n"
+    ".reloc .Ltcp82+272,R_X86_64_PC32,.Ltcp105-4\n"
+    ".reloc .Ltcp82+330,R_X86_64_PC32,.Ltcp105-4\n"
+    ".reloc .Ltcp82+464,R_X86_64_PC32,.Ltcp105-4\n"
+    ".reloc .Ltcp82+556,R_X86_64_PC32,.Ltcp105-4\n"
+    ".reloc .Ltcp82+595,R_X86_64_PC32,.Ltcp105-4\n"
+    ".reloc .Ltcp82+718,R_X86_64_PLT32,.Ltcp85-4\n"
+    ".section .text.tcp.83,\"ax\",%progbits\n"
     ".balign 16\n"
-    ".Ltcp82:\n"
+    ".Ltcp83:\n"
     ".type \"kit_text::faults::push_fault::<#fc995fe602e3aacb>\",%function\n"
     ".size \"kit_text::faults::push_fault::<#fc995fe602e3aacb>\",362\n"
     "\"kit_text::faults::push_fault::<#fc995fe602e3aacb>\":\n"
@@ -3525,12 +3550,12 @@ __asm__(
     ".octa 0x4801b00873894c9b76f1394c01b08a75\n"
     ".quad 0x415b00000088c481\n"
     ".short 0xc35e\n"
-    ".reloc .Ltcp82+122,R_X86_64_PC32,.Ltcp124-4\n"
-    ".reloc .Ltcp82+176,R_X86_64_PLT32,.Ltcp80-4\n"
-    ".reloc .Ltcp82+279,R_X86_64_PLT32,.Ltcp84-4\n"
-    ".section .text.tcp.83,\"ax\",%progbits\n"
+    ".reloc .Ltcp83+122,R_X86_64_PC32,.Ltcp125-4\n"
+    ".reloc .Ltcp83+176,R_X86_64_PLT32,.Ltcp81-4\n"
+    ".reloc .Ltcp83+279,R_X86_64_PLT32,.Ltcp85-4\n"
+    ".section .text.tcp.84,\"ax\",%progbits\n"
     ".balign 16\n"
-    ".Ltcp83:\n"
+    ".Ltcp84:\n"
     ".type \"kit_report::answers::push_refused::<#fc995fe602e3aacb>\",%function\n"
     ".size \"kit_report::answers::push_refused::<#fc995fe602e3aacb>\",337\n"
     "\"kit_report::answers::push_refused::<#fc995fe602e3aacb>\":\n"
@@ -3542,11 +3567,11 @@ __asm__(
     ".octa 0xe800000008be10247c8d48c35e41,0x2024448b4818244c8b480f74c0840000,0xf20244c280f102444280fffffff56e9\n"
     ".octa 0x3110f104b110f602444290f70244c29,0x9b76f1394c01b08a75f6854d084b8b48,0x5e415b00000088c4814801b00873894c\n"
     ".byte 0xc3\n"
-    ".reloc .Ltcp83+151,R_X86_64_PLT32,.Ltcp80-4\n"
-    ".reloc .Ltcp83+254,R_X86_64_PLT32,.Ltcp84-4\n"
-    ".section .text.tcp.84,\"ax\",%progbits\n"
+    ".reloc .Ltcp84+151,R_X86_64_PLT32,.Ltcp81-4\n"
+    ".reloc .Ltcp84+254,R_X86_64_PLT32,.Ltcp85-4\n"
+    ".section .text.tcp.85,\"ax\",%progbits\n"
     ".balign 16\n"
-    ".Ltcp84:\n"
+    ".Ltcp85:\n"
     ".type \"std_alloc::vec::Vec::grow_amortized::<#774cccd130ef0a54>\",%function\n"
     ".size \"std_alloc::vec::Vec::grow_amortized::<#774cccd130ef0a54>\",544\n"
     "\"std_alloc::vec::Vec::grow_amortized::<#774cccd130ef0a54>\":\n"
@@ -3565,9 +3590,9 @@ __asm__(
     ".octa 0x801f0fc189481b7403e08349c1,0xc8ff49c1ff480b0c88440e0cb60f4400,0x66ffffff14870ffcf88348d02948ef75\n"
     ".octa 0xb4488010e44b60f0b04880e04b60f90,0x88030e44b60f020b4488020e44b60f01,0xfffee2e9d575ca394804c18348030b44\n"
     ".byte 0xff\n"
-    ".section .text.tcp.85,\"ax\",%progbits\n"
+    ".section .text.tcp.86,\"ax\",%progbits\n"
     ".balign 16\n"
-    ".Ltcp85:\n"
+    ".Ltcp86:\n"
     ".type \"core::fmt::formatter::Formatter::write_piece::<#ab7f6a11be6e0e81>\",%function\n"
     ".size \"core::fmt::formatter::Formatter::write_piece::<#ab7f6a11be6e0e81>\",356\n"
     "\"core::fmt::formatter::Formatter::write_piece::<#ab7f6a11be6e0e81>\":\n"
@@ -3584,11 +3609,11 @@ __asm__(
     ".quad 0x894c107b8b4c0873\n"
     ".long 0xea894ce6\n"
     ".short 0xa3eb\n"
-    ".reloc .Ltcp85+309,R_X86_64_PLT32,.Ltcp77-4\n"
-    ".reloc .Ltcp85+328,R_X86_64_PLT32,.Ltcp84-4\n"
-    ".section .text.tcp.86,\"ax\",%progbits\n"
+    ".reloc .Ltcp86+309,R_X86_64_PLT32,.Ltcp78-4\n"
+    ".reloc .Ltcp86+328,R_X86_64_PLT32,.Ltcp85-4\n"
+    ".section .text.tcp.87,\"ax\",%progbits\n"
     ".balign 16\n"
-    ".Ltcp86:\n"
+    ".Ltcp87:\n"
     ".type \"std_alloc::string::String::write_fmt::<#43545b4072f2aa1d>\",%function\n"
     ".size \"std_alloc::string::String::write_fmt::<#43545b4072f2aa1d>\",652\n"
     "\"std_alloc::string::String::write_fmt::<#43545b4072f2aa1d>\":\n"
@@ -3610,11 +3635,11 @@ __asm__(
     ".octa 0x44290f60244c290f10244c280f240428,0xff854d084b8b4803110f104b110f5024,0x7b894c0676f9394c01b0fffffefa850f\n"
     ".octa 0x5f415e415d415c415b78c4834801b008\n"
     ".short 0xc35d\n"
-    ".reloc .Ltcp86+315,R_X86_64_PLT32,.Ltcp85-4\n"
-    ".reloc .Ltcp86+556,R_X86_64_PLT32,.Ltcp84-4\n"
-    ".section .text.tcp.87,\"ax\",%progbits\n"
+    ".reloc .Ltcp87+315,R_X86_64_PLT32,.Ltcp86-4\n"
+    ".reloc .Ltcp87+556,R_X86_64_PLT32,.Ltcp85-4\n"
+    ".section .text.tcp.88,\"ax\",%progbits\n"
     ".balign 16\n"
-    ".Ltcp87:\n"
+    ".Ltcp88:\n"
     ".type \"std_alloc::string::String::write_fmt::<#8ef6768b53a45598>\",%function\n"
     ".size \"std_alloc::string::String::write_fmt::<#8ef6768b53a45598>\",1137\n"
     "\"std_alloc::string::String::write_fmt::<#8ef6768b53a45598>\":\n"
@@ -3651,13 +3676,13 @@ __asm__(
     ".octa 0x24648b4c0824448b48fffffcf1840fc0\n"
     ".long 0xfd83e910\n"
     ".short 0xffff\n"
-    ".reloc .Ltcp87+331,R_X86_64_PLT32,.Ltcp85-4\n"
-    ".reloc .Ltcp87+878,R_X86_64_PLT32,.Ltcp84-4\n"
-    ".reloc .Ltcp87+936,R_X86_64_PLT32,.Ltcp77-4\n"
-    ".reloc .Ltcp87+1110,R_X86_64_PLT32,.Ltcp84-4\n"
-    ".section .text.tcp.88,\"ax\",%progbits\n"
+    ".reloc .Ltcp88+331,R_X86_64_PLT32,.Ltcp86-4\n"
+    ".reloc .Ltcp88+878,R_X86_64_PLT32,.Ltcp85-4\n"
+    ".reloc .Ltcp88+936,R_X86_64_PLT32,.Ltcp78-4\n"
+    ".reloc .Ltcp88+1110,R_X86_64_PLT32,.Ltcp85-4\n"
+    ".section .text.tcp.89,\"ax\",%progbits\n"
     ".balign 16\n"
-    ".Ltcp88:\n"
+    ".Ltcp89:\n"
     ".type \"tcp_web::exports::put_fault::<#96589b6357422c20>\",%function\n"
     ".size \"tcp_web::exports::put_fault::<#96589b6357422c20>\",1955\n"
     "\"tcp_web::exports::put_fault::<#96589b6357422c20>\":\n"
@@ -3711,32 +3736,32 @@ __asm__(
     ".octa 0x24548b4824348b48e7894cfffff8b685,0x830f702454394800000004b817894908\n"
     ".quad 0xfff892e9fffffd44\n"
     ".byte 0xff\n"
-    ".reloc .Ltcp88+158,R_X86_64_PLT32,.Ltcp91-4\n"
-    ".reloc .Ltcp88+200,R_X86_64_PC32,.Ltcp0+1164\n"
-    ".reloc .Ltcp88+223,R_X86_64_PC32,.Ltcp0+1068\n"
-    ".reloc .Ltcp88+317,R_X86_64_PLT32,.Ltcp91-4\n"
-    ".reloc .Ltcp88+364,R_X86_64_PC32,.Ltcp172-4\n"
-    ".reloc .Ltcp88+422,R_X86_64_PC32,.Ltcp0+1164\n"
-    ".reloc .Ltcp88+664,R_X86_64_PC32,.Ltcp135-4\n"
-    ".reloc .Ltcp88+671,R_X86_64_PC32,.Ltcp136-4\n"
-    ".reloc .Ltcp88+1006,R_X86_64_PLT32,.Ltcp91-4\n"
-    ".reloc .Ltcp88+1514,R_X86_64_PLT32,.Ltcp89-4\n"
-    ".reloc .Ltcp88+1540,R_X86_64_PLT32,.Ltcp89-4\n"
-    ".reloc .Ltcp88+1566,R_X86_64_PLT32,.Ltcp91-4\n"
-    ".reloc .Ltcp88+1617,R_X86_64_PLT32,.Ltcp91-4\n"
-    ".reloc .Ltcp88+1659,R_X86_64_PC32,.Ltcp103-4\n"
-    ".reloc .Ltcp88+1672,R_X86_64_PLT32,.Ltcp89-4\n"
-    ".reloc .Ltcp88+1699,R_X86_64_PC32,.Ltcp100-4\n"
-    ".reloc .Ltcp88+1712,R_X86_64_PLT32,.Ltcp89-4\n"
-    ".reloc .Ltcp88+1743,R_X86_64_PLT32,.Ltcp91-4\n"
-    ".reloc .Ltcp88+1786,R_X86_64_PLT32,.Ltcp91-4\n"
-    ".reloc .Ltcp88+1818,R_X86_64_PLT32,.Ltcp89-4\n"
-    ".reloc .Ltcp88+1851,R_X86_64_PLT32,.Ltcp91-4\n"
-    ".reloc .Ltcp88+1887,R_X86_64_PC32,.Ltcp100-4\n"
-    ".reloc .Ltcp88+1900,R_X86_64_PLT32,.Ltcp89-4\n"
-    ".section .text.tcp.89,\"ax\",%progbits\n"
+    ".reloc .Ltcp89+158,R_X86_64_PLT32,.Ltcp92-4\n"
+    ".reloc .Ltcp89+200,R_X86_64_PC32,.Ltcp0+1164\n"
+    ".reloc .Ltcp89+223,R_X86_64_PC32,.Ltcp0+1068\n"
+    ".reloc .Ltcp89+317,R_X86_64_PLT32,.Ltcp92-4\n"
+    ".reloc .Ltcp89+364,R_X86_64_PC32,.Ltcp173-4\n"
+    ".reloc .Ltcp89+422,R_X86_64_PC32,.Ltcp0+1164\n"
+    ".reloc .Ltcp89+664,R_X86_64_PC32,.Ltcp136-4\n"
+    ".reloc .Ltcp89+671,R_X86_64_PC32,.Ltcp137-4\n"
+    ".reloc .Ltcp89+1006,R_X86_64_PLT32,.Ltcp92-4\n"
+    ".reloc .Ltcp89+1514,R_X86_64_PLT32,.Ltcp90-4\n"
+    ".reloc .Ltcp89+1540,R_X86_64_PLT32,.Ltcp90-4\n"
+    ".reloc .Ltcp89+1566,R_X86_64_PLT32,.Ltcp92-4\n"
+    ".reloc .Ltcp89+1617,R_X86_64_PLT32,.Ltcp92-4\n"
+    ".reloc .Ltcp89+1659,R_X86_64_PC32,.Ltcp104-4\n"
+    ".reloc .Ltcp89+1672,R_X86_64_PLT32,.Ltcp90-4\n"
+    ".reloc .Ltcp89+1699,R_X86_64_PC32,.Ltcp101-4\n"
+    ".reloc .Ltcp89+1712,R_X86_64_PLT32,.Ltcp90-4\n"
+    ".reloc .Ltcp89+1743,R_X86_64_PLT32,.Ltcp92-4\n"
+    ".reloc .Ltcp89+1786,R_X86_64_PLT32,.Ltcp92-4\n"
+    ".reloc .Ltcp89+1818,R_X86_64_PLT32,.Ltcp90-4\n"
+    ".reloc .Ltcp89+1851,R_X86_64_PLT32,.Ltcp92-4\n"
+    ".reloc .Ltcp89+1887,R_X86_64_PC32,.Ltcp101-4\n"
+    ".reloc .Ltcp89+1900,R_X86_64_PLT32,.Ltcp90-4\n"
+    ".section .text.tcp.90,\"ax\",%progbits\n"
     ".balign 16\n"
-    ".Ltcp89:\n"
+    ".Ltcp90:\n"
     ".type \"core::fmt::formatter::Formatter::write_indented::<#b0b7e8f0682f909d>\",%function\n"
     ".size \"core::fmt::formatter::Formatter::write_indented::<#b0b7e8f0682f909d>\",306\n"
     "\"core::fmt::formatter::Formatter::write_indented::<#b0b7e8f0682f909d>\":\n"
@@ -3748,15 +3773,15 @@ __asm__(
     ".octa 0xe6014de375cbff482975c08400000000,0x8348ea894cf6894cff894c004047c641,0xe95d5f415e415d415c415b08c4\n"
     ".octa 0x5f415e415d415c415b08c4834801b000\n"
     ".short 0xc35d\n"
-    ".reloc .Ltcp89+66,R_X86_64_PLT32,.Ltcp90-4\n"
-    ".reloc .Ltcp89+147,R_X86_64_PC32,.Ltcp98+4\n"
-    ".reloc .Ltcp89+160,R_X86_64_PLT32,.Ltcp90-4\n"
-    ".reloc .Ltcp89+227,R_X86_64_PC32,.Ltcp98+4\n"
-    ".reloc .Ltcp89+240,R_X86_64_PLT32,.Ltcp90-4\n"
-    ".reloc .Ltcp89+285,R_X86_64_PLT32,.Ltcp90-4\n"
-    ".section .text.tcp.90,\"ax\",%progbits\n"
+    ".reloc .Ltcp90+66,R_X86_64_PLT32,.Ltcp91-4\n"
+    ".reloc .Ltcp90+147,R_X86_64_PC32,.Ltcp99+4\n"
+    ".reloc .Ltcp90+160,R_X86_64_PLT32,.Ltcp91-4\n"
+    ".reloc .Ltcp90+227,R_X86_64_PC32,.Ltcp99+4\n"
+    ".reloc .Ltcp90+240,R_X86_64_PLT32,.Ltcp91-4\n"
+    ".reloc .Ltcp90+285,R_X86_64_PLT32,.Ltcp91-4\n"
+    ".section .text.tcp.91,\"ax\",%progbits\n"
     ".balign 16\n"
-    ".Ltcp90:\n"
+    ".Ltcp91:\n"
     ".type \"core::fmt::formatter::Formatter::write_raw::<#b0b7e8f0682f909d>\",%function\n"
     ".size \"core::fmt::formatter::Formatter::write_raw::<#b0b7e8f0682f909d>\",706\n"
     "\"core::fmt::formatter::Formatter::write_raw::<#b0b7e8f0682f909d>\":\n"
@@ -3780,10 +3805,10 @@ __asm__(
     ".octa 0x48fffffedae9ffffff69840fc2394cef,0xe8d78949d68948f68949fb89,0x4cf6894cffffff54840fc98401b0c189\n"
     ".octa 0xfe70e9105b8b48084b8b48df8948fa89\n"
     ".short 0xffff\n"
-    ".reloc .Ltcp90+668,R_X86_64_PLT32,.Ltcp91-4\n"
-    ".section .text.tcp.91,\"ax\",%progbits\n"
+    ".reloc .Ltcp91+668,R_X86_64_PLT32,.Ltcp92-4\n"
+    ".section .text.tcp.92,\"ax\",%progbits\n"
     ".balign 16\n"
-    ".Ltcp91:\n"
+    ".Ltcp92:\n"
     ".type \"std_alloc::vec::Vec::grow_amortized::<#d75ad40d6e24f1b1>\",%function\n"
     ".size \"std_alloc::vec::Vec::grow_amortized::<#d75ad40d6e24f1b1>\",544\n"
     "\"std_alloc::vec::Vec::grow_amortized::<#d75ad40d6e24f1b1>\":\n"
@@ -3802,9 +3827,9 @@ __asm__(
     ".octa 0x801f0fc189481b7403e08349c1,0xc8ff49c1ff480b0c88440e0cb60f4400,0x66ffffff14870ffcf88348d02948ef75\n"
     ".octa 0xb4488010e44b60f0b04880e04b60f90,0x88030e44b60f020b4488020e44b60f01,0xfffee2e9d575ca394804c18348030b44\n"
     ".byte 0xff\n"
-    ".section .text.tcp.92,\"ax\",%progbits\n"
+    ".section .text.tcp.93,\"ax\",%progbits\n"
     ".balign 16\n"
-    ".Ltcp92:\n"
+    ".Ltcp93:\n"
     ".type \"kit_report::report::push_end_line::<#fc995fe602e3aacb>\",%function\n"
     ".size \"kit_report::report::push_end_line::<#fc995fe602e3aacb>\",248\n"
     "\"kit_report::report::push_end_line::<#fc995fe602e3aacb>\":\n"
@@ -3814,14 +3839,14 @@ __asm__(
     ".octa 0x48052454b60f3875c08401b540000000,0x8b482475c08400000000e8f6894cdf89,0x4c6138b482274c13948104b8b480843\n"
     ".octa 0x104b894808438948138948c0ff480a02,0x1bec35d5e415b50c48348e889ed31,0x8b48e474c08400000000e8df89480000\n"
     ".quad 0xc3eb104b8b480843\n"
-    ".reloc .Ltcp92+54,R_X86_64_PC32,.Ltcp98+40\n"
-    ".reloc .Ltcp92+85,R_X86_64_PC32,.Ltcp103-4\n"
-    ".reloc .Ltcp92+143,R_X86_64_PLT32,.Ltcp93-4\n"
-    ".reloc .Ltcp92+166,R_X86_64_PLT32,.Ltcp94-4\n"
-    ".reloc .Ltcp92+230,R_X86_64_PLT32,.Ltcp84-4\n"
-    ".section .text.tcp.93,\"ax\",%progbits\n"
+    ".reloc .Ltcp93+54,R_X86_64_PC32,.Ltcp99+40\n"
+    ".reloc .Ltcp93+85,R_X86_64_PC32,.Ltcp104-4\n"
+    ".reloc .Ltcp93+143,R_X86_64_PLT32,.Ltcp94-4\n"
+    ".reloc .Ltcp93+166,R_X86_64_PLT32,.Ltcp95-4\n"
+    ".reloc .Ltcp93+230,R_X86_64_PLT32,.Ltcp85-4\n"
+    ".section .text.tcp.94,\"ax\",%progbits\n"
     ".balign 16\n"
-    ".Ltcp93:\n"
+    ".Ltcp94:\n"
     ".type \"std_alloc::string::String::write_fmt::<#63f633939ab7fc33>\",%function\n"
     ".size \"std_alloc::string::String::write_fmt::<#63f633939ab7fc33>\",2548\n"
     "\"std_alloc::string::String::write_fmt::<#63f633939ab7fc33>\":\n"
@@ -3897,26 +3922,26 @@ __asm__(
     ".quad 0xb008728948fffffc\n"
     ".long 0xfc25e901\n"
     ".short 0xffff\n"
-    ".reloc .Ltcp93+434,R_X86_64_PC32,.Ltcp135-4\n"
-    ".reloc .Ltcp93+441,R_X86_64_PC32,.Ltcp136-4\n"
-    ".reloc .Ltcp93+800,R_X86_64_PC32,.Ltcp186-4\n"
-    ".reloc .Ltcp93+811,R_X86_64_PC32,.Ltcp187-4\n"
-    ".reloc .Ltcp93+1318,R_X86_64_PC32,.Ltcp102+60\n"
-    ".reloc .Ltcp93+1329,R_X86_64_PC32,.Ltcp188-4\n"
-    ".reloc .Ltcp93+1758,R_X86_64_PLT32,.Ltcp84-4\n"
-    ".reloc .Ltcp93+1805,R_X86_64_PLT32,.Ltcp77-4\n"
-    ".reloc .Ltcp93+1836,R_X86_64_PLT32,.Ltcp84-4\n"
-    ".reloc .Ltcp93+1882,R_X86_64_PLT32,.Ltcp77-4\n"
-    ".reloc .Ltcp93+2039,R_X86_64_PLT32,.Ltcp84-4\n"
-    ".reloc .Ltcp93+2075,R_X86_64_PLT32,.Ltcp77-4\n"
-    ".reloc .Ltcp93+2110,R_X86_64_PLT32,.Ltcp84-4\n"
-    ".reloc .Ltcp93+2160,R_X86_64_PLT32,.Ltcp77-4\n"
-    ".reloc .Ltcp93+2310,R_X86_64_PLT32,.Ltcp84-4\n"
-    ".reloc .Ltcp93+2347,R_X86_64_PLT32,.Ltcp77-4\n"
-    ".reloc .Ltcp93+2410,R_X86_64_PLT32,.Ltcp84-4\n"
-    ".section .text.tcp.94,\"ax\",%progbits\n"
+    ".reloc .Ltcp94+434,R_X86_64_PC32,.Ltcp136-4\n"
+    ".reloc .Ltcp94+441,R_X86_64_PC32,.Ltcp137-4\n"
+    ".reloc .Ltcp94+800,R_X86_64_PC32,.Ltcp187-4\n"
+    ".reloc .Ltcp94+811,R_X86_64_PC32,.Ltcp188-4\n"
+    ".reloc .Ltcp94+1318,R_X86_64_PC32,.Ltcp103+60\n"
+    ".reloc .Ltcp94+1329,R_X86_64_PC32,.Ltcp189-4\n"
+    ".reloc .Ltcp94+1758,R_X86_64_PLT32,.Ltcp85-4\n"
+    ".reloc .Ltcp94+1805,R_X86_64_PLT32,.Ltcp78-4\n"
+    ".reloc .Ltcp94+1836,R_X86_64_PLT32,.Ltcp85-4\n"
+    ".reloc .Ltcp94+1882,R_X86_64_PLT32,.Ltcp78-4\n"
+    ".reloc .Ltcp94+2039,R_X86_64_PLT32,.Ltcp85-4\n"
+    ".reloc .Ltcp94+2075,R_X86_64_PLT32,.Ltcp78-4\n"
+    ".reloc .Ltcp94+2110,R_X86_64_PLT32,.Ltcp85-4\n"
+    ".reloc .Ltcp94+2160,R_X86_64_PLT32,.Ltcp78-4\n"
+    ".reloc .Ltcp94+2310,R_X86_64_PLT32,.Ltcp85-4\n"
+    ".reloc .Ltcp94+2347,R_X86_64_PLT32,.Ltcp78-4\n"
+    ".reloc .Ltcp94+2410,R_X86_64_PLT32,.Ltcp85-4\n"
+    ".section .text.tcp.95,\"ax\",%progbits\n"
     ".balign 16\n"
-    ".Ltcp94:\n"
+    ".Ltcp95:\n"
     ".type \"kit_report::report::push_counts::<#fc995fe602e3aacb>\",%function\n"
     ".size \"kit_report::report::push_counts::<#fc995fe602e3aacb>\",2133\n"
     "\"kit_report::report::push_counts::<#fc995fe602e3aacb>\":\n"
@@ -3971,44 +3996,44 @@ __asm__(
     ".octa 0x4803110f104b110f70244c290f602444,0x4c01b01574cd39491a74ed854d084b8b,0x97fbf293c80420b8b4819761b72e939\n"
     ".octa 0x4801b0086b894c0676e9394c01b00deb,0x5d5f415e415d415c415b00000168c481\n"
     ".byte 0xc3\n"
-    ".reloc .Ltcp94+119,R_X86_64_PC32,.Ltcp156-4\n"
-    ".reloc .Ltcp94+126,R_X86_64_PC32,.Ltcp157-4\n"
-    ".reloc .Ltcp94+140,R_X86_64_PC32,.Ltcp177-4\n"
-    ".reloc .Ltcp94+183,R_X86_64_PC32,.Ltcp178-4\n"
-    ".reloc .Ltcp94+226,R_X86_64_PC32,.Ltcp179-4\n"
-    ".reloc .Ltcp94+266,R_X86_64_PC32,.Ltcp180-4\n"
-    ".reloc .Ltcp94+306,R_X86_64_PC32,.Ltcp181-4\n"
-    ".reloc .Ltcp94+349,R_X86_64_PC32,.Ltcp182-4\n"
-    ".reloc .Ltcp94+578,R_X86_64_PLT32,.Ltcp79-4\n"
-    ".reloc .Ltcp94+750,R_X86_64_PLT32,.Ltcp79-4\n"
-    ".reloc .Ltcp94+850,R_X86_64_PC32,.Ltcp179-4\n"
-    ".reloc .Ltcp94+903,R_X86_64_PLT32,.Ltcp95-4\n"
-    ".reloc .Ltcp94+1003,R_X86_64_PC32,.Ltcp180-4\n"
-    ".reloc .Ltcp94+1054,R_X86_64_PLT32,.Ltcp95-4\n"
-    ".reloc .Ltcp94+1154,R_X86_64_PC32,.Ltcp181-4\n"
-    ".reloc .Ltcp94+1197,R_X86_64_PLT32,.Ltcp84-4\n"
-    ".reloc .Ltcp94+1227,R_X86_64_PC32,.Ltcp178-4\n"
-    ".reloc .Ltcp94+1240,R_X86_64_PLT32,.Ltcp77-4\n"
-    ".reloc .Ltcp94+1266,R_X86_64_PLT32,.Ltcp84-4\n"
-    ".reloc .Ltcp94+1296,R_X86_64_PC32,.Ltcp179-4\n"
-    ".reloc .Ltcp94+1309,R_X86_64_PLT32,.Ltcp77-4\n"
-    ".reloc .Ltcp94+1364,R_X86_64_PLT32,.Ltcp79-4\n"
-    ".reloc .Ltcp94+1464,R_X86_64_PC32,.Ltcp182-4\n"
-    ".reloc .Ltcp94+1504,R_X86_64_PLT32,.Ltcp84-4\n"
-    ".reloc .Ltcp94+1534,R_X86_64_PC32,.Ltcp180-4\n"
-    ".reloc .Ltcp94+1547,R_X86_64_PLT32,.Ltcp77-4\n"
-    ".reloc .Ltcp94+1729,R_X86_64_PLT32,.Ltcp84-4\n"
-    ".reloc .Ltcp94+1814,R_X86_64_PC32,.Ltcp181-4\n"
-    ".reloc .Ltcp94+1827,R_X86_64_PLT32,.Ltcp77-4\n"
-    ".reloc .Ltcp94+1853,R_X86_64_PLT32,.Ltcp84-4\n"
-    ".reloc .Ltcp94+1883,R_X86_64_PC32,.Ltcp182-4\n"
-    ".reloc .Ltcp94+1896,R_X86_64_PLT32,.Ltcp77-4\n"
-    ".reloc .Ltcp94+1922,R_X86_64_PLT32,.Ltcp84-4\n"
-    ".reloc .Ltcp94+1960,R_X86_64_PLT32,.Ltcp77-4\n"
-    ".reloc .Ltcp94+2013,R_X86_64_PLT32,.Ltcp84-4\n"
-    ".section .text.tcp.95,\"ax\",%progbits\n"
+    ".reloc .Ltcp95+119,R_X86_64_PC32,.Ltcp157-4\n"
+    ".reloc .Ltcp95+126,R_X86_64_PC32,.Ltcp158-4\n"
+    ".reloc .Ltcp95+140,R_X86_64_PC32,.Ltcp178-4\n"
+    ".reloc .Ltcp95+183,R_X86_64_PC32,.Ltcp179-4\n"
+    ".reloc .Ltcp95+226,R_X86_64_PC32,.Ltcp180-4\n"
+    ".reloc .Ltcp95+266,R_X86_64_PC32,.Ltcp181-4\n"
+    ".reloc .Ltcp95+306,R_X86_64_PC32,.Ltcp182-4\n"
+    ".reloc .Ltcp95+349,R_X86_64_PC32,.Ltcp183-4\n"
+    ".reloc .Ltcp95+578,R_X86_64_PLT32,.Ltcp80-4\n"
+    ".reloc .Ltcp95+750,R_X86_64_PLT32,.Ltcp80-4\n"
+    ".reloc .Ltcp95+850,R_X86_64_PC32,.Ltcp180-4\n"
+    ".reloc .Ltcp95+903,R_X86_64_PLT32,.Ltcp96-4\n"
+    ".reloc .Ltcp95+1003,R_X86_64_PC32,.Ltcp181-4\n"
+    ".reloc .Ltcp95+1054,R_X86_64_PLT32,.Ltcp96-4\n"
+    ".reloc .Ltcp95+1154,R_X86_64_PC32,.Ltcp182-4\n"
+    ".reloc .Ltcp95+1197,R_X86_64_PLT32,.Ltcp85-4\n"
+    ".reloc .Ltcp95+1227,R_X86_64_PC32,.Ltcp179-4\n"
+    ".reloc .Ltcp95+1240,R_X86_64_PLT32,.Ltcp78-4\n"
+    ".reloc .Ltcp95+1266,R_X86_64_PLT32,.Ltcp85-4\n"
+    ".reloc .Ltcp95+1296,R_X86_64_PC32,.Ltcp180-4\n"
+    ".reloc .Ltcp95+1309,R_X86_64_PLT32,.Ltcp78-4\n"
+    ".reloc .Ltcp95+1364,R_X86_64_PLT32,.Ltcp80-4\n"
+    ".reloc .Ltcp95+1464,R_X86_64_PC32,.Ltcp183-4\n"
+    ".reloc .Ltcp95+1504,R_X86_64_PLT32,.Ltcp85-4\n"
+    ".reloc .Ltcp95+1534,R_X86_64_PC32,.Ltcp181-4\n"
+    ".reloc .Ltcp95+1547,R_X86_64_PLT32,.Ltcp78-4\n"
+    ".reloc .Ltcp95+1729,R_X86_64_PLT32,.Ltcp85-4\n"
+    ".reloc .Ltcp95+1814,R_X86_64_PC32,.Ltcp182-4\n"
+    ".reloc .Ltcp95+1827,R_X86_64_PLT32,.Ltcp78-4\n"
+    ".reloc .Ltcp95+1853,R_X86_64_PLT32,.Ltcp85-4\n"
+    ".reloc .Ltcp95+1883,R_X86_64_PC32,.Ltcp183-4\n"
+    ".reloc .Ltcp95+1896,R_X86_64_PLT32,.Ltcp78-4\n"
+    ".reloc .Ltcp95+1922,R_X86_64_PLT32,.Ltcp85-4\n"
+    ".reloc .Ltcp95+1960,R_X86_64_PLT32,.Ltcp78-4\n"
+    ".reloc .Ltcp95+2013,R_X86_64_PLT32,.Ltcp85-4\n"
+    ".section .text.tcp.96,\"ax\",%progbits\n"
     ".balign 16\n"
-    ".Ltcp95:\n"
+    ".Ltcp96:\n"
     ".type \"core::fmt::formatter::Formatter::write_piece::<#9759a26100429c7f>\",%function\n"
     ".size \"core::fmt::formatter::Formatter::write_piece::<#9759a26100429c7f>\",367\n"
     "\"core::fmt::formatter::Formatter::write_piece::<#9759a26100429c7f>\":\n"
@@ -4026,11 +4051,11 @@ __asm__(
     ".quad 0x894c107b8b4c0873\n"
     ".long 0xea894ce6\n"
     ".short 0xa3eb\n"
-    ".reloc .Ltcp95+320,R_X86_64_PLT32,.Ltcp77-4\n"
-    ".reloc .Ltcp95+339,R_X86_64_PLT32,.Ltcp84-4\n"
-    ".section .text.tcp.96,\"ax\",%progbits\n"
+    ".reloc .Ltcp96+320,R_X86_64_PLT32,.Ltcp78-4\n"
+    ".reloc .Ltcp96+339,R_X86_64_PLT32,.Ltcp85-4\n"
+    ".section .text.tcp.97,\"ax\",%progbits\n"
     ".balign 16\n"
-    ".Ltcp96:\n"
+    ".Ltcp97:\n"
     ".globl tcp_web_list\n"
     ".hidden tcp_web_list\n"
     ".type tcp_web_list,%function\n"
@@ -4120,37 +4145,37 @@ __asm__(
     ".octa 0xfd04850fca3948ef75c1394804c08348\n"
     ".quad 0xfffb2de9c031ffff\n"
     ".byte 0xff\n"
-    ".reloc .Ltcp96+200,R_X86_64_PC32,.Ltcp0+1084\n"
-    ".reloc .Ltcp96+345,R_X86_64_PLT32,.Ltcp1-4\n"
-    ".reloc .Ltcp96+566,R_X86_64_PLT32,.Ltcp2-4\n"
-    ".reloc .Ltcp96+677,R_X86_64_PLT32,.Ltcp2-4\n"
-    ".reloc .Ltcp96+746,R_X86_64_PLT32,.Ltcp5-4\n"
-    ".reloc .Ltcp96+786,R_X86_64_PLT32,.Ltcp5-4\n"
-    ".reloc .Ltcp96+830,R_X86_64_PLT32,.Ltcp7-4\n"
-    ".reloc .Ltcp96+889,R_X86_64_PC32,.Ltcp103-4\n"
-    ".reloc .Ltcp96+997,R_X86_64_PLT32,.Ltcp11-4\n"
-    ".reloc .Ltcp96+1148,R_X86_64_PLT32,.Ltcp14-4\n"
-    ".reloc .Ltcp96+1251,R_X86_64_PLT32,.Ltcp1-4\n"
-    ".reloc .Ltcp96+1336,R_X86_64_PLT32,.Ltcp2-4\n"
-    ".reloc .Ltcp96+1356,R_X86_64_PC32,.Ltcp103-4\n"
-    ".reloc .Ltcp96+1369,R_X86_64_PLT32,.Ltcp12-4\n"
-    ".reloc .Ltcp96+1431,R_X86_64_PLT32,.Ltcp25-4\n"
-    ".reloc .Ltcp96+1469,R_X86_64_PLT32,.Ltcp25-4\n"
-    ".reloc .Ltcp96+1520,R_X86_64_PC32,.Ltcp130-4\n"
-    ".reloc .Ltcp96+1563,R_X86_64_PC32,.Ltcp131-4\n"
-    ".reloc .Ltcp96+1606,R_X86_64_PC32,.Ltcp100-4\n"
-    ".reloc .Ltcp96+2110,R_X86_64_PLT32,.Ltcp11-4\n"
-    ".reloc .Ltcp96+2304,R_X86_64_PLT32,.Ltcp11-4\n"
-    ".reloc .Ltcp96+2690,R_X86_64_PLT32,.Ltcp25-4\n"
-    ".reloc .Ltcp96+3057,R_X86_64_PC32,.Ltcp131-4\n"
-    ".reloc .Ltcp96+3070,R_X86_64_PLT32,.Ltcp12-4\n"
-    ".reloc .Ltcp96+3096,R_X86_64_PLT32,.Ltcp25-4\n"
-    ".reloc .Ltcp96+3153,R_X86_64_PC32,.Ltcp100-4\n"
-    ".reloc .Ltcp96+3166,R_X86_64_PLT32,.Ltcp12-4\n"
-    ".reloc .Ltcp96+3246,R_X86_64_PLT32,.Ltcp25-4\n"
-    ".section .text.tcp.97,\"ax\",%progbits\n"
+    ".reloc .Ltcp97+200,R_X86_64_PC32,.Ltcp0+1084\n"
+    ".reloc .Ltcp97+345,R_X86_64_PLT32,.Ltcp1-4\n"
+    ".reloc .Ltcp97+566,R_X86_64_PLT32,.Ltcp2-4\n"
+    ".reloc .Ltcp97+677,R_X86_64_PLT32,.Ltcp2-4\n"
+    ".reloc .Ltcp97+746,R_X86_64_PLT32,.Ltcp5-4\n"
+    ".reloc .Ltcp97+786,R_X86_64_PLT32,.Ltcp5-4\n"
+    ".reloc .Ltcp97+830,R_X86_64_PLT32,.Ltcp7-4\n"
+    ".reloc .Ltcp97+889,R_X86_64_PC32,.Ltcp104-4\n"
+    ".reloc .Ltcp97+997,R_X86_64_PLT32,.Ltcp11-4\n"
+    ".reloc .Ltcp97+1148,R_X86_64_PLT32,.Ltcp14-4\n"
+    ".reloc .Ltcp97+1251,R_X86_64_PLT32,.Ltcp1-4\n"
+    ".reloc .Ltcp97+1336,R_X86_64_PLT32,.Ltcp2-4\n"
+    ".reloc .Ltcp97+1356,R_X86_64_PC32,.Ltcp104-4\n"
+    ".reloc .Ltcp97+1369,R_X86_64_PLT32,.Ltcp12-4\n"
+    ".reloc .Ltcp97+1431,R_X86_64_PLT32,.Ltcp25-4\n"
+    ".reloc .Ltcp97+1469,R_X86_64_PLT32,.Ltcp25-4\n"
+    ".reloc .Ltcp97+1520,R_X86_64_PC32,.Ltcp131-4\n"
+    ".reloc .Ltcp97+1563,R_X86_64_PC32,.Ltcp132-4\n"
+    ".reloc .Ltcp97+1606,R_X86_64_PC32,.Ltcp101-4\n"
+    ".reloc .Ltcp97+2110,R_X86_64_PLT32,.Ltcp11-4\n"
+    ".reloc .Ltcp97+2304,R_X86_64_PLT32,.Ltcp11-4\n"
+    ".reloc .Ltcp97+2690,R_X86_64_PLT32,.Ltcp25-4\n"
+    ".reloc .Ltcp97+3057,R_X86_64_PC32,.Ltcp132-4\n"
+    ".reloc .Ltcp97+3070,R_X86_64_PLT32,.Ltcp12-4\n"
+    ".reloc .Ltcp97+3096,R_X86_64_PLT32,.Ltcp25-4\n"
+    ".reloc .Ltcp97+3153,R_X86_64_PC32,.Ltcp101-4\n"
+    ".reloc .Ltcp97+3166,R_X86_64_PLT32,.Ltcp12-4\n"
+    ".reloc .Ltcp97+3246,R_X86_64_PLT32,.Ltcp25-4\n"
+    ".section .text.tcp.98,\"ax\",%progbits\n"
     ".balign 16\n"
-    ".Ltcp97:\n"
+    ".Ltcp98:\n"
     ".globl tcp_web_replay\n"
     ".hidden tcp_web_replay\n"
     ".type tcp_web_replay,%function\n"
@@ -4197,504 +4222,504 @@ __asm__(
     ".octa 0x20c08349010c110f42f00144110f4210,0x46840f1cc2f6b674c23948e175c0394c,0x48b44fce08348d08948c18948ffffff\n"
     ".octa 0x3948ef75c8394804c183480f0489440e\n"
     ".quad 0xffffff21e98d74c2\n"
-    ".reloc .Ltcp97+176,R_X86_64_PLT32,.Ltcp26-4\n"
-    ".reloc .Ltcp97+378,R_X86_64_PLT32,.Ltcp33-4\n"
-    ".reloc .Ltcp97+439,R_X86_64_PLT32,.Ltcp33-4\n"
-    ".reloc .Ltcp97+695,R_X86_64_PLT32,.Ltcp34-4\n"
-    ".reloc .Ltcp97+760,R_X86_64_PLT32,.Ltcp92-4\n"
-    ".reloc .Ltcp97+790,R_X86_64_PLT32,.Ltcp92-4\n"
-    ".reloc .Ltcp97+858,R_X86_64_PLT32,.Ltcp88-4\n"
-    ".section .rodata.tcp.98,\"a\",%progbits\n"
-    ".balign 1\n"
-    ".Ltcp98:\n"
-    ".octa 0x206f742020202020746e6577656d6163,0x74696d65646e6573736e75726566696c,0x20646e65656e6f6e6b63617376636572\n"
+    ".reloc .Ltcp98+176,R_X86_64_PLT32,.Ltcp26-4\n"
+    ".reloc .Ltcp98+378,R_X86_64_PLT32,.Ltcp33-4\n"
+    ".reloc .Ltcp98+439,R_X86_64_PLT32,.Ltcp33-4\n"
+    ".reloc .Ltcp98+695,R_X86_64_PLT32,.Ltcp34-4\n"
+    ".reloc .Ltcp98+760,R_X86_64_PLT32,.Ltcp93-4\n"
+    ".reloc .Ltcp98+790,R_X86_64_PLT32,.Ltcp93-4\n"
+    ".reloc .Ltcp98+858,R_X86_64_PLT32,.Ltcp89-4\n"
     ".section .rodata.tcp.99,\"a\",%progbits\n"
     ".balign 1\n"
     ".Ltcp99:\n"
-    ".byte 0x2d\n"
+    ".octa 0x206f742020202020746e6577656d6163,0x74696d65646e6573736e75726566696c,0x20646e65656e6f6e6b63617376636572\n"
     ".section .rodata.tcp.100,\"a\",%progbits\n"
     ".balign 1\n"
     ".Ltcp100:\n"
-    ".byte 0xa\n"
+    ".byte 0x2d\n"
     ".section .rodata.tcp.101,\"a\",%progbits\n"
     ".balign 1\n"
     ".Ltcp101:\n"
+    ".byte 0xa\n"
     ".section .rodata.tcp.102,\"a\",%progbits\n"
-    ".balign 8\n"
+    ".balign 1\n"
     ".Ltcp102:\n"
+    ".section .rodata.tcp.103,\"a\",%progbits\n"
+    ".balign 8\n"
+    ".Ltcp103:\n"
     ".octa 0x34312065766f62612074666968732061,0x29332e32202c33323337204346522820,0x20657265687765736c652d7465736572\n"
     ".octa 0x646e6f636573202c342e372e30312e33,0x70000000000000009,0x70000000000000005\n"
-    ".section .rodata.tcp.103,\"a\",%progbits\n"
-    ".balign 1\n"
-    ".Ltcp103:\n"
-    ".byte 0x20\n"
     ".section .rodata.tcp.104,\"a\",%progbits\n"
     ".balign 1\n"
     ".Ltcp104:\n"
+    ".byte 0x20\n"
+    ".section .rodata.tcp.105,\"a\",%progbits\n"
+    ".balign 1\n"
+    ".Ltcp105:\n"
     ".octa 0x37303630353034303330323031303030,0x35313431333132313131303139303830,0x33323232313230323931383137313631\n"
     ".octa 0x31333033393238323732363235323432,0x39333833373336333533343333333233,0x37343634353434343334323431343034\n"
     ".octa 0x35353435333532353135303539343834,0x33363236313630363935383537353635,0x31373037393638363736363635363436\n"
     ".octa 0x39373837373736373537343733373237,0x37383638353834383338323831383038,0x35393439333932393139303939383838\n"
     ".quad 0x3939383937393639\n"
-    ".section .rodata.tcp.105,\"a\",%progbits\n"
-    ".balign 1\n"
-    ".Ltcp105:\n"
-    ".short 0x4341\n"
-    ".byte 0x4b\n"
     ".section .rodata.tcp.106,\"a\",%progbits\n"
     ".balign 1\n"
     ".Ltcp106:\n"
-    ".long 0x2c4b4341\n"
-    ".short 0x5350\n"
-    ".byte 0x48\n"
+    ".short 0x4341\n"
+    ".byte 0x4b\n"
     ".section .rodata.tcp.107,\"a\",%progbits\n"
     ".balign 1\n"
     ".Ltcp107:\n"
-    ".short 0x5953\n"
-    ".byte 0x4e\n"
+    ".long 0x2c4b4341\n"
+    ".short 0x5350\n"
+    ".byte 0x48\n"
     ".section .rodata.tcp.108,\"a\",%progbits\n"
     ".balign 1\n"
     ".Ltcp108:\n"
-    ".long 0x2c4b4341\n"
     ".short 0x5953\n"
     ".byte 0x4e\n"
     ".section .rodata.tcp.109,\"a\",%progbits\n"
     ".balign 1\n"
     ".Ltcp109:\n"
     ".long 0x2c4b4341\n"
-    ".short 0x4946\n"
+    ".short 0x5953\n"
     ".byte 0x4e\n"
     ".section .rodata.tcp.110,\"a\",%progbits\n"
     ".balign 1\n"
     ".Ltcp110:\n"
     ".long 0x2c4b4341\n"
-    ".short 0x5352\n"
-    ".byte 0x54\n"
+    ".short 0x4946\n"
+    ".byte 0x4e\n"
     ".section .rodata.tcp.111,\"a\",%progbits\n"
     ".balign 1\n"
     ".Ltcp111:\n"
-    ".short 0x5743\n"
-    ".byte 0x52\n"
+    ".long 0x2c4b4341\n"
+    ".short 0x5352\n"
+    ".byte 0x54\n"
     ".section .rodata.tcp.112,\"a\",%progbits\n"
     ".balign 1\n"
     ".Ltcp112:\n"
-    ".short 0x4345\n"
-    ".byte 0x45\n"
+    ".short 0x5743\n"
+    ".byte 0x52\n"
     ".section .rodata.tcp.113,\"a\",%progbits\n"
     ".balign 1\n"
     ".Ltcp113:\n"
-    ".short 0x5255\n"
-    ".byte 0x47\n"
+    ".short 0x4345\n"
+    ".byte 0x45\n"
     ".section .rodata.tcp.114,\"a\",%progbits\n"
     ".balign 1\n"
     ".Ltcp114:\n"
-    ".short 0x5350\n"
-    ".byte 0x48\n"
+    ".short 0x5255\n"
+    ".byte 0x47\n"
     ".section .rodata.tcp.115,\"a\",%progbits\n"
     ".balign 1\n"
     ".Ltcp115:\n"
-    ".short 0x5352\n"
-    ".byte 0x54\n"
+    ".short 0x5350\n"
+    ".byte 0x48\n"
     ".section .rodata.tcp.116,\"a\",%progbits\n"
     ".balign 1\n"
     ".Ltcp116:\n"
-    ".short 0x4946\n"
-    ".byte 0x4e\n"
+    ".short 0x5352\n"
+    ".byte 0x54\n"
     ".section .rodata.tcp.117,\"a\",%progbits\n"
     ".balign 1\n"
     ".Ltcp117:\n"
-    ".byte 0x2c\n"
+    ".short 0x4946\n"
+    ".byte 0x4e\n"
     ".section .rodata.tcp.118,\"a\",%progbits\n"
     ".balign 1\n"
     ".Ltcp118:\n"
-    ".octa 0x332074696b70637420776f646e697720,0x74696177656d6974322074696b706374,0x4b43412d5453414c544e45532d4e5953\n"
-    ".octa 0x20646575657571202074616570657220,0x20646165726e752020746867696c6620\n"
+    ".byte 0x2c\n"
     ".section .rodata.tcp.119,\"a\",%progbits\n"
     ".balign 1\n"
     ".Ltcp119:\n"
-    ".quad 0x736e6f6974706f20\n"
-    ".byte 0x20\n"
+    ".octa 0x332074696b70637420776f646e697720,0x74696177656d6974322074696b706374,0x4b43412d5453414c544e45532d4e5953\n"
+    ".octa 0x20646575657571202074616570657220,0x20646165726e752020746867696c6620\n"
     ".section .rodata.tcp.120,\"a\",%progbits\n"
     ".balign 1\n"
     ".Ltcp120:\n"
-    ".short 0x6f6e\n"
-    ".byte 0x70\n"
+    ".quad 0x736e6f6974706f20\n"
+    ".byte 0x20\n"
     ".section .rodata.tcp.121,\"a\",%progbits\n"
     ".balign 1\n"
     ".Ltcp121:\n"
-    ".short 0x7377\n"
-    ".byte 0x3a\n"
+    ".short 0x6f6e\n"
+    ".byte 0x70\n"
     ".section .rodata.tcp.122,\"a\",%progbits\n"
     ".balign 1\n"
     ".Ltcp122:\n"
-    ".long 0x6b636173\n"
-    ".short 0x6b6f\n"
+    ".short 0x7377\n"
+    ".byte 0x3a\n"
     ".section .rodata.tcp.123,\"a\",%progbits\n"
     ".balign 1\n"
     ".Ltcp123:\n"
     ".long 0x6b636173\n"
-    ".byte 0x3a\n"
+    ".short 0x6b6f\n"
     ".section .rodata.tcp.124,\"a\",%progbits\n"
     ".balign 1\n"
     ".Ltcp124:\n"
-    ".quad 0x656d726f666c616d\n"
-    ".short 0x2064\n"
+    ".long 0x6b636173\n"
+    ".byte 0x3a\n"
     ".section .rodata.tcp.125,\"a\",%progbits\n"
     ".balign 1\n"
     ".Ltcp125:\n"
-    ".long 0x4c6f6f54\n"
-    ".short 0x6e6f\n"
-    ".byte 0x67\n"
+    ".quad 0x656d726f666c616d\n"
+    ".short 0x2064\n"
     ".section .rodata.tcp.126,\"a\",%progbits\n"
     ".balign 1\n"
     ".Ltcp126:\n"
-    ".quad 0x6b63656843646142\n"
-    ".short 0x7573\n"
-    ".byte 0x6d\n"
+    ".long 0x4c6f6f54\n"
+    ".short 0x6e6f\n"
+    ".byte 0x67\n"
     ".section .rodata.tcp.127,\"a\",%progbits\n"
     ".balign 1\n"
     ".Ltcp127:\n"
-    ".quad 0x657366664f646142\n"
-    ".byte 0x74\n"
+    ".quad 0x6b63656843646142\n"
+    ".short 0x7573\n"
+    ".byte 0x6d\n"
     ".section .rodata.tcp.128,\"a\",%progbits\n"
     ".balign 1\n"
     ".Ltcp128:\n"
-    ".quad 0x6f6974704f646142\n"
-    ".long 0x7461206e\n"
-    ".byte 0x20\n"
+    ".quad 0x657366664f646142\n"
+    ".byte 0x74\n"
     ".section .rodata.tcp.129,\"a\",%progbits\n"
     ".balign 1\n"
     ".Ltcp129:\n"
-    ".quad 0x6964646150646142\n"
-    ".long 0x6120676e\n"
-    ".short 0x2074\n"
+    ".quad 0x6f6974704f646142\n"
+    ".long 0x7461206e\n"
+    ".byte 0x20\n"
     ".section .rodata.tcp.130,\"a\",%progbits\n"
     ".balign 1\n"
     ".Ltcp130:\n"
-    ".long 0x61746f74\n"
-    ".short 0x206c\n"
+    ".quad 0x6964646150646142\n"
+    ".long 0x6120676e\n"
+    ".short 0x2074\n"
     ".section .rodata.tcp.131,\"a\",%progbits\n"
     ".balign 1\n"
     ".Ltcp131:\n"
-    ".quad 0x6d726f666c616d20\n"
-    ".short 0x6465\n"
-    ".byte 0x20\n"
+    ".long 0x61746f74\n"
+    ".short 0x206c\n"
     ".section .rodata.tcp.132,\"a\",%progbits\n"
     ".balign 1\n"
     ".Ltcp132:\n"
-    ".long 0x666e6f63\n"
-    ".short 0x6769\n"
+    ".quad 0x6d726f666c616d20\n"
+    ".short 0x6465\n"
+    ".byte 0x20\n"
     ".section .rodata.tcp.133,\"a\",%progbits\n"
     ".balign 1\n"
     ".Ltcp133:\n"
-    ".long 0x65706572\n"
-    ".short 0x7461\n"
+    ".long 0x666e6f63\n"
+    ".short 0x6769\n"
     ".section .rodata.tcp.134,\"a\",%progbits\n"
     ".balign 1\n"
     ".Ltcp134:\n"
-    ".long 0x696d696c\n"
-    ".byte 0x74\n"
+    ".long 0x65706572\n"
+    ".short 0x7461\n"
     ".section .rodata.tcp.135,\"a\",%progbits\n"
     ".balign 1\n"
     ".Ltcp135:\n"
-    ".byte 0x41\n"
+    ".long 0x696d696c\n"
+    ".byte 0x74\n"
     ".section .rodata.tcp.136,\"a\",%progbits\n"
     ".balign 1\n"
     ".Ltcp136:\n"
-    ".byte 0x42\n"
+    ".byte 0x41\n"
     ".section .rodata.tcp.137,\"a\",%progbits\n"
     ".balign 1\n"
     ".Ltcp137:\n"
-    ".long 0x6e6e6f63\n"
-    ".short 0x6365\n"
-    ".byte 0x74\n"
+    ".byte 0x42\n"
     ".section .rodata.tcp.138,\"a\",%progbits\n"
     ".balign 1\n"
     ".Ltcp138:\n"
-    ".long 0x7473696c\n"
-    ".short 0x6e65\n"
+    ".long 0x6e6e6f63\n"
+    ".short 0x6365\n"
+    ".byte 0x74\n"
     ".section .rodata.tcp.139,\"a\",%progbits\n"
     ".balign 1\n"
     ".Ltcp139:\n"
-    ".long 0x65636572\n"
-    ".short 0x7669\n"
-    ".byte 0x65\n"
+    ".long 0x7473696c\n"
+    ".short 0x6e65\n"
     ".section .rodata.tcp.140,\"a\",%progbits\n"
     ".balign 1\n"
     ".Ltcp140:\n"
-    ".long 0x736f6c63\n"
+    ".long 0x65636572\n"
+    ".short 0x7669\n"
     ".byte 0x65\n"
     ".section .rodata.tcp.141,\"a\",%progbits\n"
     ".balign 1\n"
     ".Ltcp141:\n"
-    ".long 0x726f6261\n"
-    ".byte 0x74\n"
+    ".long 0x736f6c63\n"
+    ".byte 0x65\n"
     ".section .rodata.tcp.142,\"a\",%progbits\n"
     ".balign 1\n"
     ".Ltcp142:\n"
-    ".quad 0x656c776f6e6b6361\n"
-    ".short 0x6764\n"
-    ".byte 0x65\n"
+    ".long 0x726f6261\n"
+    ".byte 0x74\n"
     ".section .rodata.tcp.143,\"a\",%progbits\n"
     ".balign 1\n"
     ".Ltcp143:\n"
-    ".long 0x656d6974\n"
-    ".byte 0x72\n"
+    ".quad 0x656c776f6e6b6361\n"
+    ".short 0x6764\n"
+    ".byte 0x65\n"
     ".section .rodata.tcp.144,\"a\",%progbits\n"
     ".balign 1\n"
     ".Ltcp144:\n"
-    ".octa 0x656764656c776f6e6b63612d74696d65\n"
-    ".long 0x746e656d\n"
+    ".long 0x656d6974\n"
+    ".byte 0x72\n"
     ".section .rodata.tcp.145,\"a\",%progbits\n"
     ".balign 1\n"
     ".Ltcp145:\n"
-    ".quad 0x662d646e65736572\n"
-    ".long 0x74737269\n"
+    ".octa 0x656764656c776f6e6b63612d74696d65\n"
+    ".long 0x746e656d\n"
     ".section .rodata.tcp.146,\"a\",%progbits\n"
     ".balign 1\n"
     ".Ltcp146:\n"
-    ".long 0x696c6564\n"
-    ".short 0x6576\n"
-    ".byte 0x72\n"
+    ".quad 0x662d646e65736572\n"
+    ".long 0x74737269\n"
     ".section .rodata.tcp.147,\"a\",%progbits\n"
     ".balign 1\n"
     ".Ltcp147:\n"
-    ".long 0x616d6164\n"
-    ".short 0x6567\n"
+    ".long 0x696c6564\n"
+    ".short 0x6576\n"
+    ".byte 0x72\n"
     ".section .rodata.tcp.148,\"a\",%progbits\n"
     ".balign 1\n"
     ".Ltcp148:\n"
-    ".quad 0x6d736e6172746572\n"
-    ".short 0x7469\n"
+    ".long 0x616d6164\n"
+    ".short 0x6567\n"
     ".section .rodata.tcp.149,\"a\",%progbits\n"
     ".balign 1\n"
     ".Ltcp149:\n"
-    ".long 0x726f6572\n"
-    ".short 0x6564\n"
-    ".byte 0x72\n"
+    ".quad 0x6d736e6172746572\n"
+    ".short 0x7469\n"
     ".section .rodata.tcp.150,\"a\",%progbits\n"
     ".balign 1\n"
     ".Ltcp150:\n"
-    ".long 0x66696873\n"
-    ".byte 0x74\n"
+    ".long 0x726f6572\n"
+    ".short 0x6564\n"
+    ".byte 0x72\n"
     ".section .rodata.tcp.151,\"a\",%progbits\n"
     ".balign 1\n"
     ".Ltcp151:\n"
-    ".short 0x6b6f\n"
-    ".byte 0x20\n"
+    ".long 0x66696873\n"
+    ".byte 0x74\n"
     ".section .rodata.tcp.152,\"a\",%progbits\n"
     ".balign 1\n"
     ".Ltcp152:\n"
-    ".long 0x6b6f6f74\n"
+    ".short 0x6b6f\n"
     ".byte 0x20\n"
     ".section .rodata.tcp.153,\"a\",%progbits\n"
     ".balign 1\n"
     ".Ltcp153:\n"
-    ".long 0x65747962\n"
-    ".short 0x2073\n"
+    ".long 0x6b6f6f74\n"
+    ".byte 0x20\n"
     ".section .rodata.tcp.154,\"a\",%progbits\n"
     ".balign 1\n"
     ".Ltcp154:\n"
-    ".long 0x68746f6e\n"
-    ".short 0x6e69\n"
-    ".byte 0x67\n"
+    ".long 0x65747962\n"
+    ".short 0x2073\n"
     ".section .rodata.tcp.155,\"a\",%progbits\n"
     ".balign 1\n"
     ".Ltcp155:\n"
-    ".short 0x6e65\n"
-    ".byte 0x64\n"
+    ".long 0x68746f6e\n"
+    ".short 0x6e69\n"
+    ".byte 0x67\n"
     ".section .rodata.tcp.156,\"a\",%progbits\n"
     ".balign 1\n"
     ".Ltcp156:\n"
-    ".short 0x6579\n"
-    ".byte 0x73\n"
+    ".short 0x6e65\n"
+    ".byte 0x64\n"
     ".section .rodata.tcp.157,\"a\",%progbits\n"
     ".balign 1\n"
     ".Ltcp157:\n"
-    ".short 0x6f6e\n"
+    ".short 0x6579\n"
+    ".byte 0x73\n"
     ".section .rodata.tcp.158,\"a\",%progbits\n"
     ".balign 1\n"
     ".Ltcp158:\n"
-    ".long 0x67616c66\n"
-    ".short 0x2073\n"
+    ".short 0x6f6e\n"
     ".section .rodata.tcp.159,\"a\",%progbits\n"
     ".balign 1\n"
     ".Ltcp159:\n"
-    ".long 0x706f7264\n"
-    ".short 0x6570\n"
-    ".byte 0x64\n"
+    ".long 0x67616c66\n"
+    ".short 0x2073\n"
     ".section .rodata.tcp.160,\"a\",%progbits\n"
     ".balign 1\n"
     ".Ltcp160:\n"
-    ".quad 0x65737365636f7270\n"
+    ".long 0x706f7264\n"
+    ".short 0x6570\n"
     ".byte 0x64\n"
     ".section .rodata.tcp.161,\"a\",%progbits\n"
     ".balign 1\n"
     ".Ltcp161:\n"
-    ".long 0x534f4c43\n"
-    ".short 0x4445\n"
+    ".quad 0x65737365636f7270\n"
+    ".byte 0x64\n"
     ".section .rodata.tcp.162,\"a\",%progbits\n"
     ".balign 1\n"
     ".Ltcp162:\n"
-    ".long 0x5453494c\n"
-    ".short 0x4e45\n"
+    ".long 0x534f4c43\n"
+    ".short 0x4445\n"
     ".section .rodata.tcp.163,\"a\",%progbits\n"
     ".balign 1\n"
     ".Ltcp163:\n"
-    ".quad 0x454345522d4e5953\n"
-    ".long 0x44455649\n"
+    ".long 0x5453494c\n"
+    ".short 0x4e45\n"
     ".section .rodata.tcp.164,\"a\",%progbits\n"
     ".balign 1\n"
     ".Ltcp164:\n"
-    ".quad 0x53494c4241545345\n"
-    ".short 0x4548\n"
-    ".byte 0x44\n"
+    ".quad 0x454345522d4e5953\n"
+    ".long 0x44455649\n"
     ".section .rodata.tcp.165,\"a\",%progbits\n"
     ".balign 1\n"
     ".Ltcp165:\n"
-    ".quad 0x544941572d4e4946\n"
-    ".short 0x312d\n"
+    ".quad 0x53494c4241545345\n"
+    ".short 0x4548\n"
+    ".byte 0x44\n"
     ".section .rodata.tcp.166,\"a\",%progbits\n"
     ".balign 1\n"
     ".Ltcp166:\n"
     ".quad 0x544941572d4e4946\n"
-    ".short 0x322d\n"
+    ".short 0x312d\n"
     ".section .rodata.tcp.167,\"a\",%progbits\n"
     ".balign 1\n"
     ".Ltcp167:\n"
-    ".quad 0x41572d45534f4c43\n"
-    ".short 0x5449\n"
+    ".quad 0x544941572d4e4946\n"
+    ".short 0x322d\n"
     ".section .rodata.tcp.168,\"a\",%progbits\n"
     ".balign 1\n"
     ".Ltcp168:\n"
-    ".long 0x534f4c43\n"
-    ".short 0x4e49\n"
-    ".byte 0x47\n"
+    ".quad 0x41572d45534f4c43\n"
+    ".short 0x5449\n"
     ".section .rodata.tcp.169,\"a\",%progbits\n"
     ".balign 1\n"
     ".Ltcp169:\n"
-    ".quad 0x4941572d454d4954\n"
-    ".byte 0x54\n"
+    ".long 0x534f4c43\n"
+    ".short 0x4e49\n"
+    ".byte 0x47\n"
     ".section .rodata.tcp.170,\"a\",%progbits\n"
     ".balign 1\n"
     ".Ltcp170:\n"
-    ".quad 0x6465737566657220\n"
-    ".byte 0x20\n"
+    ".quad 0x4941572d454d4954\n"
+    ".byte 0x54\n"
     ".section .rodata.tcp.171,\"a\",%progbits\n"
     ".balign 1\n"
     ".Ltcp171:\n"
-    ".long 0x656e6f64\n"
+    ".quad 0x6465737566657220\n"
     ".byte 0x20\n"
     ".section .rodata.tcp.172,\"a\",%progbits\n"
     ".balign 1\n"
     ".Ltcp172:\n"
-    ".quad 0x203a74696b706374\n"
-    ".long 0x666e6f63\n"
-    ".short 0x6769\n"
+    ".long 0x656e6f64\n"
     ".byte 0x20\n"
     ".section .rodata.tcp.173,\"a\",%progbits\n"
     ".balign 1\n"
     ".Ltcp173:\n"
-    ".quad 0x65646e652d746f6e\n"
-    ".byte 0x64\n"
+    ".quad 0x203a74696b706374\n"
+    ".long 0x666e6f63\n"
+    ".short 0x6769\n"
+    ".byte 0x20\n"
     ".section .rodata.tcp.174,\"a\",%progbits\n"
     ".balign 1\n"
     ".Ltcp174:\n"
-    ".long 0x6564726f\n"
-    ".short 0x6c72\n"
-    ".byte 0x79\n"
+    ".quad 0x65646e652d746f6e\n"
+    ".byte 0x64\n"
     ".section .rodata.tcp.175,\"a\",%progbits\n"
     ".balign 1\n"
     ".Ltcp175:\n"
-    ".long 0x65736572\n"
-    ".byte 0x74\n"
+    ".long 0x6564726f\n"
+    ".short 0x6c72\n"
+    ".byte 0x79\n"
     ".section .rodata.tcp.176,\"a\",%progbits\n"
     ".balign 1\n"
     ".Ltcp176:\n"
-    ".long 0x726f6261\n"
-    ".short 0x6574\n"
-    ".byte 0x64\n"
+    ".long 0x65736572\n"
+    ".byte 0x74\n"
     ".section .rodata.tcp.177,\"a\",%progbits\n"
     ".balign 1\n"
     ".Ltcp177:\n"
-    ".quad 0x6574706563636120\n"
-    ".short 0x2064\n"
+    ".long 0x726f6261\n"
+    ".short 0x6574\n"
+    ".byte 0x64\n"
     ".section .rodata.tcp.178,\"a\",%progbits\n"
     ".balign 1\n"
     ".Ltcp178:\n"
-    ".quad 0x726576696c656420\n"
-    ".short 0x6465\n"
-    ".byte 0x20\n"
+    ".quad 0x6574706563636120\n"
+    ".short 0x2064\n"
     ".section .rodata.tcp.179,\"a\",%progbits\n"
     ".balign 1\n"
     ".Ltcp179:\n"
-    ".quad 0x657361656c657220\n"
-    ".short 0x2064\n"
+    ".quad 0x726576696c656420\n"
+    ".short 0x6465\n"
+    ".byte 0x20\n"
     ".section .rodata.tcp.180,\"a\",%progbits\n"
     ".balign 1\n"
     ".Ltcp180:\n"
-    ".quad 0x6465726564726f20\n"
-    ".byte 0x20\n"
+    ".quad 0x657361656c657220\n"
+    ".short 0x2064\n"
     ".section .rodata.tcp.181,\"a\",%progbits\n"
     ".balign 1\n"
     ".Ltcp181:\n"
-    ".long 0x6e657320\n"
-    ".short 0x2074\n"
+    ".quad 0x6465726564726f20\n"
+    ".byte 0x20\n"
     ".section .rodata.tcp.182,\"a\",%progbits\n"
     ".balign 1\n"
     ".Ltcp182:\n"
+    ".long 0x6e657320\n"
+    ".short 0x2074\n"
+    ".section .rodata.tcp.183,\"a\",%progbits\n"
+    ".balign 1\n"
+    ".Ltcp183:\n"
     ".long 0x646e6520\n"
     ".short 0x6465\n"
     ".byte 0x20\n"
-    ".section .rodata.tcp.183,\"a\",%progbits\n"
-    ".balign 8\n"
-    ".Ltcp183:\n"
-    ".octa 0x20000000000000002,0x20000000000000002,0x20000000000000003\n"
-    ".octa 0x30000000000000003\n"
     ".section .rodata.tcp.184,\"a\",%progbits\n"
     ".balign 8\n"
     ".Ltcp184:\n"
-    ".octa 0x7000000000000000a\n"
-    ".quad 0x8\n"
-    ".section .data.rel.ro.tcp.185,\"aw\",%progbits\n"
+    ".octa 0x20000000000000002,0x20000000000000002,0x20000000000000003\n"
+    ".octa 0x30000000000000003\n"
+    ".section .rodata.tcp.185,\"a\",%progbits\n"
     ".balign 8\n"
     ".Ltcp185:\n"
-    ".octa 0x0\n"
-    ".quad 0x0\n"
-    ".reloc .Ltcp185+0,R_X86_64_64,.Ltcp148+0\n"
-    ".reloc .Ltcp185+8,R_X86_64_64,.Ltcp149+0\n"
-    ".reloc .Ltcp185+16,R_X86_64_64,.Ltcp118+24\n"
-    ".section .rodata.tcp.186,\"a\",%progbits\n"
+    ".octa 0x7000000000000000a\n"
+    ".quad 0x8\n"
+    ".section .data.rel.ro.tcp.186,\"aw\",%progbits\n"
     ".balign 8\n"
     ".Ltcp186:\n"
+    ".octa 0x0\n"
+    ".quad 0x0\n"
+    ".reloc .Ltcp186+0,R_X86_64_64,.Ltcp149+0\n"
+    ".reloc .Ltcp186+8,R_X86_64_64,.Ltcp150+0\n"
+    ".reloc .Ltcp186+16,R_X86_64_64,.Ltcp119+24\n"
+    ".section .rodata.tcp.187,\"a\",%progbits\n"
+    ".balign 8\n"
+    ".Ltcp187:\n"
     ".octa 0x60000000000000006,0xc0000000000000008,0xa000000000000000b\n"
     ".octa 0xa000000000000000a,0x80000000000000007\n"
     ".quad 0x9\n"
-    ".section .data.rel.ro.tcp.187,\"aw\",%progbits\n"
-    ".balign 8\n"
-    ".Ltcp187:\n"
-    ".octa 0x0,0x0,0x0\n"
-    ".octa 0x0,0x0\n"
-    ".quad 0x0\n"
-    ".reloc .Ltcp187+0,R_X86_64_64,.Ltcp161+0\n"
-    ".reloc .Ltcp187+8,R_X86_64_64,.Ltcp162+0\n"
-    ".reloc .Ltcp187+16,R_X86_64_64,.Ltcp118+32\n"
-    ".reloc .Ltcp187+24,R_X86_64_64,.Ltcp163+0\n"
-    ".reloc .Ltcp187+32,R_X86_64_64,.Ltcp164+0\n"
-    ".reloc .Ltcp187+40,R_X86_64_64,.Ltcp165+0\n"
-    ".reloc .Ltcp187+48,R_X86_64_64,.Ltcp166+0\n"
-    ".reloc .Ltcp187+56,R_X86_64_64,.Ltcp167+0\n"
-    ".reloc .Ltcp187+64,R_X86_64_64,.Ltcp168+0\n"
-    ".reloc .Ltcp187+72,R_X86_64_64,.Ltcp118+40\n"
-    ".reloc .Ltcp187+80,R_X86_64_64,.Ltcp169+0\n"
     ".section .data.rel.ro.tcp.188,\"aw\",%progbits\n"
     ".balign 8\n"
     ".Ltcp188:\n"
+    ".octa 0x0,0x0,0x0\n"
     ".octa 0x0,0x0\n"
-    ".reloc .Ltcp188+0,R_X86_64_64,.Ltcp173+0\n"
-    ".reloc .Ltcp188+8,R_X86_64_64,.Ltcp174+0\n"
-    ".reloc .Ltcp188+16,R_X86_64_64,.Ltcp175+0\n"
-    ".reloc .Ltcp188+24,R_X86_64_64,.Ltcp176+0\n"
+    ".quad 0x0\n"
+    ".reloc .Ltcp188+0,R_X86_64_64,.Ltcp162+0\n"
+    ".reloc .Ltcp188+8,R_X86_64_64,.Ltcp163+0\n"
+    ".reloc .Ltcp188+16,R_X86_64_64,.Ltcp119+32\n"
+    ".reloc .Ltcp188+24,R_X86_64_64,.Ltcp164+0\n"
+    ".reloc .Ltcp188+32,R_X86_64_64,.Ltcp165+0\n"
+    ".reloc .Ltcp188+40,R_X86_64_64,.Ltcp166+0\n"
+    ".reloc .Ltcp188+48,R_X86_64_64,.Ltcp167+0\n"
+    ".reloc .Ltcp188+56,R_X86_64_64,.Ltcp168+0\n"
+    ".reloc .Ltcp188+64,R_X86_64_64,.Ltcp169+0\n"
+    ".reloc .Ltcp188+72,R_X86_64_64,.Ltcp119+40\n"
+    ".reloc .Ltcp188+80,R_X86_64_64,.Ltcp170+0\n"
+    ".section .data.rel.ro.tcp.189,\"aw\",%progbits\n"
+    ".balign 8\n"
+    ".Ltcp189:\n"
+    ".octa 0x0,0x0\n"
+    ".reloc .Ltcp189+0,R_X86_64_64,.Ltcp174+0\n"
+    ".reloc .Ltcp189+8,R_X86_64_64,.Ltcp175+0\n"
+    ".reloc .Ltcp189+16,R_X86_64_64,.Ltcp176+0\n"
+    ".reloc .Ltcp189+24,R_X86_64_64,.Ltcp177+0\n"
     ".popsection\n"
 );
 #elif defined(MACHINE_X86_64)
@@ -4957,9 +4982,9 @@ __asm__(
     ".octa 0x5f415e415d415c415b08c4834801b000\n"
     ".short 0xc35d\n"
     ".reloc .Ltcp12+66,R_X86_64_PLT32,.Ltcp13-4\n"
-    ".reloc .Ltcp12+147,R_X86_64_PC32,.Ltcp98+4\n"
+    ".reloc .Ltcp12+147,R_X86_64_PC32,.Ltcp99+4\n"
     ".reloc .Ltcp12+160,R_X86_64_PLT32,.Ltcp13-4\n"
-    ".reloc .Ltcp12+227,R_X86_64_PC32,.Ltcp98+4\n"
+    ".reloc .Ltcp12+227,R_X86_64_PC32,.Ltcp99+4\n"
     ".reloc .Ltcp12+240,R_X86_64_PLT32,.Ltcp13-4\n"
     ".reloc .Ltcp12+285,R_X86_64_PLT32,.Ltcp13-4\n"
     ".section .text.tcp.13,\"ax\",%progbits\n"
@@ -5165,76 +5190,76 @@ __asm__(
     ".short 0xffe7\n"
     ".byte 0xff\n"
     ".reloc .Ltcp14+124,R_X86_64_PLT32,.Ltcp8-4\n"
-    ".reloc .Ltcp14+720,R_X86_64_PC32,.Ltcp124-4\n"
+    ".reloc .Ltcp14+720,R_X86_64_PC32,.Ltcp125-4\n"
     ".reloc .Ltcp14+757,R_X86_64_PLT32,.Ltcp21-4\n"
     ".reloc .Ltcp14+819,R_X86_64_PC32,.Ltcp15+88\n"
-    ".reloc .Ltcp14+882,R_X86_64_PC32,.Ltcp128-4\n"
-    ".reloc .Ltcp14+950,R_X86_64_PC32,.Ltcp126-4\n"
-    ".reloc .Ltcp14+1025,R_X86_64_PC32,.Ltcp127-4\n"
-    ".reloc .Ltcp14+1088,R_X86_64_PC32,.Ltcp125-4\n"
-    ".reloc .Ltcp14+1133,R_X86_64_PC32,.Ltcp129-4\n"
+    ".reloc .Ltcp14+882,R_X86_64_PC32,.Ltcp129-4\n"
+    ".reloc .Ltcp14+950,R_X86_64_PC32,.Ltcp127-4\n"
+    ".reloc .Ltcp14+1025,R_X86_64_PC32,.Ltcp128-4\n"
+    ".reloc .Ltcp14+1088,R_X86_64_PC32,.Ltcp126-4\n"
+    ".reloc .Ltcp14+1133,R_X86_64_PC32,.Ltcp130-4\n"
     ".reloc .Ltcp14+1173,R_X86_64_PLT32,.Ltcp24-4\n"
     ".reloc .Ltcp14+1272,R_X86_64_PLT32,.Ltcp16-4\n"
     ".reloc .Ltcp14+1424,R_X86_64_PLT32,.Ltcp16-4\n"
     ".reloc .Ltcp14+1461,R_X86_64_PLT32,.Ltcp16-4\n"
     ".reloc .Ltcp14+1498,R_X86_64_PLT32,.Ltcp16-4\n"
     ".reloc .Ltcp14+1535,R_X86_64_PLT32,.Ltcp16-4\n"
-    ".reloc .Ltcp14+1798,R_X86_64_PC32,.Ltcp104-4\n"
-    ".reloc .Ltcp14+1910,R_X86_64_PC32,.Ltcp104-4\n"
-    ".reloc .Ltcp14+1952,R_X86_64_PC32,.Ltcp104-4\n"
-    ".reloc .Ltcp14+2073,R_X86_64_PC32,.Ltcp104-4\n"
-    ".reloc .Ltcp14+2178,R_X86_64_PC32,.Ltcp104-4\n"
-    ".reloc .Ltcp14+2220,R_X86_64_PC32,.Ltcp104-4\n"
-    ".reloc .Ltcp14+2333,R_X86_64_PC32,.Ltcp104-4\n"
-    ".reloc .Ltcp14+2451,R_X86_64_PC32,.Ltcp104-4\n"
-    ".reloc .Ltcp14+2711,R_X86_64_PC32,.Ltcp104-4\n"
-    ".reloc .Ltcp14+2791,R_X86_64_PC32,.Ltcp104-4\n"
-    ".reloc .Ltcp14+2853,R_X86_64_PC32,.Ltcp104-4\n"
-    ".reloc .Ltcp14+2878,R_X86_64_PC32,.Ltcp104-4\n"
+    ".reloc .Ltcp14+1798,R_X86_64_PC32,.Ltcp105-4\n"
+    ".reloc .Ltcp14+1910,R_X86_64_PC32,.Ltcp105-4\n"
+    ".reloc .Ltcp14+1952,R_X86_64_PC32,.Ltcp105-4\n"
+    ".reloc .Ltcp14+2073,R_X86_64_PC32,.Ltcp105-4\n"
+    ".reloc .Ltcp14+2178,R_X86_64_PC32,.Ltcp105-4\n"
+    ".reloc .Ltcp14+2220,R_X86_64_PC32,.Ltcp105-4\n"
+    ".reloc .Ltcp14+2333,R_X86_64_PC32,.Ltcp105-4\n"
+    ".reloc .Ltcp14+2451,R_X86_64_PC32,.Ltcp105-4\n"
+    ".reloc .Ltcp14+2711,R_X86_64_PC32,.Ltcp105-4\n"
+    ".reloc .Ltcp14+2791,R_X86_64_PC32,.Ltcp105-4\n"
+    ".reloc .Ltcp14+2853,R_X86_64_PC32,.Ltcp105-4\n"
+    ".reloc .Ltcp14+2878,R_X86_64_PC32,.Ltcp105-4\n"
     ".reloc .Ltcp14+3060,R_X86_64_PLT32,.Ltcp16-4\n"
-    ".reloc .Ltcp14+3254,R_X86_64_PC32,.Ltcp104-4\n"
+    ".reloc .Ltcp14+3254,R_X86_64_PC32,.Ltcp105-4\n"
     ".reloc .Ltcp14+3387,R_X86_64_PC32,.Ltcp15-4\n"
-    ".reloc .Ltcp14+3403,R_X86_64_PC32,.Ltcp107-4\n"
-    ".reloc .Ltcp14+3415,R_X86_64_PC32,.Ltcp109-4\n"
-    ".reloc .Ltcp14+3427,R_X86_64_PC32,.Ltcp106-4\n"
-    ".reloc .Ltcp14+3634,R_X86_64_PC32,.Ltcp111-4\n"
-    ".reloc .Ltcp14+3659,R_X86_64_PC32,.Ltcp112-4\n"
-    ".reloc .Ltcp14+3693,R_X86_64_PC32,.Ltcp113-4\n"
-    ".reloc .Ltcp14+3728,R_X86_64_PC32,.Ltcp105-4\n"
-    ".reloc .Ltcp14+3763,R_X86_64_PC32,.Ltcp114-4\n"
-    ".reloc .Ltcp14+3798,R_X86_64_PC32,.Ltcp115-4\n"
-    ".reloc .Ltcp14+3833,R_X86_64_PC32,.Ltcp107-4\n"
-    ".reloc .Ltcp14+3868,R_X86_64_PC32,.Ltcp116-4\n"
+    ".reloc .Ltcp14+3403,R_X86_64_PC32,.Ltcp108-4\n"
+    ".reloc .Ltcp14+3415,R_X86_64_PC32,.Ltcp110-4\n"
+    ".reloc .Ltcp14+3427,R_X86_64_PC32,.Ltcp107-4\n"
+    ".reloc .Ltcp14+3634,R_X86_64_PC32,.Ltcp112-4\n"
+    ".reloc .Ltcp14+3659,R_X86_64_PC32,.Ltcp113-4\n"
+    ".reloc .Ltcp14+3693,R_X86_64_PC32,.Ltcp114-4\n"
+    ".reloc .Ltcp14+3728,R_X86_64_PC32,.Ltcp106-4\n"
+    ".reloc .Ltcp14+3763,R_X86_64_PC32,.Ltcp115-4\n"
+    ".reloc .Ltcp14+3798,R_X86_64_PC32,.Ltcp116-4\n"
+    ".reloc .Ltcp14+3833,R_X86_64_PC32,.Ltcp108-4\n"
+    ".reloc .Ltcp14+3868,R_X86_64_PC32,.Ltcp117-4\n"
     ".reloc .Ltcp14+4326,R_X86_64_PLT32,.Ltcp17-4\n"
     ".reloc .Ltcp14+4507,R_X86_64_PLT32,.Ltcp16-4\n"
-    ".reloc .Ltcp14+4550,R_X86_64_PC32,.Ltcp117-4\n"
+    ".reloc .Ltcp14+4550,R_X86_64_PC32,.Ltcp118-4\n"
     ".reloc .Ltcp14+4571,R_X86_64_PLT32,.Ltcp17-4\n"
     ".reloc .Ltcp14+4615,R_X86_64_PLT32,.Ltcp16-4\n"
-    ".reloc .Ltcp14+4658,R_X86_64_PC32,.Ltcp105-4\n"
-    ".reloc .Ltcp14+4667,R_X86_64_PC32,.Ltcp108-4\n"
-    ".reloc .Ltcp14+4676,R_X86_64_PC32,.Ltcp110-4\n"
-    ".reloc .Ltcp14+4922,R_X86_64_PC32,.Ltcp104-4\n"
-    ".reloc .Ltcp14+5044,R_X86_64_PC32,.Ltcp104-4\n"
-    ".reloc .Ltcp14+5117,R_X86_64_PC32,.Ltcp104-4\n"
-    ".reloc .Ltcp14+5164,R_X86_64_PC32,.Ltcp104-4\n"
-    ".reloc .Ltcp14+5211,R_X86_64_PC32,.Ltcp104-4\n"
-    ".reloc .Ltcp14+5285,R_X86_64_PC32,.Ltcp104-4\n"
-    ".reloc .Ltcp14+5591,R_X86_64_PC32,.Ltcp119-4\n"
+    ".reloc .Ltcp14+4658,R_X86_64_PC32,.Ltcp106-4\n"
+    ".reloc .Ltcp14+4667,R_X86_64_PC32,.Ltcp109-4\n"
+    ".reloc .Ltcp14+4676,R_X86_64_PC32,.Ltcp111-4\n"
+    ".reloc .Ltcp14+4922,R_X86_64_PC32,.Ltcp105-4\n"
+    ".reloc .Ltcp14+5044,R_X86_64_PC32,.Ltcp105-4\n"
+    ".reloc .Ltcp14+5117,R_X86_64_PC32,.Ltcp105-4\n"
+    ".reloc .Ltcp14+5164,R_X86_64_PC32,.Ltcp105-4\n"
+    ".reloc .Ltcp14+5211,R_X86_64_PC32,.Ltcp105-4\n"
+    ".reloc .Ltcp14+5285,R_X86_64_PC32,.Ltcp105-4\n"
+    ".reloc .Ltcp14+5591,R_X86_64_PC32,.Ltcp120-4\n"
     ".reloc .Ltcp14+5766,R_X86_64_PLT32,.Ltcp9-4\n"
     ".reloc .Ltcp14+5851,R_X86_64_PLT32,.Ltcp19-4\n"
     ".reloc .Ltcp14+5890,R_X86_64_PLT32,.Ltcp9-4\n"
     ".reloc .Ltcp14+5995,R_X86_64_PLT32,.Ltcp19-4\n"
     ".reloc .Ltcp14+6017,R_X86_64_PLT32,.Ltcp16-4\n"
-    ".reloc .Ltcp14+6397,R_X86_64_PC32,.Ltcp104-4\n"
+    ".reloc .Ltcp14+6397,R_X86_64_PC32,.Ltcp105-4\n"
     ".reloc .Ltcp14+6630,R_X86_64_PLT32,.Ltcp23-4\n"
     ".reloc .Ltcp14+6662,R_X86_64_PLT32,.Ltcp16-4\n"
     ".reloc .Ltcp14+6706,R_X86_64_PLT32,.Ltcp16-4\n"
     ".reloc .Ltcp14+6743,R_X86_64_PLT32,.Ltcp16-4\n"
     ".reloc .Ltcp14+6789,R_X86_64_PLT32,.Ltcp16-4\n"
-    ".reloc .Ltcp14+6843,R_X86_64_PC32,.Ltcp104-4\n"
+    ".reloc .Ltcp14+6843,R_X86_64_PC32,.Ltcp105-4\n"
     ".reloc .Ltcp14+6883,R_X86_64_PLT32,.Ltcp16-4\n"
     ".reloc .Ltcp14+6923,R_X86_64_PLT32,.Ltcp16-4\n"
-    ".reloc .Ltcp14+6954,R_X86_64_PC32,.Ltcp99-4\n"
+    ".reloc .Ltcp14+6954,R_X86_64_PC32,.Ltcp100-4\n"
     ".reloc .Ltcp14+6969,R_X86_64_PLT32,.Ltcp17-4\n"
     ".reloc .Ltcp14+6999,R_X86_64_PLT32,.Ltcp16-4\n"
     ".section .rodata.tcp.15,\"a\",%progbits\n"
@@ -5309,9 +5334,9 @@ __asm__(
     ".octa 0x5f415e415d415c415b08c4834801b000\n"
     ".short 0xc35d\n"
     ".reloc .Ltcp17+66,R_X86_64_PLT32,.Ltcp18-4\n"
-    ".reloc .Ltcp17+147,R_X86_64_PC32,.Ltcp98+4\n"
+    ".reloc .Ltcp17+147,R_X86_64_PC32,.Ltcp99+4\n"
     ".reloc .Ltcp17+160,R_X86_64_PLT32,.Ltcp18-4\n"
-    ".reloc .Ltcp17+227,R_X86_64_PC32,.Ltcp98+4\n"
+    ".reloc .Ltcp17+227,R_X86_64_PC32,.Ltcp99+4\n"
     ".reloc .Ltcp17+240,R_X86_64_PLT32,.Ltcp18-4\n"
     ".reloc .Ltcp17+285,R_X86_64_PLT32,.Ltcp18-4\n"
     ".section .text.tcp.18,\"ax\",%progbits\n"
@@ -5394,16 +5419,16 @@ __asm__(
     ".short 0xfffd\n"
     ".byte 0xff\n"
     ".reloc .Ltcp19+52,R_X86_64_PC32,.Ltcp20-4\n"
-    ".reloc .Ltcp19+103,R_X86_64_PC32,.Ltcp120-4\n"
-    ".reloc .Ltcp19+175,R_X86_64_PC32,.Ltcp123-4\n"
-    ".reloc .Ltcp19+216,R_X86_64_PC32,.Ltcp121-4\n"
+    ".reloc .Ltcp19+103,R_X86_64_PC32,.Ltcp121-4\n"
+    ".reloc .Ltcp19+175,R_X86_64_PC32,.Ltcp124-4\n"
+    ".reloc .Ltcp19+216,R_X86_64_PC32,.Ltcp122-4\n"
     ".reloc .Ltcp19+260,R_X86_64_PLT32,.Ltcp21-4\n"
-    ".reloc .Ltcp19+307,R_X86_64_PC32,.Ltcp122-4\n"
-    ".reloc .Ltcp19+784,R_X86_64_PC32,.Ltcp104-4\n"
+    ".reloc .Ltcp19+307,R_X86_64_PC32,.Ltcp123-4\n"
+    ".reloc .Ltcp19+784,R_X86_64_PC32,.Ltcp105-4\n"
     ".reloc .Ltcp19+856,R_X86_64_PLT32,.Ltcp22-4\n"
     ".reloc .Ltcp19+1145,R_X86_64_PLT32,.Ltcp22-4\n"
     ".reloc .Ltcp19+1179,R_X86_64_PLT32,.Ltcp16-4\n"
-    ".reloc .Ltcp19+1209,R_X86_64_PC32,.Ltcp104-4\n"
+    ".reloc .Ltcp19+1209,R_X86_64_PC32,.Ltcp105-4\n"
     ".reloc .Ltcp19+1311,R_X86_64_PLT32,.Ltcp23-4\n"
     ".reloc .Ltcp19+1324,R_X86_64_PLT32,.Ltcp16-4\n"
     ".reloc .Ltcp19+1362,R_X86_64_PLT32,.Ltcp16-4\n"
@@ -5489,12 +5514,12 @@ __asm__(
     ".octa 0xc48148c0311063894c087b894c33894c,0x8948c35f415e415d415c415b00000080,0x1b0c18900000000e8d68948d58949df\n"
     ".octa 0xebea894c10638b4c087b8b4cd974c984\n"
     ".byte 0xac\n"
-    ".reloc .Ltcp22+143,R_X86_64_PC32,.Ltcp104-4\n"
-    ".reloc .Ltcp22+272,R_X86_64_PC32,.Ltcp104-4\n"
-    ".reloc .Ltcp22+330,R_X86_64_PC32,.Ltcp104-4\n"
-    ".reloc .Ltcp22+464,R_X86_64_PC32,.Ltcp104-4\n"
-    ".reloc .Ltcp22+556,R_X86_64_PC32,.Ltcp104-4\n"
-    ".reloc .Ltcp22+595,R_X86_64_PC32,.Ltcp104-4\n"
+    ".reloc .Ltcp22+143,R_X86_64_PC32,.Ltcp105-4\n"
+    ".reloc .Ltcp22+272,R_X86_64_PC32,.Ltcp105-4\n"
+    ".reloc .Ltcp22+330,R_X86_64_PC32,.Ltcp105-4\n"
+    ".reloc .Ltcp22+464,R_X86_64_PC32,.Ltcp105-4\n"
+    ".reloc .Ltcp22+556,R_X86_64_PC32,.Ltcp105-4\n"
+    ".reloc .Ltcp22+595,R_X86_64_PC32,.Ltcp105-4\n"
     ".reloc .Ltcp22+718,R_X86_64_PLT32,.Ltcp16-4\n"
     ".section .text.tcp.23,\"ax\",%progbits\n"
     ".balign 16\n"
@@ -5780,10 +5805,10 @@ __asm__(
     ".long 0x1b0c35d\n"
     ".short 0xa7eb\n"
     ".reloc .Ltcp26+604,R_X86_64_PLT32,.Ltcp2-4\n"
-    ".reloc .Ltcp26+650,R_X86_64_PC32,.Ltcp118+4\n"
+    ".reloc .Ltcp26+650,R_X86_64_PC32,.Ltcp119+4\n"
     ".reloc .Ltcp26+672,R_X86_64_PLT32,.Ltcp4-4\n"
     ".reloc .Ltcp26+703,R_X86_64_PLT32,.Ltcp1-4\n"
-    ".reloc .Ltcp26+836,R_X86_64_PC32,.Ltcp118+12\n"
+    ".reloc .Ltcp26+836,R_X86_64_PC32,.Ltcp119+12\n"
     ".reloc .Ltcp26+852,R_X86_64_PLT32,.Ltcp4-4\n"
     ".reloc .Ltcp26+881,R_X86_64_PLT32,.Ltcp1-4\n"
     ".reloc .Ltcp26+1088,R_X86_64_PLT32,.Ltcp2-4\n"
@@ -5791,27 +5816,27 @@ __asm__(
     ".reloc .Ltcp26+1373,R_X86_64_PC32,.Ltcp0+652\n"
     ".reloc .Ltcp26+1609,R_X86_64_PLT32,.Ltcp1-4\n"
     ".reloc .Ltcp26+1930,R_X86_64_PLT32,.Ltcp2-4\n"
-    ".reloc .Ltcp26+2035,R_X86_64_PC32,.Ltcp132-4\n"
+    ".reloc .Ltcp26+2035,R_X86_64_PC32,.Ltcp133-4\n"
     ".reloc .Ltcp26+2069,R_X86_64_PLT32,.Ltcp4-4\n"
     ".reloc .Ltcp26+2181,R_X86_64_PLT32,.Ltcp2-4\n"
-    ".reloc .Ltcp26+2277,R_X86_64_PC32,.Ltcp98+12\n"
+    ".reloc .Ltcp26+2277,R_X86_64_PC32,.Ltcp99+12\n"
     ".reloc .Ltcp26+2293,R_X86_64_PLT32,.Ltcp4-4\n"
-    ".reloc .Ltcp26+2489,R_X86_64_PC32,.Ltcp133-4\n"
+    ".reloc .Ltcp26+2489,R_X86_64_PC32,.Ltcp134-4\n"
     ".reloc .Ltcp26+2511,R_X86_64_PLT32,.Ltcp4-4\n"
     ".reloc .Ltcp26+2673,R_X86_64_PLT32,.Ltcp2-4\n"
     ".reloc .Ltcp26+2777,R_X86_64_PLT32,.Ltcp2-4\n"
     ".reloc .Ltcp26+2951,R_X86_64_PLT32,.Ltcp2-4\n"
-    ".reloc .Ltcp26+3055,R_X86_64_PC32,.Ltcp134-4\n"
+    ".reloc .Ltcp26+3055,R_X86_64_PC32,.Ltcp135-4\n"
     ".reloc .Ltcp26+3079,R_X86_64_PLT32,.Ltcp4-4\n"
     ".reloc .Ltcp26+3337,R_X86_64_PLT32,.Ltcp28-4\n"
     ".reloc .Ltcp26+3464,R_X86_64_PLT32,.Ltcp2-4\n"
     ".reloc .Ltcp26+3699,R_X86_64_PLT32,.Ltcp30-4\n"
     ".reloc .Ltcp26+3951,R_X86_64_PLT32,.Ltcp2-4\n"
-    ".reloc .Ltcp26+4028,R_X86_64_PC32,.Ltcp132-4\n"
+    ".reloc .Ltcp26+4028,R_X86_64_PC32,.Ltcp133-4\n"
     ".reloc .Ltcp26+4041,R_X86_64_PLT32,.Ltcp4-4\n"
     ".reloc .Ltcp26+4133,R_X86_64_PLT32,.Ltcp2-4\n"
     ".reloc .Ltcp26+4245,R_X86_64_PLT32,.Ltcp2-4\n"
-    ".reloc .Ltcp26+4363,R_X86_64_PC32,.Ltcp150-4\n"
+    ".reloc .Ltcp26+4363,R_X86_64_PC32,.Ltcp151-4\n"
     ".reloc .Ltcp26+4384,R_X86_64_PLT32,.Ltcp4-4\n"
     ".reloc .Ltcp26+4500,R_X86_64_PLT32,.Ltcp28-4\n"
     ".reloc .Ltcp26+4823,R_X86_64_PC32,.Ltcp27-4\n"
@@ -5819,16 +5844,16 @@ __asm__(
     ".reloc .Ltcp26+4983,R_X86_64_PC32,.Ltcp27+12\n"
     ".reloc .Ltcp26+5096,R_X86_64_PLT32,.Ltcp2-4\n"
     ".reloc .Ltcp26+5133,R_X86_64_PC32,.Ltcp27+36\n"
-    ".reloc .Ltcp26+5408,R_X86_64_PC32,.Ltcp98+20\n"
+    ".reloc .Ltcp26+5408,R_X86_64_PC32,.Ltcp99+20\n"
     ".reloc .Ltcp26+5429,R_X86_64_PLT32,.Ltcp4-4\n"
-    ".reloc .Ltcp26+5608,R_X86_64_PC32,.Ltcp98+28\n"
+    ".reloc .Ltcp26+5608,R_X86_64_PC32,.Ltcp99+28\n"
     ".reloc .Ltcp26+5629,R_X86_64_PLT32,.Ltcp4-4\n"
-    ".reloc .Ltcp26+6011,R_X86_64_PC32,.Ltcp98+36\n"
+    ".reloc .Ltcp26+6011,R_X86_64_PC32,.Ltcp99+36\n"
     ".reloc .Ltcp26+6021,R_X86_64_PLT32,.Ltcp4-4\n"
-    ".reloc .Ltcp26+6274,R_X86_64_PC32,.Ltcp98+32\n"
+    ".reloc .Ltcp26+6274,R_X86_64_PC32,.Ltcp99+32\n"
     ".reloc .Ltcp26+6293,R_X86_64_PLT32,.Ltcp4-4\n"
     ".reloc .Ltcp26+6312,R_X86_64_PLT32,.Ltcp31-4\n"
-    ".reloc .Ltcp26+6546,R_X86_64_PC32,.Ltcp98+16\n"
+    ".reloc .Ltcp26+6546,R_X86_64_PC32,.Ltcp99+16\n"
     ".reloc .Ltcp26+6562,R_X86_64_PLT32,.Ltcp4-4\n"
     ".reloc .Ltcp26+6969,R_X86_64_PLT32,.Ltcp32-4\n"
     ".section .rodata.tcp.27,\"a\",%progbits\n"
@@ -5921,37 +5946,37 @@ __asm__(
     ".octa 0x7be00000000158d48ffffff38850f72,0x1c840fc08400000000e8ff894c000000,0xe9d231ff31c93107b64001b141ffffff\n"
     ".octa 0x44c748000000001f2444c748fffffb19,0xfffffcf9e9d2310cb640000000001824\n"
     ".reloc .Ltcp28+69,R_X86_64_PC32,.Ltcp29-4\n"
-    ".reloc .Ltcp28+136,R_X86_64_PC32,.Ltcp98+20\n"
+    ".reloc .Ltcp28+136,R_X86_64_PC32,.Ltcp99+20\n"
     ".reloc .Ltcp28+157,R_X86_64_PLT32,.Ltcp4-4\n"
-    ".reloc .Ltcp28+252,R_X86_64_PC32,.Ltcp138-4\n"
+    ".reloc .Ltcp28+252,R_X86_64_PC32,.Ltcp139-4\n"
     ".reloc .Ltcp28+273,R_X86_64_PLT32,.Ltcp4-4\n"
-    ".reloc .Ltcp28+368,R_X86_64_PC32,.Ltcp137-4\n"
+    ".reloc .Ltcp28+368,R_X86_64_PC32,.Ltcp138-4\n"
     ".reloc .Ltcp28+387,R_X86_64_PLT32,.Ltcp4-4\n"
-    ".reloc .Ltcp28+460,R_X86_64_PC32,.Ltcp139-4\n"
+    ".reloc .Ltcp28+460,R_X86_64_PC32,.Ltcp140-4\n"
     ".reloc .Ltcp28+476,R_X86_64_PLT32,.Ltcp4-4\n"
-    ".reloc .Ltcp28+573,R_X86_64_PC32,.Ltcp140-4\n"
+    ".reloc .Ltcp28+573,R_X86_64_PC32,.Ltcp141-4\n"
     ".reloc .Ltcp28+594,R_X86_64_PLT32,.Ltcp4-4\n"
-    ".reloc .Ltcp28+668,R_X86_64_PC32,.Ltcp147-4\n"
+    ".reloc .Ltcp28+668,R_X86_64_PC32,.Ltcp148-4\n"
     ".reloc .Ltcp28+684,R_X86_64_PLT32,.Ltcp4-4\n"
-    ".reloc .Ltcp28+754,R_X86_64_PC32,.Ltcp98+24\n"
+    ".reloc .Ltcp28+754,R_X86_64_PC32,.Ltcp99+24\n"
     ".reloc .Ltcp28+770,R_X86_64_PLT32,.Ltcp4-4\n"
-    ".reloc .Ltcp28+832,R_X86_64_PC32,.Ltcp141-4\n"
+    ".reloc .Ltcp28+832,R_X86_64_PC32,.Ltcp142-4\n"
     ".reloc .Ltcp28+853,R_X86_64_PLT32,.Ltcp4-4\n"
-    ".reloc .Ltcp28+920,R_X86_64_PC32,.Ltcp143-4\n"
+    ".reloc .Ltcp28+920,R_X86_64_PC32,.Ltcp144-4\n"
     ".reloc .Ltcp28+936,R_X86_64_PLT32,.Ltcp4-4\n"
-    ".reloc .Ltcp28+1086,R_X86_64_PC32,.Ltcp146-4\n"
+    ".reloc .Ltcp28+1086,R_X86_64_PC32,.Ltcp147-4\n"
     ".reloc .Ltcp28+1102,R_X86_64_PLT32,.Ltcp4-4\n"
     ".reloc .Ltcp28+1187,R_X86_64_PLT32,.Ltcp2-4\n"
     ".reloc .Ltcp28+1439,R_X86_64_PLT32,.Ltcp2-4\n"
     ".reloc .Ltcp28+1648,R_X86_64_PC32,.Ltcp29+12\n"
     ".reloc .Ltcp28+1762,R_X86_64_PLT32,.Ltcp2-4\n"
     ".reloc .Ltcp28+2287,R_X86_64_PLT32,.Ltcp2-4\n"
-    ".reloc .Ltcp28+2372,R_X86_64_PC32,.Ltcp118+20\n"
+    ".reloc .Ltcp28+2372,R_X86_64_PC32,.Ltcp119+20\n"
     ".reloc .Ltcp28+2385,R_X86_64_PLT32,.Ltcp4-4\n"
     ".reloc .Ltcp28+2542,R_X86_64_PLT32,.Ltcp7-4\n"
-    ".reloc .Ltcp28+2835,R_X86_64_PC32,.Ltcp148-4\n"
+    ".reloc .Ltcp28+2835,R_X86_64_PC32,.Ltcp149-4\n"
     ".reloc .Ltcp28+2848,R_X86_64_PLT32,.Ltcp4-4\n"
-    ".reloc .Ltcp28+2890,R_X86_64_PC32,.Ltcp149-4\n"
+    ".reloc .Ltcp28+2890,R_X86_64_PC32,.Ltcp150-4\n"
     ".reloc .Ltcp28+2903,R_X86_64_PLT32,.Ltcp4-4\n"
     ".section .rodata.tcp.29,\"a\",%progbits\n"
     ".balign 4\n"
@@ -6033,72 +6058,73 @@ __asm__(
     ".balign 16\n"
     ".Ltcp33:\n"
     ".type \"tcp_replay::party::Party::new_in::<#244039bd4e0652a3>\",%function\n"
-    ".size \"tcp_replay::party::Party::new_in::<#244039bd4e0652a3>\",2828\n"
+    ".size \"tcp_replay::party::Party::new_in::<#244039bd4e0652a3>\",2859\n"
     "\"tcp_replay::party::Party::new_in::<#244039bd4e0652a3>\":\n"
-    ".octa 0x298ec814853544155415641574155,0x8948028b486824448908428bfb894800,0x428b4c0c72b70f440c4a100ff3602444\n"
-    ".octa 0xf214ab60f442062b60f4418428b4810,0xbc89227a8b0000009c24bc8966267ab7,0x2484290fc0570f28528b480000009824\n"
-    ".octa 0xc7660000000001602484c76600000150,0x84c76600000000482444c700004c2444,0xb02484c7480000000000b824\n"
-    ".octa 0xa02484c748000001902484290f000000,0xf000002802484290f00000000000001,0xf000002602484290f00000270248429\n"
-    ".octa 0xf000002402484290f00000250248429,0xf000002202484290f00000230248429,0x1402484c76600000130248429\n"
-    ".octa 0x442444c76600000000402444c700,0xa02484c7480000000000a82484c766,0xc748000001702484290f000000000000\n"
-    ".octa 0x2102484290f00000000000001802484,0x1e02484290f000001d02484290f0000,0x2002484290f000001f02484290f0000\n"
-    ".octa 0x1c02484290f000001b02484290f0000,0x84c76600000000000000902484c70000,0x2444c766202444290f00000000009424\n"
-    ".octa 0xbdfb0949ff588d4cff788d49000030,0x1a824b48948000ffffffb8149000000,0x8101b540feb70f41c0c683414c770000\n"
-    ".octa 0x41c3950f4101fc8041397700000574ff,0xff804002b540df0844c7920f400ff980,0x3c8d4abfffffffffffffffbb491d7501\n"
-    ".octa 0x61c830fdf394c03b540c3ff491a,0x262444c748000000002e2444c7d23145,0x2444c76600000000082444c700000000\n"
+    ".octa 0x298ec814853544155415641574155,0x8b486024448908428bfb8948f7894900,0x4c0c72b70f0c4a100ff3582444894802\n"
+    ".octa 0x72b60f44204ab60f4418428b4810428b,0x227a8b0000009c24bc8966267ab70f21,0x290fc0570f28528b4c0000009824bc89\n"
+    ".octa 0x1602484c766000001502484,0x6600000000402444c70000442444c766,0xb02484c7480000000000b82484c7\n"
+    ".octa 0x84c748000001902484290f0000000000,0x2802484290f00000000000001a024,0x2602484290f000002702484290f00\n"
+    ".octa 0x2402484290f000002502484290f00,0x2202484290f000002302484290f00,0x1402484c766000001302484290f00\n"
+    ".octa 0x3c2444c76600000000382444c7000000,0x2484c7480000000000a82484c7660000,0x1702484290f00000000000000a0\n"
+    ".octa 0x2484290f00000000000001802484c748,0x2484290f000001d02484290f00000210,0x2484290f000001f02484290f000001e0\n"
+    ".octa 0x2484290f000001b02484290f00000200,0x6600000000000000902484c7000001c0,0xc766202444290f0000000000942484c7\n"
+    ".octa 0xfb0949ff588d4cff788d490000302444,0x24bc894c000ffffffb814900000000bd,0x8101b540f6b70fc0c6834a77000001a8\n"
+    ".octa 0x41c6950f4001f98041397700000574fe,0xff804002b540f70840c7920f400ffe80,0x3c8d49bfffffffffffffffbe481d7501\n"
+    ".octa 0x639830ff7394803b540c6ff4832,0x262444c748000000002e2444c7e43145,0x2444c76600000000082444c700000000\n"
     ".octa 0x2444c76600000000102444c74800000c,0x802484c748702444290f000018,0x2484290f000001202484290f00000000\n"
     ".octa 0x2484290f000000f02484290f000000e0,0x2484290f000001102484290f00000100,0xbb41000000d02484290f000000c0\n"
-    ".octa 0x44c74800000000b800000000b8410000,0x3145f63145e43145d231000000005824,0x502444c748ed3145c931f631ff\n"
-    ".octa 0x13624bc894826247c8b48c9314500,0x8247c8b0000013e24bc892e247c8b00,0x8b4844247c89660c247cb70f40247c89\n"
-    ".octa 0x18247cb70f000000a024bc894810247c,0x8c290f70244c280f000000a824bc8966,0xbc89480000008024bc8b480000017024\n"
-    ".octa 0x8c290f00000120248c280f0000018024,0x94280f000000e0248c280f0000021024,0xa4280f00000100249c280f000000f024\n"
-    ".octa 0x94290f000001d0248c290f0000011024,0xa4290f000001f0249c290f000001e024,0x94280f000000c0248c280f0000020024\n"
-    ".octa 0x94290f000001b0248c290f000000d024,0x44c76620244c290fc9570f000001c024,0x2444c76600000000102444c700003024\n"
-    ".octa 0x2444c76600000000602444c748000014,0x802484c74870244c290f000068,0x248c290f00000120248c290f00000000\n"
-    ".octa 0x248c290f000000f0248c290f000000e0,0x248c290f00000110248c290f00000100,0xfdb8445000000d0248c290f000000c0\n"
-    ".octa 0x86f8b0000013624bc8d48000000d784,0x40247c8b26247c89483f8b482e246c89,0x8b4814247c896644247cb70f10247c89\n"
-    ".octa 0xa824bcb70f60247c8948000000a024bc,0x170248c280f68247c8966000000,0xbc89480000018024bc8b4870244c290f\n"
-    ".octa 0x8c290f00000210248c280f0000008024,0x94280f000001d0248c280f0000012024,0xa4280f000001f0249c280f000001e024\n"
-    ".octa 0x9c290f0000011024a4290f0000020024,0x8c290f000000f02494290f0000010024,0x94280f000001b0248c280f000000e024\n"
-    ".octa 0x8c290f000000d02494290f000001c024,0x31c031452febc8280fed31000000c024,0x45e43145d23100000000582444c748c0\n"
-    ".octa 0x2444c748ed3145c931f631ff3145f631,0x892e247c8bc93145d231450000000050,0x5624bc894826247c8b480000015e24bc\n"
-    ".octa 0x14247cb70f48247c8910247c8b000001,0xb024bc894860247c8b484c247c8966,0xf000000b824bc896668247cb70f0000\n"
-    ".octa 0x24bc8b48000001902484290f70244428,0x2484280f000001a024bc894800000080,0x2484280f000002802484290f00000120\n"
-    ".octa 0x249c280f000000f02494280f000000e0,0x24a4290f0000011024a4280f00000100,0x2494290f00000260249c290f00000270\n"
-    ".octa 0x2484280f000002402484290f00000250,0x2484290f000000d02494280f000000c0,0x87b8d48000002302494290f00000220\n"
-    ".octa 0x8d4c000003c766000001f2840fdb8445,0x1b8b4d086f89086b8b4100000156249c,0x204389481843894c144b110ff31f894c\n"
-    ".octa 0x48247c8b295388287b884058247c8b48,0x3063894c2e7b89664c247cb70f2a7b89,0x2494b70f38538948000000b024948b48\n"
-    ".octa 0x4443c7427389446640538966000000b8,0x4843110f000001902484280f00000000,0x607b894c58538948000001a024948b48\n"
-    ".octa 0x7043110f000002802484280f6843894c,0x894c000000888b894800000080b38948,0x9883c74800000090ab\n"
-    ".octa 0x280f000000a8b38948000000a08b8948,0x280f00000250248c280f000002402484,0x110f00000270249c280f000002602494\n"
-    ".octa 0xc08b110f000000d093110f000000e09b,0x485024548b48000000b083110f000000,0xf883c748000000f09389\n"
-    ".octa 0x4400000108b389480000010083894800,0x11483c7000001109389,0x1208b8948000000000000011883c748\n"
-    ".octa 0x13083c748000001288b894c0000,0x140b38948000001388b894800000000,0x230248c280f000002202484280f0000\n"
-    ".octa 0x1588b110f0000014883110f0000,0x83110fc0570f00000168838948e08948,0x808b8948000001a8248c8b4800000170\n"
-    ".octa 0x19083110f00000188838948000001,0xf000001a8838948000001a08b894800,0x84b70f000001c08b8948000001b08311\n"
-    ".octa 0x9024848b000001ce8389660000009424,0x88400103c626eb000001ca8389000000,0xce83c76600000000000001ca83c7016b\n"
-    ".quad 0x1c0ba0000000001\n"
-    ".long 0xf6310000\n"
+    ".octa 0x2444c748d231c03100000000b8410000,0x502444c748f63145d231450000000068,0x482444c748c931c93145f63100000000\n"
+    ".octa 0x4826247c8b48ed3145ff314500000000,0x13e24bc892e247c8b0000013624bc89,0x660c247cb70f38247c8908247c8b0000\n"
+    ".octa 0xa024bc894810247c8b483c247c89,0x280f000000a824bc896618247cb70f00,0x8024bc8b4800000170248c290f70244c\n"
+    ".octa 0x20248c280f0000018024bc8948000000,0xe0248c280f00000210248c290f000001,0x249c280f000000f02494280f000000\n"
+    ".octa 0xd0248c290f0000011024a4280f000001,0xf0249c290f000001e02494290f000001,0xc0248c280f0000020024a4290f000001\n"
+    ".octa 0xb0248c290f000000d02494280f000000,0x290fc9570f000001c02494290f000001,0x102444c70000302444c76620244c\n"
+    ".octa 0x582444c7480000142444c7660000,0xc74870244c290f0000602444c7660000,0x120248c290f00000000000000802484\n"
+    ".octa 0xf0248c290f000000e0248c290f0000,0x110248c290f00000100248c290f0000,0xd0248c290f000000c0248c290f0000\n"
+    ".octa 0x3624bc8d48000000d7840fdb84450000,0x7c89483f8b482e246c89086f8b000001,0x663c247cb70f10247c8938247c8b2624\n"
+    ".octa 0x247c8948000000a024bc8b4814247c89,0x280f60247c8966000000a824bcb70f58,0x8024bc8b4870244c290f00000170248c\n"
+    ".octa 0x10248c280f0000008024bc8948000001,0xd0248c280f00000120248c290f000002,0xf0249c280f000001e02494280f000001\n"
+    ".octa 0x1024a4290f0000020024a4280f000001,0xf02494290f00000100249c290f000001,0xb0248c280f000000e0248c290f000000\n"
+    ".octa 0xd02494290f000001c02494280f000001,0xc8280fed31000000c0248c290f000000,0x682444c748d231c031c0314538eb\n"
+    ".octa 0x502444c748f63145d231450000,0x482444c748c931c93145e43145f63100,0xbc892e247c8bed3145ff314500000000\n"
+    ".octa 0x15624bc894826247c8b480000015e24,0x6614247cb70f40247c8910247c8b0000,0xb024bc894858247c8b4844247c89\n"
+    ".octa 0x280f000000b824bc896660247cb70f00,0x8024bc8b48000001902484290f702444,0x202484280f000001a024bc8948000000\n"
+    ".octa 0xe02484280f000002802484290f000001,0x249c280f000000f02494280f000000,0x7024a4290f0000011024a4280f000001\n"
+    ".octa 0x502494290f00000260249c290f000002,0xc02484280f000002402484290f000002,0x202484290f000000d02494280f000000\n"
+    ".octa 0x45087b8d48000002302494290f000002,0x9c8d4c000003c76600000200840fdb84,0x4c1b8b4d086f89086b8b410000015624\n"
+    ".octa 0x88204389481843894c144b110ff31f89,0x7b8940247c8b2953886824548b482853,0x8b483053894c2e7b896644247cb70f2a\n"
+    ".octa 0xb82494b70f38538948000000b02494,0x4443c74273894466405389660000,0x8b484843110f000001902484280f0000\n"
+    ".octa 0x485024548b4858538948000001a02494,0xf000002802484280f6843894c605389,0x88a3894400000080b38948704311\n"
+    ".octa 0x908b894c000000000000008c83c700,0x8b8948000000000000009883c7480000,0x402484280f000000a8b38948000000a0\n"
+    ".octa 0x602494280f00000250248c280f000002,0xe09b110f00000270249c280f000002,0xc08b110f000000d093110f0000\n"
+    ".octa 0xf09389484824548b48000000b083110f,0x894800000000000000f883c748000000,0x10bb894400000108b389480000010083\n"
+    ".octa 0x83c748000000000000011483c7000001,0x4c000001208b89480000000000000118,0x13083c74800000128ab89\n"
+    ".octa 0xf00000140b38948000001388b894800,0xf00000230248c280f00000220248428,0xe08948000001588b110f000001488311\n"
+    ".octa 0x17083110fc0570f00000168838948,0x1808b8948000001a8248c8b4800,0x89480000019083110f00000188838948\n"
+    ".octa 0xb083110f000001a8838948000001a08b,0x942484b70f000001c08b8948000001,0x9024848b000001ce8389660000\n"
+    ".octa 0xc7016b88400103c626eb000001ca8389,0x1ce83c76600000000000001ca83\n"
+    ".quad 0x31000001c0ba0000\n"
+    ".byte 0xf6\n"
     "call memset\n"
-    ".octa 0x298c481480000000001c883c766,0xffffb88d49c35d5f415e415d415c415b,0x8b4c3eb60f3472fff00000ff8148ffef\n"
-    ".octa 0x1046c74806110f10768b4c087e,0xbf830fc6394d187501ff804000,0xc71076894c087e894c0000000106c748\n"
-    ".octa 0x262444c748000000002e2444,0x4800000c2444c76600000000082444c7,0xf0000182444c76600000000102444c7\n"
-    ".octa 0x802484c74870244429,0xe02484290f000001202484290f,0x1002484290f000000f02484290f\n"
-    ".octa 0xc02484290f000001102484290f,0x314504b540db3145000000d02484290f,0x3145d23100000000582444c748c031c0\n"
-    ".octa 0xc748ed3145c931f631ff3145f63145e4,0x44fffff9a1e9d2314500000000502444,0xfc0f64110c78348001ffff0e781c789\n"
-    ".octa 0x106c748fe29493f2c8d4df8440f49,0x483574c985481076894c086e894c0000,0xcd3c8d48ffffff13850f3cefc148cf89\n"
-    ".octa 0x49000000001046c74806110f00000000,0xe9086e894c0000000106c7481d73fe39,0xebe58949ea894d582464894cfffffee7\n"
-    ".octa 0xc38349f0e38349fb8949582464894c2d,0x48de294d2b148d4fdf440f4c01c1f610,0x8d481076894c0856894c0000000106c7\n"
-    ".octa 0xfe9d820ffff00000ff8148ffefffffb8,0xc63949000000001046c74806110fffff,0xfe79e90856894c0000000106c7481073\n"
-    ".octa 0xfa810c78348001ffff0e781c789ffff,0x106c748fe29493a2c8d49f8440f48,0x482874c985481076894c086e89480000\n"
-    ".octa 0x1046c74806110f00000000cd3c8d,0x89480000000106c7482073fe39490000,0x54894cca894cd48949fffffe24e9086e\n"
-    ".octa 0x54894cca894cd4894936ebe189495024,0x1c1f610c38349f0e38349fb89495024,0xc748de294d2b3c8d49e98949df440f4c\n"
-    ".octa 0xf789481076894c087e89480000000106,0x7489486024748b482e2474896824748b,0xb4b70f082474890000009824b48b2624\n"
-    ".octa 0x102444c7480c247489660000009c24,0x48702444290f0000182444c766000000,0x202484290f00000000000000802484c7\n"
-    ".octa 0xf02484290f000000e02484290f000001,0x102484290f000001002484290f000000,0xc02484290f000000d02484290f000001\n"
-    ".octa 0xfe8948ed3101b3410218be4166000000\n"
-    ".quad 0x98e9c1280fc28941\n"
-    ".short 0xfff7\n"
+    ".octa 0x298c481480000000001c883c766,0x682474894cc35d5f415e415d415c415b,0x3672fff00000fe8148ffefffffb08d49\n"
+    ".octa 0x7110f4110778b49086f8b4d3fb60f41,0x394c187501ff8040000000001047c749,0x894d0000000107c749000000b7830fc6\n"
+    ".octa 0xc748000000002e2444c710778949086f,0x6600000000082444c700000000262444,0x6600000000102444c74800000c2444c7\n"
+    ".octa 0x802484c748702444290f0000182444c7,0xf000001202484290f00000000000000,0xf000000f02484290f000000e0248429\n"
+    ".octa 0xf000001102484290f00000100248429,0x45000000d02484290f000000c0248429,0x2444c748d231c031c0314504b540db31\n"
+    ".octa 0x502444c748f63145d231450000000068,0x8944fffff97ae9e43145f63100000000,0x490fc0f64110c78348001ffff0e781c7\n"
+    ".octa 0x107c749fe29482f348d4ef8440f,0x89483674c98548107789490877894d00,0xcd3c8d48ffffff1b850f3cefc148cf\n"
+    ".octa 0x48000000001047c74907110f41000000,0xe90877894d0000000107c7491873fe39,0x49fb894928ebe68949f2894cfffffeee\n"
+    ".octa 0x8d4bdf440f4c01c1f610c38349f0e383,0x85789490000000107c749de294c1e14,0xff8148ffefffffb88d4810778949\n"
+    ".octa 0x1047c74907110f41fffffeae820ffff0,0x107c7491073c6394800000000,0x1ffff0e781c789fffffe89e908578949\n"
+    ".octa 0x483a2c8d48f8440f480fa810c7834800,0x778949086f89490000000107c749fe29,0xf4100000000cd3c8d482974c9854810\n"
+    ".octa 0x492573fe3948000000001047c7490711,0x48fffffe33e9086f89490000000107c7,0x4950246c894cf1894dca894c48245489\n"
+    ".octa 0x4cf1894dca894c48245489483bebe589,0xf610c38349f0e38349fb894950246c89,0xde294c2b3c8d49ed8949df440f4c01c1\n"
+    ".octa 0x8b10778949087f89490000000107c749,0x247489485824748b482e247489602474,0x24b4b70f082474890000009824b48b26\n"
+    ".octa 0x102444c7480c247489660000009c,0xc748702444290f0000182444c7660000,0x1202484290f00000000000000802484\n"
+    ".octa 0xf02484290f000000e02484290f0000,0x1102484290f000001002484290f0000,0xc02484290f000000d02484290f0000\n"
+    ".octa 0x41fe894ced3101b3410218be41660000\n"
+    ".quad 0xc1280fc78941cc89\n"
+    ".long 0xfff77fe9\n"
     ".byte 0xff\n"
     ".section .text.tcp.34,\"ax\",%progbits\n"
     ".balign 16\n"
@@ -6333,111 +6359,111 @@ __asm__(
     ".long 0xb1eb1060\n"
     ".reloc .Ltcp34+292,R_X86_64_PLT32,.Ltcp36-4\n"
     ".reloc .Ltcp34+348,R_X86_64_PC32,.Ltcp35+128\n"
-    ".reloc .Ltcp34+817,R_X86_64_PC32,.Ltcp118+44\n"
-    ".reloc .Ltcp34+857,R_X86_64_PC32,.Ltcp103-4\n"
-    ".reloc .Ltcp34+979,R_X86_64_PLT32,.Ltcp79-4\n"
-    ".reloc .Ltcp34+1124,R_X86_64_PLT32,.Ltcp85-4\n"
+    ".reloc .Ltcp34+817,R_X86_64_PC32,.Ltcp119+44\n"
+    ".reloc .Ltcp34+857,R_X86_64_PC32,.Ltcp104-4\n"
+    ".reloc .Ltcp34+979,R_X86_64_PLT32,.Ltcp80-4\n"
+    ".reloc .Ltcp34+1124,R_X86_64_PLT32,.Ltcp86-4\n"
     ".reloc .Ltcp34+1240,R_X86_64_PLT32,.Ltcp36-4\n"
-    ".reloc .Ltcp34+1357,R_X86_64_PLT32,.Ltcp73-4\n"
-    ".reloc .Ltcp34+1372,R_X86_64_PLT32,.Ltcp74-4\n"
-    ".reloc .Ltcp34+1468,R_X86_64_PLT32,.Ltcp83-4\n"
-    ".reloc .Ltcp34+1648,R_X86_64_PLT32,.Ltcp74-4\n"
-    ".reloc .Ltcp34+1757,R_X86_64_PC32,.Ltcp152-4\n"
+    ".reloc .Ltcp34+1357,R_X86_64_PLT32,.Ltcp74-4\n"
+    ".reloc .Ltcp34+1372,R_X86_64_PLT32,.Ltcp75-4\n"
+    ".reloc .Ltcp34+1468,R_X86_64_PLT32,.Ltcp84-4\n"
+    ".reloc .Ltcp34+1648,R_X86_64_PLT32,.Ltcp75-4\n"
+    ".reloc .Ltcp34+1757,R_X86_64_PC32,.Ltcp153-4\n"
     ".reloc .Ltcp34+1969,R_X86_64_PC32,.Ltcp35-4\n"
-    ".reloc .Ltcp34+2024,R_X86_64_PC32,.Ltcp171-4\n"
-    ".reloc .Ltcp34+2076,R_X86_64_PLT32,.Ltcp86-4\n"
-    ".reloc .Ltcp34+2096,R_X86_64_PC32,.Ltcp118+44\n"
-    ".reloc .Ltcp34+2111,R_X86_64_PLT32,.Ltcp77-4\n"
-    ".reloc .Ltcp34+2139,R_X86_64_PLT32,.Ltcp84-4\n"
-    ".reloc .Ltcp34+2192,R_X86_64_PLT32,.Ltcp79-4\n"
-    ".reloc .Ltcp34+2247,R_X86_64_PC32,.Ltcp170-4\n"
-    ".reloc .Ltcp34+2290,R_X86_64_PC32,.Ltcp100-4\n"
-    ".reloc .Ltcp34+2326,R_X86_64_PLT32,.Ltcp87-4\n"
-    ".reloc .Ltcp34+2379,R_X86_64_PLT32,.Ltcp73-4\n"
-    ".reloc .Ltcp34+2472,R_X86_64_PLT32,.Ltcp82-4\n"
-    ".reloc .Ltcp34+2517,R_X86_64_PC32,.Ltcp101-4\n"
-    ".reloc .Ltcp34+2599,R_X86_64_PC32,.Ltcp154-4\n"
-    ".reloc .Ltcp34+2657,R_X86_64_PC32,.Ltcp156-4\n"
-    ".reloc .Ltcp34+2664,R_X86_64_PC32,.Ltcp157-4\n"
-    ".reloc .Ltcp34+2791,R_X86_64_PLT32,.Ltcp83-4\n"
+    ".reloc .Ltcp34+2024,R_X86_64_PC32,.Ltcp172-4\n"
+    ".reloc .Ltcp34+2076,R_X86_64_PLT32,.Ltcp87-4\n"
+    ".reloc .Ltcp34+2096,R_X86_64_PC32,.Ltcp119+44\n"
+    ".reloc .Ltcp34+2111,R_X86_64_PLT32,.Ltcp78-4\n"
+    ".reloc .Ltcp34+2139,R_X86_64_PLT32,.Ltcp85-4\n"
+    ".reloc .Ltcp34+2192,R_X86_64_PLT32,.Ltcp80-4\n"
+    ".reloc .Ltcp34+2247,R_X86_64_PC32,.Ltcp171-4\n"
+    ".reloc .Ltcp34+2290,R_X86_64_PC32,.Ltcp101-4\n"
+    ".reloc .Ltcp34+2326,R_X86_64_PLT32,.Ltcp88-4\n"
+    ".reloc .Ltcp34+2379,R_X86_64_PLT32,.Ltcp74-4\n"
+    ".reloc .Ltcp34+2472,R_X86_64_PLT32,.Ltcp83-4\n"
+    ".reloc .Ltcp34+2517,R_X86_64_PC32,.Ltcp102-4\n"
+    ".reloc .Ltcp34+2599,R_X86_64_PC32,.Ltcp155-4\n"
+    ".reloc .Ltcp34+2657,R_X86_64_PC32,.Ltcp157-4\n"
+    ".reloc .Ltcp34+2664,R_X86_64_PC32,.Ltcp158-4\n"
+    ".reloc .Ltcp34+2791,R_X86_64_PLT32,.Ltcp84-4\n"
     ".reloc .Ltcp34+2810,R_X86_64_PC32,.Ltcp35+20\n"
-    ".reloc .Ltcp34+2837,R_X86_64_PLT32,.Ltcp82-4\n"
-    ".reloc .Ltcp34+2877,R_X86_64_PLT32,.Ltcp84-4\n"
-    ".reloc .Ltcp34+2905,R_X86_64_PC32,.Ltcp103-4\n"
-    ".reloc .Ltcp34+2920,R_X86_64_PLT32,.Ltcp77-4\n"
-    ".reloc .Ltcp34+2988,R_X86_64_PLT32,.Ltcp84-4\n"
-    ".reloc .Ltcp34+3116,R_X86_64_PC32,.Ltcp151-4\n"
-    ".reloc .Ltcp34+3158,R_X86_64_PC32,.Ltcp152-4\n"
-    ".reloc .Ltcp34+3181,R_X86_64_PLT32,.Ltcp76-4\n"
-    ".reloc .Ltcp34+3199,R_X86_64_PLT32,.Ltcp84-4\n"
-    ".reloc .Ltcp34+3251,R_X86_64_PC32,.Ltcp159-4\n"
-    ".reloc .Ltcp34+3324,R_X86_64_PC32,.Ltcp160-4\n"
-    ".reloc .Ltcp34+3463,R_X86_64_PC32,.Ltcp186-4\n"
-    ".reloc .Ltcp34+3474,R_X86_64_PC32,.Ltcp187-4\n"
-    ".reloc .Ltcp34+3658,R_X86_64_PLT32,.Ltcp84-4\n"
-    ".reloc .Ltcp34+3709,R_X86_64_PC32,.Ltcp155-4\n"
-    ".reloc .Ltcp34+3764,R_X86_64_PC32,.Ltcp153-4\n"
-    ".reloc .Ltcp34+3894,R_X86_64_PC32,.Ltcp186-4\n"
-    ".reloc .Ltcp34+3905,R_X86_64_PC32,.Ltcp187-4\n"
-    ".reloc .Ltcp34+4386,R_X86_64_PLT32,.Ltcp84-4\n"
+    ".reloc .Ltcp34+2837,R_X86_64_PLT32,.Ltcp83-4\n"
+    ".reloc .Ltcp34+2877,R_X86_64_PLT32,.Ltcp85-4\n"
+    ".reloc .Ltcp34+2905,R_X86_64_PC32,.Ltcp104-4\n"
+    ".reloc .Ltcp34+2920,R_X86_64_PLT32,.Ltcp78-4\n"
+    ".reloc .Ltcp34+2988,R_X86_64_PLT32,.Ltcp85-4\n"
+    ".reloc .Ltcp34+3116,R_X86_64_PC32,.Ltcp152-4\n"
+    ".reloc .Ltcp34+3158,R_X86_64_PC32,.Ltcp153-4\n"
+    ".reloc .Ltcp34+3181,R_X86_64_PLT32,.Ltcp77-4\n"
+    ".reloc .Ltcp34+3199,R_X86_64_PLT32,.Ltcp85-4\n"
+    ".reloc .Ltcp34+3251,R_X86_64_PC32,.Ltcp160-4\n"
+    ".reloc .Ltcp34+3324,R_X86_64_PC32,.Ltcp161-4\n"
+    ".reloc .Ltcp34+3463,R_X86_64_PC32,.Ltcp187-4\n"
+    ".reloc .Ltcp34+3474,R_X86_64_PC32,.Ltcp188-4\n"
+    ".reloc .Ltcp34+3658,R_X86_64_PLT32,.Ltcp85-4\n"
+    ".reloc .Ltcp34+3709,R_X86_64_PC32,.Ltcp156-4\n"
+    ".reloc .Ltcp34+3764,R_X86_64_PC32,.Ltcp154-4\n"
+    ".reloc .Ltcp34+3894,R_X86_64_PC32,.Ltcp187-4\n"
+    ".reloc .Ltcp34+3905,R_X86_64_PC32,.Ltcp188-4\n"
+    ".reloc .Ltcp34+4386,R_X86_64_PLT32,.Ltcp85-4\n"
     ".reloc .Ltcp34+4442,R_X86_64_PLT32,.Ltcp23-4\n"
-    ".reloc .Ltcp34+4464,R_X86_64_PLT32,.Ltcp84-4\n"
-    ".reloc .Ltcp34+4514,R_X86_64_PLT32,.Ltcp84-4\n"
-    ".reloc .Ltcp34+4563,R_X86_64_PLT32,.Ltcp84-4\n"
-    ".reloc .Ltcp34+4623,R_X86_64_PLT32,.Ltcp84-4\n"
-    ".reloc .Ltcp34+4671,R_X86_64_PLT32,.Ltcp84-4\n"
-    ".reloc .Ltcp34+4723,R_X86_64_PLT32,.Ltcp84-4\n"
+    ".reloc .Ltcp34+4464,R_X86_64_PLT32,.Ltcp85-4\n"
+    ".reloc .Ltcp34+4514,R_X86_64_PLT32,.Ltcp85-4\n"
+    ".reloc .Ltcp34+4563,R_X86_64_PLT32,.Ltcp85-4\n"
+    ".reloc .Ltcp34+4623,R_X86_64_PLT32,.Ltcp85-4\n"
+    ".reloc .Ltcp34+4671,R_X86_64_PLT32,.Ltcp85-4\n"
+    ".reloc .Ltcp34+4723,R_X86_64_PLT32,.Ltcp85-4\n"
     ".reloc .Ltcp34+4781,R_X86_64_PLT32,.Ltcp8-4\n"
-    ".reloc .Ltcp34+4801,R_X86_64_PLT32,.Ltcp84-4\n"
-    ".reloc .Ltcp34+4851,R_X86_64_PLT32,.Ltcp84-4\n"
-    ".reloc .Ltcp34+4901,R_X86_64_PLT32,.Ltcp84-4\n"
-    ".reloc .Ltcp34+5486,R_X86_64_PLT32,.Ltcp84-4\n"
-    ".reloc .Ltcp34+5535,R_X86_64_PLT32,.Ltcp84-4\n"
-    ".reloc .Ltcp34+5590,R_X86_64_PLT32,.Ltcp84-4\n"
-    ".reloc .Ltcp34+5868,R_X86_64_PC32,.Ltcp158-4\n"
+    ".reloc .Ltcp34+4801,R_X86_64_PLT32,.Ltcp85-4\n"
+    ".reloc .Ltcp34+4851,R_X86_64_PLT32,.Ltcp85-4\n"
+    ".reloc .Ltcp34+4901,R_X86_64_PLT32,.Ltcp85-4\n"
+    ".reloc .Ltcp34+5486,R_X86_64_PLT32,.Ltcp85-4\n"
+    ".reloc .Ltcp34+5535,R_X86_64_PLT32,.Ltcp85-4\n"
+    ".reloc .Ltcp34+5590,R_X86_64_PLT32,.Ltcp85-4\n"
+    ".reloc .Ltcp34+5868,R_X86_64_PC32,.Ltcp159-4\n"
     ".reloc .Ltcp34+5956,R_X86_64_PC32,.Ltcp35+36\n"
-    ".reloc .Ltcp34+5972,R_X86_64_PC32,.Ltcp107-4\n"
-    ".reloc .Ltcp34+6002,R_X86_64_PC32,.Ltcp109-4\n"
-    ".reloc .Ltcp34+6014,R_X86_64_PC32,.Ltcp106-4\n"
-    ".reloc .Ltcp34+6248,R_X86_64_PC32,.Ltcp111-4\n"
-    ".reloc .Ltcp34+6273,R_X86_64_PC32,.Ltcp112-4\n"
-    ".reloc .Ltcp34+6307,R_X86_64_PC32,.Ltcp113-4\n"
-    ".reloc .Ltcp34+6342,R_X86_64_PC32,.Ltcp105-4\n"
-    ".reloc .Ltcp34+6377,R_X86_64_PC32,.Ltcp114-4\n"
-    ".reloc .Ltcp34+6412,R_X86_64_PC32,.Ltcp115-4\n"
-    ".reloc .Ltcp34+6447,R_X86_64_PC32,.Ltcp107-4\n"
-    ".reloc .Ltcp34+6482,R_X86_64_PC32,.Ltcp116-4\n"
-    ".reloc .Ltcp34+6992,R_X86_64_PLT32,.Ltcp77-4\n"
-    ".reloc .Ltcp34+7165,R_X86_64_PLT32,.Ltcp84-4\n"
-    ".reloc .Ltcp34+7206,R_X86_64_PC32,.Ltcp117-4\n"
-    ".reloc .Ltcp34+7224,R_X86_64_PLT32,.Ltcp77-4\n"
-    ".reloc .Ltcp34+7255,R_X86_64_PLT32,.Ltcp84-4\n"
-    ".reloc .Ltcp34+7291,R_X86_64_PC32,.Ltcp105-4\n"
-    ".reloc .Ltcp34+7305,R_X86_64_PC32,.Ltcp108-4\n"
-    ".reloc .Ltcp34+7314,R_X86_64_PC32,.Ltcp110-4\n"
-    ".reloc .Ltcp34+7602,R_X86_64_PC32,.Ltcp104-4\n"
-    ".reloc .Ltcp34+7711,R_X86_64_PC32,.Ltcp104-4\n"
-    ".reloc .Ltcp34+7748,R_X86_64_PC32,.Ltcp104-4\n"
-    ".reloc .Ltcp34+7871,R_X86_64_PC32,.Ltcp104-4\n"
-    ".reloc .Ltcp34+7991,R_X86_64_PC32,.Ltcp104-4\n"
-    ".reloc .Ltcp34+8123,R_X86_64_PC32,.Ltcp104-4\n"
-    ".reloc .Ltcp34+8160,R_X86_64_PC32,.Ltcp104-4\n"
-    ".reloc .Ltcp34+8216,R_X86_64_PC32,.Ltcp104-4\n"
-    ".reloc .Ltcp34+8346,R_X86_64_PC32,.Ltcp104-4\n"
-    ".reloc .Ltcp34+8436,R_X86_64_PC32,.Ltcp104-4\n"
-    ".reloc .Ltcp34+8473,R_X86_64_PC32,.Ltcp104-4\n"
-    ".reloc .Ltcp34+8784,R_X86_64_PC32,.Ltcp104-4\n"
-    ".reloc .Ltcp34+8848,R_X86_64_PLT32,.Ltcp84-4\n"
-    ".reloc .Ltcp34+8995,R_X86_64_PLT32,.Ltcp84-4\n"
-    ".reloc .Ltcp34+9034,R_X86_64_PLT32,.Ltcp84-4\n"
-    ".reloc .Ltcp34+9075,R_X86_64_PC32,.Ltcp99-4\n"
-    ".reloc .Ltcp34+9093,R_X86_64_PLT32,.Ltcp77-4\n"
-    ".reloc .Ltcp34+9121,R_X86_64_PLT32,.Ltcp84-4\n"
+    ".reloc .Ltcp34+5972,R_X86_64_PC32,.Ltcp108-4\n"
+    ".reloc .Ltcp34+6002,R_X86_64_PC32,.Ltcp110-4\n"
+    ".reloc .Ltcp34+6014,R_X86_64_PC32,.Ltcp107-4\n"
+    ".reloc .Ltcp34+6248,R_X86_64_PC32,.Ltcp112-4\n"
+    ".reloc .Ltcp34+6273,R_X86_64_PC32,.Ltcp113-4\n"
+    ".reloc .Ltcp34+6307,R_X86_64_PC32,.Ltcp114-4\n"
+    ".reloc .Ltcp34+6342,R_X86_64_PC32,.Ltcp106-4\n"
+    ".reloc .Ltcp34+6377,R_X86_64_PC32,.Ltcp115-4\n"
+    ".reloc .Ltcp34+6412,R_X86_64_PC32,.Ltcp116-4\n"
+    ".reloc .Ltcp34+6447,R_X86_64_PC32,.Ltcp108-4\n"
+    ".reloc .Ltcp34+6482,R_X86_64_PC32,.Ltcp117-4\n"
+    ".reloc .Ltcp34+6992,R_X86_64_PLT32,.Ltcp78-4\n"
+    ".reloc .Ltcp34+7165,R_X86_64_PLT32,.Ltcp85-4\n"
+    ".reloc .Ltcp34+7206,R_X86_64_PC32,.Ltcp118-4\n"
+    ".reloc .Ltcp34+7224,R_X86_64_PLT32,.Ltcp78-4\n"
+    ".reloc .Ltcp34+7255,R_X86_64_PLT32,.Ltcp85-4\n"
+    ".reloc .Ltcp34+7291,R_X86_64_PC32,.Ltcp106-4\n"
+    ".reloc .Ltcp34+7305,R_X86_64_PC32,.Ltcp109-4\n"
+    ".reloc .Ltcp34+7314,R_X86_64_PC32,.Ltcp111-4\n"
+    ".reloc .Ltcp34+7602,R_X86_64_PC32,.Ltcp105-4\n"
+    ".reloc .Ltcp34+7711,R_X86_64_PC32,.Ltcp105-4\n"
+    ".reloc .Ltcp34+7748,R_X86_64_PC32,.Ltcp105-4\n"
+    ".reloc .Ltcp34+7871,R_X86_64_PC32,.Ltcp105-4\n"
+    ".reloc .Ltcp34+7991,R_X86_64_PC32,.Ltcp105-4\n"
+    ".reloc .Ltcp34+8123,R_X86_64_PC32,.Ltcp105-4\n"
+    ".reloc .Ltcp34+8160,R_X86_64_PC32,.Ltcp105-4\n"
+    ".reloc .Ltcp34+8216,R_X86_64_PC32,.Ltcp105-4\n"
+    ".reloc .Ltcp34+8346,R_X86_64_PC32,.Ltcp105-4\n"
+    ".reloc .Ltcp34+8436,R_X86_64_PC32,.Ltcp105-4\n"
+    ".reloc .Ltcp34+8473,R_X86_64_PC32,.Ltcp105-4\n"
+    ".reloc .Ltcp34+8784,R_X86_64_PC32,.Ltcp105-4\n"
+    ".reloc .Ltcp34+8848,R_X86_64_PLT32,.Ltcp85-4\n"
+    ".reloc .Ltcp34+8995,R_X86_64_PLT32,.Ltcp85-4\n"
+    ".reloc .Ltcp34+9034,R_X86_64_PLT32,.Ltcp85-4\n"
+    ".reloc .Ltcp34+9075,R_X86_64_PC32,.Ltcp100-4\n"
+    ".reloc .Ltcp34+9093,R_X86_64_PLT32,.Ltcp78-4\n"
+    ".reloc .Ltcp34+9121,R_X86_64_PLT32,.Ltcp85-4\n"
     ".reloc .Ltcp34+9404,R_X86_64_PLT32,.Ltcp9-4\n"
-    ".reloc .Ltcp34+9452,R_X86_64_PLT32,.Ltcp81-4\n"
-    ".reloc .Ltcp34+9529,R_X86_64_PLT32,.Ltcp81-4\n"
-    ".reloc .Ltcp34+9559,R_X86_64_PLT32,.Ltcp84-4\n"
-    ".reloc .Ltcp34+9637,R_X86_64_PLT32,.Ltcp84-4\n"
+    ".reloc .Ltcp34+9452,R_X86_64_PLT32,.Ltcp82-4\n"
+    ".reloc .Ltcp34+9529,R_X86_64_PLT32,.Ltcp82-4\n"
+    ".reloc .Ltcp34+9559,R_X86_64_PLT32,.Ltcp85-4\n"
+    ".reloc .Ltcp34+9637,R_X86_64_PLT32,.Ltcp85-4\n"
     ".section .rodata.tcp.35,\"a\",%progbits\n"
     ".balign 4\n"
     ".Ltcp35:\n"
@@ -6489,97 +6515,97 @@ __asm__(
     ".balign 16\n"
     ".Ltcp36:\n"
     ".type \"tcp_replay::world::step_at::<#092612425c726c7d>\",%function\n"
-    ".size \"tcp_replay::world::step_at::<#092612425c726c7d>\",5736\n"
+    ".size \"tcp_replay::world::step_at::<#092612425c726c7d>\",5936\n"
     "\"tcp_replay::world::step_at::<#092612425c726c7d>\":\n"
     ".octa 0x570f78ec834853544155415641574155,0x202444c7482404290f102444290fc0,0x634900000000158d4c01b60f41000000\n"
-    ".octa 0xe8850fc0843141b60fe0ffd0014c8204,0x2de850f01b6400030798001b2000002,0x5189023041c60470b70f41108b410000\n"
-    ".octa 0x41c748000000004041c7483871896634,0x452e9010000014081c60000000148,0x602444c748502444290f08418b4900\n"
-    ".octa 0xcf860f00000168813948000000,0x4a400c8d4c04e0c14800000160b18b48,0x8b4e00000502870f0df88348080e448b\n"
-    ".octa 0xe0a8b60f41000000d8988b4d200e54,0xb60f00000650e9f63145db31d2890000,0xed3103b2000003b5840fdb8401b03159\n"
-    ".octa 0xb60f4110798b4d08518b4d00000be9e9,0x602444c748502444290f1869,0x4e9840fed844056760000016891394c\n"
-    ".octa 0xc8d4f04e2c14900000160818b480000,0x4c000005bf860ffa394d0808548b4e52,0x8b4a000006d1870f0dfa834928245489\n"
-    ".octa 0xe0a0b60f45000000d8988b4d20085c,0x6600000890e9ed3145f63145d2890000,0xfb8948e08948000008c2e900012404c7\n"
-    ".octa 0x1e900000001b9ce8948f28948c78948,0x190818b4810798b4d08718b4d000003,0x7bf870fc7394900000188812b480000\n"
-    ".octa 0x100000000000000b8483169b60f0000,0x4c766db3103b100000313840fed8440,0x244c88092444894801082444c6000024\n"
-    ".octa 0x44c600000000132444c712246c884011,0x202444c74818245c8948001724,0x110b18b4c08598b4900000b16e900\n"
-    ".octa 0x48000001b0818b48de420f49de394900,0x480000076a870fc33948000001a8812b,0xfe24f0893171b60f000002c0840fdb85\n"
-    ".octa 0x5489480100000000000000ba4803b241,0x840f30710a40000002c0840f023c2824,0x358d4c00000110b98b4c000005b4\n"
-    ".octa 0x108818b0000063b840fff854d0000,0xd73949f22948c289480000010cb18b00,0xff039000000e8918b48000006cf860f\n"
-    ".octa 0xb60f41000007ffe9d68948000007f785,0x8300000262840f02f8833051b60f0241,0xf0000044fbec03100000291850f01f8\n"
-    ".octa 0x4800000090818b48000005c4820fd6a3,0x8b00000088918b480000031c840fc085,0xff48f0014850718b4840518b48fcc244\n"
-    ".octa 0xb091894800000001000000a881c748c0,0xf00000233e9000000b8818948000000,0x1b203b64000000195840fc0843141b6\n"
-    ".octa 0x7488400924548800082444c6002404c6,0xb23159b60f000009c7e90b2444880a24,0x843051b60f0000099f850fdb8401b003\n"
-    ".octa 0x4fa80fdc280fe8949000003a9840fd2,0xc74841033871b70f34518b08418b3577,0x14cb18966000000010000014481\n"
-    ".octa 0x5481c748000001508189000001489189,0xe800000003becf894800000000000001,0x93ae9f7894cd231c03100000000\n"
-    ".octa 0x43041b60f0b750000000141b98001b0,0x2404c6000001418188c0920f033cfc,0x44fbec0313051b60f00000657e9\n"
-    ".octa 0x518b4840418b48000001f9820fd6a30f,0xf440c71b70f000001e6830fd0394848,0xba41013e7980c031453a49b7\n"
-    ".octa 0x4bb4104fa834900000128918b4c2475,0x4dd148d46d2854dda420f4d000000,0x4466f1420f41f1394166d0440f450000\n"
-    ".octa 0x48d63948c60148f6b70ff0420f41d629,0x894800000001000000a881c748f2430f,0x6fe901b0000000b8b18948000000b081\n"
-    ".octa 0x48f28948c78948fb8948e08948000001,0x87be9df894800000000e8c931ce89,0x3279800000025c840fd2853051b60f00\n"
-    ".octa 0x81ee9ed3102b20000032a840f00,0xc6fffffe61850f01b6400030798001b2,0x3059b60ffffffe54e9f631d231013041\n"
-    ".octa 0x2df850f01fb83000002e1840fdb85,0xfe24f0893171b60ffffffcd3e905b100,0x3c28245489480100000000000000ba48\n"
-    ".octa 0xdbfe9c03103b241000000ff850f02,0x1003041c766000000da850f0afa8300,0x14281c600000000014081c766\n"
-    ".octa 0xb881c748000000a881110f,0x44fbec03100000343e901b00000,0xc0920f48413b4840418b480b72d6a30f\n"
-    ".octa 0x2d0820fd0a30f410000044fb841f631,0x2c0850f48413b4c40418b4c0000,0xb941c8294df631c1ff4950498b4c\n"
-    ".octa 0x2a2860f6849394cc8430f4d0000,0x292e9c6940f4000000000c0b983,0x8b4d0d5bb60f41200e548b4e0e1c8b4e\n"
-    ".octa 0xf6d289000000e0a8b60f41000000d898,0x13ee9f631450000012f850f10c3,0xe90924448803082444c6002404c6c031\n"
-    ".octa 0x12404c76600000291e9c031000002a8,0xe4e840f30710a40c03100000426e901,0xc0311075013c798000000108a98b0000\n"
-    ".octa 0x2944c2b60fd0450f2151b60f01207980,0x10c938bd98948edd3c189cb8948f5,0x820fd63948f0894d000000f0b38b4800\n"
-    ".octa 0x128b983480e75c0854d000008e6,0x39c0310000010c918b000005e5840f00,0xb60f0000010c8189c2450f0000010891\n"
-    ".octa 0x2d75ed85317702fa80c031fcc2803051,0xc0311075013c7980c03100000108918b,0x2944c1b60fc8450f2149b60f01207980\n"
-    ".octa 0x41b980c0950fd285d98948ead3c189c2,0x88d0440f00000001bac0b60f00000001,0x2da840ff6854d01b00000014191\n"
-    ".octa 0xc76600000d72e900000000282444c748,0x5cce9ed3100000333e902012404,0xf41d6294940708b4d000005e3e9d231\n"
-    ".octa 0xf44fe2045c6960f41280e74394ec793,0xdc440f4dffffffffc4c749c3ff49fdb6,0xda394dc2930fd32949dc420f4dfb014d\n"
-    ".octa 0xf6f20844d220440f7504c3f6c2960f41,0x24548d480e0c8b4e000002ce850f01c2,0xc9894cca8948c6894cd78948fb894850\n"
-    ".octa 0x502444b60fdf894800000000e8c08949,0x2404c7666024548b4858244cb60f,0x2444c700000000092444c705082444c6\n"
-    ".octa 0x4818244c89481024448948000000000c,0xfffff9fde9d98900000553e920245489,0xfff9eae902b1000000e7840f00327980\n"
-    ".octa 0x58d48caff01b540013241c6ff,0xcf8948fe8949e2ffc201489014634800,0xf9894c00000000e8cf894900000003be\n"
-    ".octa 0x4e00000c51e9c031000004c2e9f7894c,0x988b4d0d73b60f4520085c8b4a081c8b,0xf641d289000000e0a0b60f45000000d8\n"
-    ".octa 0x1afe9ed3145000001a0850f10c6,0xb740000000090b983482b74c084f631,0xa881c748000000000000009081c748\n"
-    ".octa 0xb081110f4041100f000000010000,0x1409108c2940f02fa80fee28000,0x2404c6d008f0084000000142b10840\n"
-    ".octa 0x2444110fc0570f0924448803082444c6,0x1ebe9f6894cff314500000461e90a,0x68418b4c28518b48c1940f41ff854d00\n"
-    ".octa 0x845c2970f41f23948c6014c50718b48,0x188a98d4c000001aa850f01fa8041ca,0x4860718b48c2430f48f22948c0310000\n"
-    ".octa 0x49df3949d8420f48d83948c3294cf389,0x58418b4800000559840fdb8548df420f,0xf4cf33949c93145021c8d4f70518b4c\n"
-    ".octa 0x3948fa294cf28948cf294ddf894dce43,0x8348000008e3840ffe294cd3430f48da,0xff31450000063e830f28244c894c04fa\n"
-    ".octa 0x13be9000000e8b1034800000810e9,0x894cc78948fb894800000180818d4800,0x84df8948e1894c00000000e8cc8949fe\n"
-    ".octa 0x1a0818d4826ebfffff81b850fc0,0xe8cf8949de8948c78948fe8949,0x66fffff879850fc084f7894cf9894c00\n"
-    ".octa 0xe081b60f4472ebc0570f04012404c7,0x314500000000282444c748c0fe410000,0x41d5294940688b4d000008fbe9f631d2\n"
-    ".octa 0x45d52045c5960f4128086c394ec2930f,0x440f4dffffffffc2c749c3ff49e4b60f,0x394cc2930fd32949da420f4de3014dda\n"
-    ".octa 0x844d220441b7504c6f641c2960f41db,0x2444110f03012404c766107401c2f6ea,0x3d78db854828245c8b48000002d1e908\n"
-    ".octa 0x4908728b4d0ab60f4508348b4af28949,0x41000000001042c74902110f4110428b,0xc749000001e5830fd83948187501f980\n"
-    ".octa 0x4c766104289490872894d0000000102,0xf0b98b4cfffff72fe904b1a7eb040124,0xa8a98d48d68949d60148f72949000000\n"
-    ".octa 0x1a8918b48fb430f4cdf3949000001,0x3949d02948e0894c000001b0a18b4c00,0x1a0898b4c3a1c8d4e000003d8870fc7\n"
-    ".octa 0xc0894911048d490045110fc0570f0000,0x82830f30244c894cf8394df02949,0x128830f20f883490a7204ff834900\n"
-    ".octa 0x147403e28349c1894dfa894dc0314500,0x49c1ff49081c88460e1cb60f46c1894d,0x4c3a1c8d4efcf88349f8294def75caff\n"
-    ".octa 0xf4203c0834812048d4a73773024548b,0x8842010e54b60f42fd085488420e14b6,0xf42ff08548842020e54b60f42fe0854\n"
-    ".octa 0x75cf394d04c1834908148842030e54b6,0xfc8949702464894c38246c894836ebcd\n"
-    ".quad 0x8949fa894cc78948\n"
-    ".long 0xdd894ccd\n"
+    ".octa 0xf6850fc0843141b60fe0ffd0014c8204,0x2ec850f01b6400030798001b2000002,0x5189023041c60470b70f41108b410000\n"
+    ".octa 0x41c748000000004041c7483871896634,0x4aee9010000014081c60000000148,0x602444c748502444290f08418b4900\n"
+    ".octa 0xcf860f00000168813948000000,0x4a400c8d4c04e0c14800000160b18b48,0x8b4e0000055e870f0df88348080e448b\n"
+    ".octa 0xe0a8b60f41000000d8988b4d200e54,0xb60f000006ace9f63145db31d2890000,0xed3103b200000411840fdb8401b03159\n"
+    ".octa 0xb60f4110798b4d08518b4d00000760e9,0x602444c748502444290f1869,0x545840fed844056760000016891394c\n"
+    ".octa 0xc8d4f04e2c14900000160818b480000,0x4c0000061b860ffa394d0808548b4e52,0x8b4a00000751870f0dfa834928245489\n"
+    ".octa 0xe0a0b60f45000000d8988b4d20085c,0x660000091fe9ed3145f63145d2890000,0xfb8948e0894800000951e900012404c7\n"
+    ".octa 0x5de900000001b9ce8948f28948c78948,0x190818b4810798b4d08718b4d000003,0x84e870fc7394900000188812b480000\n"
+    ".octa 0x100000000000000b8483169b60f0000,0x4c766db3103b10000036f840fed8440,0x244c88092444894801082444c6000024\n"
+    ".octa 0x44c600000000132444c712246c884011,0x202444c74818245c8948001724,0x110b18b4c08598b4900001122e900\n"
+    ".octa 0x48000001b0818b48de420f49de394900,0x48000007f9870fc33948000001a8812b,0xfe24f0893171b60f0000031c840fdb85\n"
+    ".octa 0x5489480100000000000000ba4803b241,0x840f30710a400000031c840f023c2824,0x358d4c00000110b98b4c00000634\n"
+    ".octa 0x108818b000006ca840fff854d0000,0xd73949f22948c289480000010cb18b00,0xff039000000e8918b480000075e860f\n"
+    ".octa 0xb60f4100000893e9d689480000088b85,0x83000002be840f02f8833051b60f0241,0xf0000044fbec031000002ed850f01f8\n"
+    ".octa 0x4800000090818b480000064e820fd6a3,0x8b00000088918b4800000378840fc085,0xf48d02948f63100000084918bfcc244\n"
+    ".octa 0x480116548d4850518b4840418b48f043,0xb081894800000001000000a881c7,0x41b60f00000281e9000000b891894800\n"
+    ".octa 0x4c601b203b640000001e3840fc08431,0xa247488400924548800082444c60024,0xb003b23159b60f00000530e90b244488\n"
+    ".octa 0xfd2843051b60f00000508850fdb8401,0x357704fa80fdc280fe8949000003f784,0x4481c74841033871b70f34518b08418b\n"
+    ".octa 0x91890000014cb1896600000001000001,0x15481c74800000150818900000148,0xf58798d4803003041c7660000000000\n"
+    ".octa 0xb881c748000000a88111,0xf8894c00000000e8cf894968718b4800,0x128bf8349000000000000011087c749\n"
+    ".octa 0x12880c7480b74000000,0x14280c600000000014080c766,0xb98001b000000455e9f7894cd231c031\n"
+    ".octa 0xf033cfc043041b60f0b750000000141,0x68ae9002404c6000001418188c092,0xfd6a30f0000044fbec0313051b60f00\n"
+    ".octa 0xd0394848518b4840418b48000001f982,0x453a49b70f440c71b70f000001e6830f,0x8b4c247500000000ba41013e7980c031\n"
+    ".octa 0x4d00000004bb4104fa83490000012891,0xf4500000004dd148d46d2854dda420f,0xf41d6294466f1420f41f1394166d044\n"
+    ".octa 0x48f2430f48d63948c60148f6b70ff042,0xb081894800000001000000a881c7,0x480000016fe901b0000000b8b1894800\n"
+    ".octa 0xc931ce8948f28948c78948fb8948e089,0x51b60f00000e2be9df894800000000e8,0x25840f003279800000025c840fd28530\n"
+    ".octa 0x798001b200000339e9ed3102b2000003,0x31013041c6fffffe13850f01b6400030,0x840fdb853059b60ffffffe06e9f631d2\n"
+    ".octa 0xe905b1000002da850f01fb83000002dc,0xba48fe24f0893171b60ffffffc77,0xff850f023c2824548948010000000000\n"
+    ".octa 0xafa8300000e2be9c03103b241000000,0x4081c76601003041c766000000da850f,0xa881110f000000014281c60000000001\n"
+    ".octa 0x1b000000000000000b881c748000000,0x72d6a30f0000044fbec03100000371e9,0xb841f631c0920f48413b4840418b480b\n"
+    ".octa 0x8b4c000002f4820fd0a30f410000044f,0x50498b4c000002e4850f48413b4c4041,0xf4d00000000b941c8294df631c1ff49\n"
+    ".octa 0xc0b983000002c6860f6849394cc843,0xe1c8b4e000002b6e9c6940f40000000,0xd8988b4d0d5bb60f41200e548b4e\n"
+    ".octa 0x850f10c3f6d289000000e0a8b60f4100,0x4c6c0310000013ee9f631450000012f,0x2d6e90924448803082444c60024\n"
+    ".octa 0x459e901012404c766000002bfe9c031,0xa98b00000eba840f30710a40c0310000,0x1207980c0311075013c798000000108\n"
+    ".octa 0xcb8948f52944c2b60fd0450f2151b60f,0xb38b480000010c938bd98948edd3c189,0x8d2820fd63948f0894d000000f0\n"
+    ".octa 0x8b840f0000000128b983480e75c0854d,0x1089139c0310000010c918b000006,0xc2803051b60f0000010c8189c2450f00\n"
+    ".octa 0x108918b2d75ed85317702fa80c031fc,0x1207980c0311075013c7980c0310000,0xd3c189c22944c1b60fc8450f2149b60f\n"
+    ".octa 0x141b980c0950fd285d98948ea,0x1419188d0440f00000001bac0b60f,0x2444c7480000030d840ff6854d01b000\n"
+    ".octa 0x2012404c76600000ddee90000000028,0xfee9d231000000e7e9ed3100000366e9,0x394ec7930f41d6294940708b4d000000\n"
+    ".octa 0xff49fdb60f44fe2045c6960f41280e74,0x4dfb014ddc440f4dffffffffc4c749c3,0xc2960f41da394dc2930fd32949dc420f\n"
+    ".octa 0x850f01c2f6f20844d220440f7504c3f6,0xfb89485024548d480e0c8b4e00000301,0xe8c08949c9894cca8948c6894cd78948\n"
+    ".octa 0x244cb60f502444b60fdf894800000000,0x82444c600002404c7666024548b4858,0xc2444c700000000092444c705\n"
+    ".octa 0xbd4e918244c8948102444894800,0x11f840f00327980fffff9a6e9d989,0xff01b540013241c6fffff993e902b100\n"
+    ".octa 0xffc201489014634800000000058d48ca,0x1c0b980f5b60f40d231c031e2,0x1c0818844c6440f4400000001b841\n"
+    ".octa 0x54880924448800082444c6002404c600,0x110f0c2444110fc0570f0b245c880a24,0x4e00000c99e9c03100000a90e9182444\n"
+    ".octa 0x988b4d0d73b60f4520085c8b4a081c8b,0xf641d289000000e0a0b60f45000000d8,0x1bee9ed3145000001af850f10c6\n"
+    ".octa 0xb740000000090b983483574c084f631,0x8481c7000000000000009081c748,0x1000000a881c7480000000000\n"
+    ".octa 0xfa80fee280000000b081110f4041100f,0x142b10840000001409108c2940f02,0x8803082444c6002404c6d008f0084000\n"
+    ".octa 0x182444110f0a2444110fc0570f092444,0x1f0e9f6894cff3145000009e3e9,0x4868418b4c28518b48c1940f41ff854d\n"
+    ".octa 0xca0845c2970f41f23948c6014c50718b,0x188a98d4c000001af850f01fa8041,0x894860718b48c2430f48f22948c03100\n"
+    ".octa 0xf49df3949d8420f48d83948c3294cf3,0x4c58418b4800000512840fdb8548df42,0x430f4cf33949c93145021c8d4f70518b\n"
+    ".octa 0xda3948fa294cf28948cf294ddf894dce,0xfa83480000089c840ffe294cd3430f48,0xe9ff3145000005f7830f28244c894c04\n"
+    ".octa 0x140e9000000e8b10348000007c9,0xfe894cc78948fb894800000180818d48,0xc084df8948e1894c00000000e8cc8949\n"
+    ".octa 0x49000001a0818d4826ebfffff78c850f,0xe8cf8949de8948c78948fe89,0xc766fffff7ea850fc084f7894cf9894c\n"
+    ".octa 0xe081b60f4472ebc0570f04012404,0xd2314500000000282444c748c0fe4100,0xf41d5294940688b4d00000934e9f631\n"
+    ".octa 0xf45d52045c5960f4128086c394ec293,0xda440f4dffffffffc2c749c3ff49e4b6,0xdb394cc2930fd32949da420f4de3014d\n"
+    ".octa 0xea0844d22044207504c6f641c2960f41,0x82444110f03012404c766157401c2f6,0x4828245c8b480000084ee9182444110f\n"
+    ".octa 0x4d0ab60f4508348b4af289493d78db85,0x1042c74902110f4110428b4908728b,0x253830fd83948187501f98041000000\n"
+    ".octa 0x4289490872894d0000000102c7490000,0xfffff69be904b1a2eb04012404c76610,0xd68949d60148f72949000000f0b98b4c\n"
+    ".octa 0x8b48fb430f4cdf3949000001a8a98d48,0x48e0894c000001b0a18b4c000001a891,0x4c3a1c8d4e0000038c870fc73949d029\n"
+    ".octa 0x48d490045110fc0570f000001a0898b,0xf30244c894cf8394df02949c0894911,0xf20f883490a7204ff83490000008283\n"
+    ".octa 0x8349c1894dfa894dc031450000019683,0x81c88460e1cb60f46c1894d147403e2,0x4efcf88349f8294def75caff49c1ff49\n"
+    ".octa 0x834812048d4a73773024548b4c3a1c8d,0x54b60f42fd085488420e14b60f4203c0,0x548842020e54b60f42fe08548842010e\n"
+    ".octa 0x4c1834908148842030e54b60f42ff08,0x2464894c38246c894836ebcd75cf394d,0xdd894ccd8949fa894cc78948fc894970\n"
     "call memmove\n"
     ".octa 0x8b4ce7894ce9894ceb89493024548b4c,0x4c000001a091894c38246c8b48702464,0xda8948000001b0a1894c000001a89989\n"
-    ".octa 0x31e870fc23948d8294ce0894cfa294c,0xc0570f000001a0b98b4c132c8d4d0000,0x3948f6294cc689481f048d4b0045110f\n"
-    ".octa 0x313b7320fe8348067204fa83481373d6,0x4cc78948fc8949e5894c0000071fe9f6\n"
-    ".long 0x8949f689\n"
+    ".octa 0x2d2870fc23948d8294ce0894cfa294c,0xc0570f000001a0b98b4c132c8d4d0000,0x3948f6294cc689481f048d4b0045110f\n"
+    ".octa 0xa5830f20fe83480a7204fa83481773d6,0xfc8949e5894c0000074fe9f631000000\n"
+    ".quad 0x8949f6894cc78948\n"
     ".byte 0xce\n"
     "call memmove\n"
-    ".octa 0x83490000070ee9ec8949e7894cf1894c,0x199e9c0314500000159830f20ff,0x1f9e9f631000001bd830f20fa8348\n"
-    ".octa 0xffffffffffe0ba48fffffa25e9c03100,0xfc3f610c18349d92149104a8d4c7fff,0x102c749c8294c0e1c8d4fcb440f4c\n"
-    ".octa 0xf12949f1894d10428949085a894d0000,0xc031000002d6830f48247c8948d93949,0x820f20f983490000036a820f04fb8348\n"
-    ".octa 0xc03100000305830f20fb834800000360,0x31053041c604eb093041c60000032de9,0xb84100000001c0b980f5b60f40d231c0\n"
-    ".octa 0xc6000001c0818844c6440f4400000001,0xa2454880924448800082444c6002404,0x2444110f0c2444110fc0570f0b245c88\n"
-    ".octa 0x4cb60f082444b60f0789662404b70f18,0x24448b440b2474b60f0a2454b60f0924,0xb60f44112454b60f4410244cb60f440c\n"
-    ".octa 0x24748b4c17246cb60f13245c8b12245c,0x47882077894c2024748b4c1877894c18,0x440c4789440b7788400a5788094f8808\n"
-    ".octa 0x8840135f89125f884411578844104f88,0x5d5f415e415d415c415b78c48348176f,0x4510c18349d10149e0e08349f8894dc3\n"
-    ".octa 0x110f4310164c100f421604100f42d231,0x75d0394d20c28349110c110f43f01144,0x41fffffddf840f3024548b4cc7394de1\n"
-    ".octa 0x49f8894dc1894dfffffd30840f1cc7f6,0x4d04c18349081489460e148b46fce083,0xfdac840f3024548b4cc7394def75c839\n"
-    ".octa 0x8d4fe0e68348d68948fffffd02e9ffff,0xf430e04100f43c9314510c083493b04,0x49080c110f43f00844110f43100e4c10\n"
-    ".octa 0x4fb840ff23948e175ce394c20c183,0xd68948f08949000004e1840f1cc2f600,0x4c08349000c8946060c8b47fce68348\n"
-    ".octa 0x7c8948e8894c000004cde9ef75c6394c,0x8b48282454894800000190918b484824,0xf00000188898b48cd89490000018091\n"
-    ".octa 0xe90a048d48d48949cf894900110fc057,0x48247c8948000001a0818d48000006c3,0x8949fe894cf5894838246c8948c78948\n"
-    ".octa 0x894c38246c8b48ee894800000000e8cc,0x8b4d000001a824948b4948247c8b48e1,0xfffbdb850fc084d38949000001b024a4\n"
-    ".octa 0x1a0818d4838246c8948fffffccde9ff,0x8949d68948d78949c78948fc89490000,0x840fc084e7894ce9894c00000000e8cd\n"
-    ".octa 0x1b0a18b4c000001a8998b4c0000042d,0x48fffffc99e938246c8b48fa894c0000,0x8948ff894947244c8d48000000e8818b\n"
-    ".octa 0x4cff894cd9894800000000e8c03145c7,0xe9fffff6fd850fc0854d00000110838b,0xc4894dcd8949da8948f7894cfffff6ea\n"
+    ".octa 0x89490000073ee9ec8949e7894cf1894c,0xa881110f58798d4803003041c766fe,0x718b4800000000000000b881c7480000\n"
+    ".octa 0x1087c749f9894c00000000e8cf894968,0x740000000128bf834900000000000001,0x4081c766000000000000012881c7480b\n"
+    ".octa 0xd231c031000000014281c60000000001,0x9f830f20ff8349fffffb1ae9f7894c,0x830f20fa8348000000dfe9c031450000\n"
+    ".octa 0xf97fe9c0310000013fe9f63100000103,0x104a8d4c7fffffffffffffe0ba48ffff,0x8d4fcb440f4c0fc3f610c18349d92149\n"
+    ".octa 0x85a894d0000000102c749c8294c0e1c,0x7c8948d93949f12949f1894d10428949,0x820f04fb8348c0310000021c830f4824\n"
+    ".octa 0x8348000002a6820f20f98349000002b0,0xc600000273e9c0310000024b830f20fb,0xfffa6de9053041c6fffffa76e9093041\n"
+    ".octa 0x4510c18349d10149e0e08349f8894dff,0x110f4310164c100f421604100f42d231,0x75d0394d20c28349110c110f43f01144\n"
+    ".octa 0x41fffffe2b840f3024548b4cc7394de1,0x49f8894dc1894dfffffd7c840f1cc7f6,0x4d04c18349081489460e148b46fce083\n"
+    ".octa 0xfdf8840f3024548b4cc7394def75c839,0x8d4fe0e68348d68948fffffd4ee9ffff,0xf430e04100f43c9314510c083493b04\n"
+    ".octa 0x49080c110f43f00844110f43100e4c10,0x57b840ff23948e175ce394c20c183,0xd68948f0894900000561840f1cc2f600\n"
+    ".octa 0x4c08349000c8946060c8b47fce68348,0x7c8948e8894c0000054de9ef75c6394c,0x8b48282454894800000190918b484824\n"
+    ".octa 0xf00000188898b48cd89490000018091,0xe90a048d48d48949cf894900110fc057,0x48247c8948000001a0818d4800000743\n"
+    ".octa 0x8949fe894cf5894838246c8948c78948,0x894c38246c8b48ee894800000000e8cc,0x8b4d000001a824948b4948247c8b48e1\n"
+    ".octa 0xfffc27850fc084d38949000001b024a4,0x1a0818d4838246c8948fffffd19e9ff,0x8949d68948d78949c78948fc89490000\n"
+    ".octa 0x840fc084e7894ce9894c00000000e8cd,0x1b0a18b4c000001a8998b4c000004ad,0x48fffffce5e938246c8b48fa894c0000\n"
+    ".octa 0x8948ff894947244c8d48000000e8818b,0x4cff894cd9894800000000e8c03145c7,0xe9fffff711850fc0854d00000110838b\n"
+    ".octa 0xc4894dcd8949da8948f7894cfffff6fe\n"
     "call memmove\n"
     ".octa 0x14dc30149000000dce9e9894ce0894d,0x4c8b4cff31450d7320fb8349cb294df1,0x113830f20fa8348000001bee92824\n"
     ".octa 0x894800000153e928244c8b4cff314500,0x41103e4c100f3e04100fff31d02148d8,0x394820c78348103e4c110f413e04110f\n"
@@ -6587,7 +6613,7 @@ __asm__(
     ".octa 0xf44c28948147403e78348c28948df89,0x48ef75cfff48c2ff48160c8845160cb6,0x160488411604b60f2f77fcf88348d829\n"
     ".octa 0x41021644b60f0116448841011644b60f,0x83480316448841031644b60f02164488,0x50247c8d483e2c3043d175d3394804c2\n"
     ".octa 0xe8d88949f1894cca8948c6894c,0x6024548b4858244cb60f502444b60f00,0x92444c705082444c600002404c766\n"
-    ".octa 0x1024448948000000000c2444c7000000,0xe948247c8b48202454894818244c8948,0x8d4de0e28349d28949d3894dfffffc48\n"
+    ".octa 0x1024448948000000000c2444c7000000,0xe948247c8b48202454894818244c8948,0x8d4de0e28349d28949d3894d0000020c\n"
     ".octa 0x4100f43d23145d7894d10c18349070c,0x110f43f01144110f4310164c100f4316,0x8b4cfa394ce175d7394d20c28349110c\n"
     ".octa 0x741cc2f6da894d00000118840f28244c,0x894cfc294de3894dfce48349d4894954,0xc50149cd294dc5014d172c8d4f302454\n"
     ".octa 0x49000d5489470f148b47c93145f7014d,0x8d4cda394cdf894dee75cc394d04c183,0xf28244c8b4c3024548b4c00000188a9\n"
@@ -6595,48 +6621,50 @@ __asm__(
     ".octa 0x4900155c8847111cb60f47d231451e0c,0xa98d4cdff749eb75d4394dcfff49c2ff,0x8b4c28244c8b4c3024548b4c00000188\n"
     ".octa 0x4dd389495577fcfb8349d3294938245c,0x4902048d4dca294dc2014dfa014dfb29,0xf47d2314503c18349370c8d4f03c083\n"
     ".octa 0x47fe117cb60f47fd107c8847fd117cb6,0x47ff107c8847ff117cb60f47fe107c88,0x75d3394d04c28349103c8847113cb60f\n"
-    ".octa 0x894916348d4900000269860ff33948cd,0xf12949c189490c7204f88349d02949d8,0x834900000234e9c93145087320f98349\n"
+    ".octa 0x894916348d49000002e9860ff33948cd,0xf12949c189490c7204f88349d02949d8,0x8349000002b4e9c93145087320f98349\n"
     ".octa 0xe0e18349c1894d44ebc93145057320f8,0x1a44100f43db314510c2834932148d4e,0x184c110f421804110f421a0c100f43f0\n"
-    ".octa 0x840fc8394de175d9394d20c3834910,0xcf894d000001e5840f1cc0f641000002,0x1c8d4efa294dca894dfce18349c1894d\n"
-    ".octa 0x89473a248b46ff3145f2014cfa014c38,0x1bee9ef75fa394d04c783493b24,0x940f4102f88041c0b60f45d231c03145\n"
-    ".octa 0x2404c766000001c1890844c12041c1,0x9244489482824448b4802082444c600,0x132444c712247488401124548844\n"
-    ".octa 0x24548948182444894c00172444c60000,0x48300488443604b60f45fffff9e6e920,0x894c000001a0b9894cef75f23948c6ff\n"
-    ".octa 0x3171b60f000001b0a1894c000001a8a9,0x41d231c03145c0310f75023cfe24f089,0x844c0313051b60f44ffffff6ee903b2\n"
-    ".octa 0xb18b4c00000108b18b000000e9840fd6,0x31107501f980413c49b60f4400000110,0x89c2b60fd0450f2151b60f01207980c0\n"
-    ".octa 0x3949c1894cedd3c189c88949f52944f5,0x894dd32949f3894dd6420f49da8948de,0x128b983480e77de39490000011098\n"
-    ".octa 0xf3890000010c818b00000092840f0000,0x41f0420f44da3948def741de8941c329,0x41c031fcc280410000010cb18944d601\n"
-    ".octa 0x1074c98445c0312675ed852a7702fa80,0xc1b60fc8450f2149b60f01207980c031,0xfc0950ff685c1894ceed3c189de2944\n"
-    ".octa 0x440f00000001be0000000141b980c0b6,0x282444c74801b000000141b18840f0,0xfffffe75e9c03145f631d23145000000\n"
-    ".octa 0x10c81c7fffffe66e9f631d23145,0x857602fa8041c031fcc2804100000000,0x394dc1ff49081488420e14b60f42adeb\n"
-    ".octa 0x8b4c00000188918b4868590148ef75c8,0x870fc33948d02948d8894c0000019099,0xf00000180a18b4c1a3c8d4c0000012f\n"
-    ".octa 0x294cc6894814048d490045110f41c057,0x14348d49117204fb83487f73de3948f6,0x49f631000000ae830f20fe8348f6294c\n"
-    ".octa 0xf47f08949147403e18349f08949d989,0x48ef75c9ff49c0ff49001488460614b6,0x3c0834822048d4a6577fcfe8348de29\n"
-    ".octa 0x10654b60f43fd005488420614b60f43,0xff00548842020654b60f43fe00548842,0x394c04c0834900148842030654b60f43\n"
-    ".octa 0x7c8948cd894928245c894c28ebcd75c3\n"
+    ".octa 0x80840fc8394de175d9394d20c3834910,0xcf894d00000265840f1cc0f641000002,0x1c8d4efa294dca894dfce18349c1894d\n"
+    ".octa 0x89473a248b46ff3145f2014cfa014c38,0x23ee9ef75fa394d04c783493b24,0x244cb60f082444b60f0789662404b70f\n"
+    ".octa 0xc24448b440b2474b60f0a2454b60f09,0x5cb60f44112454b60f4410244cb60f44,0x1824748b4c17246cb60f13245c8b1224\n"
+    ".octa 0x847882077894c2024748b4c1877894c,0x88440c4789440b7788400a5788094f88,0x6f8840135f89125f884411578844104f\n"
+    ".octa 0xc35d5f415e415d415c415b78c4834817,0x940f4102f88041c0b60f45d231c03145,0x2404c766000001c1890844c12041c1\n"
+    ".octa 0x9244489482824448b4802082444c600,0x132444c712247488401124548844,0x24548948182444894c00172444c60000\n"
+    ".octa 0x48300488443604b60f45ffffff2ae920,0x894c000001a0b9894cef75f23948c6ff,0x3171b60f000001b0a1894c000001a8a9\n"
+    ".octa 0x41d231c03145c0310f75023cfe24f089,0x844c0313051b60f44ffffff6ee903b2,0xb18b4c00000108b18b000000e9840fd6\n"
+    ".octa 0x31107501f980413c49b60f4400000110,0x89c2b60fd0450f2151b60f01207980c0,0x3949c1894cedd3c189c88949f52944f5\n"
+    ".octa 0x894dd32949f3894dd6420f49da8948de,0x128b983480e77de39490000011098,0xf3890000010c818b00000092840f0000\n"
+    ".octa 0x41f0420f44da3948def741de8941c329,0x41c031fcc280410000010cb18944d601,0x1074c98445c0312675ed852a7702fa80\n"
+    ".octa 0xc1b60fc8450f2149b60f01207980c031,0xfc0950ff685c1894ceed3c189de2944,0x440f00000001be0000000141b980c0b6\n"
+    ".octa 0x282444c74801b000000141b18840f0,0xfffffe75e9c03145f631d23145000000,0x10c81c7fffffe66e9f631d23145\n"
+    ".octa 0x857602fa8041c031fcc2804100000000,0x394dc1ff49081488420e14b60f42adeb,0x8b4c00000188918b4868590148ef75c8\n"
+    ".octa 0x870fc33948d02948d8894c0000019099,0xf00000180a18b4c1a3c8d4c0000012f,0x294cc6894814048d490045110f41c057\n"
+    ".octa 0x14348d49117204fb83487f73de3948f6,0x49f631000000ae830f20fe8348f6294c,0xf47f08949147403e18349f08949d989\n"
+    ".octa 0x48ef75c9ff49c0ff49001488460614b6,0x3c0834822048d4a6577fcfe8348de29,0x10654b60f43fd005488420614b60f43\n"
+    ".octa 0xff00548842020654b60f43fe00548842,0x394c04c0834900148842030654b60f43,0x7c8948cd894928245c894c28ebcd75c3\n"
     ".quad 0xf6894cc789484824\n"
     ".short 0x8948\n"
     ".byte 0xda\n"
     "call memmove\n"
-    ".octa 0xa1894c28245c8b4ce9894c48247c8b48,0x19099894c00000188b9894c00000180,0x7320fb8348ffffec22e9c931c0310000\n"
+    ".octa 0xa1894c28245c8b4ce9894c48247c8b48,0x19099894c00000188b9894c00000180,0x7320fb8348ffffeb5ae9c931c0310000\n"
     ".octa 0x4ee2894de0e68348de89487eebf63104,0x430e04100f43c9314510c0834922048d,0x80c110f43f00844110f43100e4c100f\n"
     ".octa 0x894d3975f33948e175ce394c20c18349,0x180b98d48cc8949ff89499aebd4,0x49e1894c5074c08400000000e8de8948\n"
     ".octa 0x4c00000190249c8b4d0000018824948b,0xcc840fd4894d1cc3f6fffffe9de9ff89,0xc8b47fce68348de8948f08949fffffe\n"
     ".octa 0x3948ef75c6394c04c08349000c894606,0xc931c031fffffea3e9ffffff36840ff3\n"
-    ".quad 0xffffeb65e9ff894c\n"
+    ".quad 0xffffea9de9ff894c\n"
     ".reloc .Ltcp36+42,R_X86_64_PC32,.Ltcp37-4\n"
-    ".reloc .Ltcp36+622,R_X86_64_PC32,.Ltcp101-4\n"
-    ".reloc .Ltcp36+944,R_X86_64_PLT32,.Ltcp41-4\n"
-    ".reloc .Ltcp36+1173,R_X86_64_PLT32,.Ltcp42-4\n"
-    ".reloc .Ltcp36+1924,R_X86_64_PLT32,.Ltcp53-4\n"
-    ".reloc .Ltcp36+2029,R_X86_64_PC32,.Ltcp37+48\n"
-    ".reloc .Ltcp36+2057,R_X86_64_PLT32,.Ltcp41-4\n"
-    ".reloc .Ltcp36+2437,R_X86_64_PLT32,.Ltcp38-4\n"
-    ".reloc .Ltcp36+2477,R_X86_64_PLT32,.Ltcp38-4\n"
-    ".reloc .Ltcp36+3789,R_X86_64_PLT32,.Ltcp38-4\n"
-    ".reloc .Ltcp36+3869,R_X86_64_PLT32,.Ltcp38-4\n"
-    ".reloc .Ltcp36+3936,R_X86_64_PLT32,.Ltcp40-4\n"
-    ".reloc .Ltcp36+4237,R_X86_64_PLT32,.Ltcp53-4\n"
-    ".reloc .Ltcp36+5636,R_X86_64_PLT32,.Ltcp38-4\n"
+    ".reloc .Ltcp36+622,R_X86_64_PC32,.Ltcp102-4\n"
+    ".reloc .Ltcp36+985,R_X86_64_PLT32,.Ltcp41-4\n"
+    ".reloc .Ltcp36+1265,R_X86_64_PLT32,.Ltcp43-4\n"
+    ".reloc .Ltcp36+2016,R_X86_64_PLT32,.Ltcp54-4\n"
+    ".reloc .Ltcp36+2116,R_X86_64_PC32,.Ltcp37+48\n"
+    ".reloc .Ltcp36+2580,R_X86_64_PLT32,.Ltcp38-4\n"
+    ".reloc .Ltcp36+2620,R_X86_64_PLT32,.Ltcp38-4\n"
+    ".reloc .Ltcp36+3320,R_X86_64_PLT32,.Ltcp41-4\n"
+    ".reloc .Ltcp36+3861,R_X86_64_PLT32,.Ltcp38-4\n"
+    ".reloc .Ltcp36+3941,R_X86_64_PLT32,.Ltcp38-4\n"
+    ".reloc .Ltcp36+4008,R_X86_64_PLT32,.Ltcp40-4\n"
+    ".reloc .Ltcp36+4309,R_X86_64_PLT32,.Ltcp54-4\n"
+    ".reloc .Ltcp36+5836,R_X86_64_PLT32,.Ltcp38-4\n"
     ".section .rodata.tcp.37,\"a\",%progbits\n"
     ".balign 4\n"
     ".Ltcp37:\n"
@@ -6645,28 +6673,28 @@ __asm__(
     ".quad 0x0\n"
     ".long 0x0\n"
     ".reloc .Ltcp37+0,R_X86_64_PC32,.Ltcp36+55\n"
-    ".reloc .Ltcp37+4,R_X86_64_PC32,.Ltcp36+803\n"
+    ".reloc .Ltcp37+4,R_X86_64_PC32,.Ltcp36+817\n"
     ".reloc .Ltcp37+8,R_X86_64_PC32,.Ltcp36+411\n"
     ".reloc .Ltcp37+12,R_X86_64_PC32,.Ltcp36+530\n"
     ".reloc .Ltcp37+16,R_X86_64_PC32,.Ltcp36+238\n"
-    ".reloc .Ltcp37+20,R_X86_64_PC32,.Ltcp36+863\n"
-    ".reloc .Ltcp37+24,R_X86_64_PC32,.Ltcp36+984\n"
+    ".reloc .Ltcp37+20,R_X86_64_PC32,.Ltcp36+877\n"
+    ".reloc .Ltcp37+24,R_X86_64_PC32,.Ltcp36+1076\n"
     ".reloc .Ltcp37+28,R_X86_64_PC32,.Ltcp36+713\n"
-    ".reloc .Ltcp37+32,R_X86_64_PC32,.Ltcp36+1187\n"
+    ".reloc .Ltcp37+32,R_X86_64_PC32,.Ltcp36+1279\n"
     ".reloc .Ltcp37+36,R_X86_64_PC32,.Ltcp36+414\n"
-    ".reloc .Ltcp37+40,R_X86_64_PC32,.Ltcp36+1037\n"
+    ".reloc .Ltcp37+40,R_X86_64_PC32,.Ltcp36+1129\n"
     ".reloc .Ltcp37+44,R_X86_64_PC32,.Ltcp36+173\n"
     ".reloc .Ltcp37+48,R_X86_64_PC32,.Ltcp36+293\n"
-    ".reloc .Ltcp37+52,R_X86_64_PC32,.Ltcp36+2042\n"
-    ".reloc .Ltcp37+56,R_X86_64_PC32,.Ltcp36+2046\n"
-    ".reloc .Ltcp37+60,R_X86_64_PC32,.Ltcp36+3298\n"
-    ".reloc .Ltcp37+64,R_X86_64_PC32,.Ltcp36+3298\n"
-    ".reloc .Ltcp37+68,R_X86_64_PC32,.Ltcp36+3306\n"
-    ".reloc .Ltcp37+72,R_X86_64_PC32,.Ltcp36+3310\n"
-    ".reloc .Ltcp37+76,R_X86_64_PC32,.Ltcp36+3304\n"
-    ".reloc .Ltcp37+80,R_X86_64_PC32,.Ltcp36+3318\n"
-    ".reloc .Ltcp37+84,R_X86_64_PC32,.Ltcp36+3322\n"
-    ".reloc .Ltcp37+88,R_X86_64_PC32,.Ltcp36+3326\n"
+    ".reloc .Ltcp37+52,R_X86_64_PC32,.Ltcp36+3281\n"
+    ".reloc .Ltcp37+56,R_X86_64_PC32,.Ltcp36+3285\n"
+    ".reloc .Ltcp37+60,R_X86_64_PC32,.Ltcp36+2137\n"
+    ".reloc .Ltcp37+64,R_X86_64_PC32,.Ltcp36+3559\n"
+    ".reloc .Ltcp37+68,R_X86_64_PC32,.Ltcp36+2145\n"
+    ".reloc .Ltcp37+72,R_X86_64_PC32,.Ltcp36+2149\n"
+    ".reloc .Ltcp37+76,R_X86_64_PC32,.Ltcp36+3562\n"
+    ".reloc .Ltcp37+80,R_X86_64_PC32,.Ltcp36+2157\n"
+    ".reloc .Ltcp37+84,R_X86_64_PC32,.Ltcp36+2161\n"
+    ".reloc .Ltcp37+88,R_X86_64_PC32,.Ltcp36+2165\n"
     ".section .text.tcp.38,\"ax\",%progbits\n"
     ".balign 16\n"
     ".Ltcp38:\n"
@@ -6724,21 +6752,54 @@ __asm__(
     ".section .text.tcp.41,\"ax\",%progbits\n"
     ".balign 16\n"
     ".Ltcp41:\n"
-    ".type \"tcp_conn::endpoint::Endpoint::end_by::<#4d7786d65df9050b>\",%function\n"
-    ".size \"tcp_conn::endpoint::Endpoint::end_by::<#4d7786d65df9050b>\",326\n"
-    "\"tcp_conn::endpoint::Endpoint::end_by::<#4d7786d65df9050b>\":\n"
-    ".octa 0xa887110fc0570f31778840003047c653,0x8b4800000000000000b887c748000000,0x4870578b48604f8b482374c085486847\n"
-    ".octa 0x8948f22948f1430f48ca3948f631c201,0x888f8b48000000006847c7487057,0xf00000098978b4800000090b78b4800\n"
-    ".octa 0x3145c931454474f68548000000908711,0x841f0f2e666666666666c0,0xd1420f45c2294104c15c8b46c1148b46\n"
-    ".octa 0x4c15c8946d9420f45c32941c1148946,0x4550ebf08949d675c6394cc0ff491276,0x1f0f4273f1394901488d4d4bebc031\n"
-    ".octa 0x2941db3104c95c8b46c9048b46c2894d,0x44c32941c03145c9048946c3420f44c0,0xc91c8b4ec0970f4104c95c8946db420f\n"
-    ".octa 0x48c175ce394cc1ff49d0014dd11c894e,0x9789480000009087894c000000888f89,0x48000000000000011087c74800000098\n"
-    ".octa 0x12887c7480b740000000128bf83,0x4287c600000000014087c76600000000\n"
-    ".long 0x1\n"
-    ".short 0xc35b\n"
+    ".type \"tcp_sendq::queue::SendQueue::release::<#4d7786d65df9050b>\",%function\n"
+    ".size \"tcp_sendq::queue::SendQueue::release::<#4d7786d65df9050b>\",390\n"
+    "\"tcp_sendq::queue::SendQueue::release::<#4d7786d65df9050b>\":\n"
+    ".octa 0x482073c83948f02948c88948104f8b48,0xca3948c03145f2014818578b48084f8b,0x551047894818578948c2294cc1430f4c\n"
+    ".octa 0x7680000000fe812c7703505356415741,0x478d48385f8b4c30578b48384f8d4863,0x3847110fc0570f40478b4c404f8d4c30\n"
+    ".octa 0x9066d23145db3100000096840fdb854d,0x8942eb420ff52904d2748b46d22c8b42,0x860f04d2748946f3420f44f62941d22c\n"
+    ".octa 0xe9da894dd475d3394dc2ff490000008c,0x74c0854d38478b4c30478d48000000c9,0x3b2a7501f88349d231fb8948088b4853\n"
+    ".octa 0xe8f631f68949c78948ffda834804d174,0x9000000099e9df8948f0894c00000000,0x4cefd148c7894cd67601f88349f82949\n"
+    ".octa 0x45e1ebca894ce67704c9743942170c8d,0x40478b4c30578b48384f8d4869ebd231,0x4debd231453847110fc0570f404f8d4c\n"
+    ".octa 0x801f0f4473db394c015a8d49,0x2941ff314504da6c8bda148b44d6894d,0xf41f529d23145da148944d7420f45f2\n"
+    ".octa 0x894eda3c8b4cc2970f4104da6c89ef42,0x108948c375db3949c3ff48f2014df23c,0x5b08c483482c4789c03101894d11894c\n"
+    ".long 0x5f415e41\n"
+    ".short 0xc35d\n"
+    ".reloc .Ltcp41+208,R_X86_64_PLT32,.Ltcp42-4\n"
     ".section .text.tcp.42,\"ax\",%progbits\n"
     ".balign 16\n"
     ".Ltcp42:\n"
+    ".type \"tcp_sendq::marks::Marks::remove_range::<#4d7786d65df9050b>\",%function\n"
+    ".size \"tcp_sendq::marks::Marks::remove_range::<#4d7786d65df9050b>\",1137\n"
+    "\"tcp_sendq::marks::Marks::remove_range::<#4d7786d65df9050b>\":\n"
+    ".octa 0x5641574100000464840ff12948d18948,0xc850f01f9834808478b4c084f8d4c53,0x110f41c0570f10478b480f8b48000001\n"
+    ".octa 0xd18949ff508d4900000000f5148d4c01,0xf9814900000210840ffffe8348f12949,0x8d4a111c8d4e000002cd820f00000101\n"
+    ".octa 0x90662debdf894df6314538c38348111c,0xc6ff49f12949d1894900000100b28d49,0x814900000800c7814900000800c38148\n"
+    ".octa 0x8348f289490000027a860f00000100f9,0x841f0f2e66f6314c74fffe,0xff0f354100fe0f34c100fd0f344100f\n"
+    ".octa 0x54110fd8f34c110fc8f344110ff31c10,0x100fe814808c68348f8f35c110fe8f3,0x841f0f2e668aebcc750000\n"
+    ".octa 0x410000080033b48b490be6c148f6894c,0x841f0f2e666600000800b9,0x4be80f74894bf00f74894bf80f74894b\n"
+    ".octa 0x4cffffff41e9e675e0c18349e00f7489,0x8949d72948c7894c0f8b48c82948c089,0x6d840fff854800000093830ff22949d2\n"
+    ".octa 0xfcbb49000001e4820f06ff8348000002,0x1d1840fda854d1fffffffffffff,0x8d4903e28341fa8941fce38349fb8949\n"
+    ".octa 0x294cd91c8d4800000000d5348d4c301c,0xde894df0c08349c1048d4ef0c38348f3,0x841f0f2e66ff3145def749\n"
+    ".octa 0xfb0c110f42f80c100f43f0f844100f43,0x4ce175fe394dfcc78349f0fb44110f42,0xd03949000001e3e90000016c850fdf39\n"
+    ".octa 0x1ad820f06ff8348000001da840f,0x1ffffffffffffffcba49d02949f08949,0xfce08349f8894900000194840fd0854d\n"
+    ".octa 0x10c38349d11c8d4c10c28349f1148d4c,0x841f0f2e6666666666db31,0xda44110f41db0c100f41f0db44100f41\n"
+    ".octa 0x4ce175d8394904c38348da0c110f41f0,0xc0854d00000163e900000148850fc739,0x48697206f98349db3145000001fa840f\n"
+    ".octa 0x587220fb8348dbf74800000000f51c8d,0x348d4edbf748db894cfce38349cb894d,0x49c1148d4ece0149d6294dffffffe8c5\n"
+    ".octa 0x841f0f2e66ff3145e8c283,0xfa0c110f43fe0c100f43f0fe44100f43,0x4de175fb394cfcc78349f0fa44110f43\n"
+    ".octa 0x48de014c330c8d4d00000188840fd939,0xf0c18349c90149d9f74903e1c149c6ff,0x90f0c2834919148d4edbf74903e3c149\n"
+    ".octa 0xf075c6394cc8ff49c21c894fc11c8b4f,0x4c00000114840ffffe83480000014be9,0x130840ff2394800000000f5148d\n"
+    ".octa 0xd4e9f63100000097830f04f98349,0x7a8d491a7401c2f641d7894cfa894900,0x321c8d4dc1048b4ec8ff4912048d4dff\n"
+    ".octa 0x348d48537401fa8349d904894ecbff49,0xfa8948f8c18348d10c8d48f8c68348f1,0xf9448b4cfec28348fe04894cf9048b4c\n"
+    ".octa 0xc0314523ebe575d78948f8fe44894cf8,0x841f0fd10c8d48f1348d48,0xf075c7394cc0ff49c614894ac1148b4a\n"
+    ".octa 0x9ae9018949000000a2860f013949,0x83490a048d4d000001fce681ce894400,0x841f0f2e6666db314518c0\n"
+    ".octa 0xd844110f43d80c100f43f0d844100f43,0xe075de394c04c38349f8d84c110f43e8,0x1f0f08c0834911048d4e4b74f13949\n"
+    ".octa 0x75f13949c6ff48f8f054894df0148b4d,0xc08149f8c1748b4a2874c0854d2debef,0x841f0f2e666666fffffeff\n"
+    ".octa 0xf075c2394dc8ff49000007f8c1b4894a,0x5f415e415b10478948085789480f8948\n"
+    ".byte 0xc3\n"
+    ".section .text.tcp.43,\"ax\",%progbits\n"
+    ".balign 16\n"
+    ".Ltcp43:\n"
     ".type \"tcp_replay::party::Party::emit::<#244039bd4e0652a3>\",%function\n"
     ".size \"tcp_replay::party::Party::emit::<#244039bd4e0652a3>\",4751\n"
     "\"tcp_replay::party::Party::emit::<#244039bd4e0652a3>\":\n"
@@ -6857,24 +6918,24 @@ __asm__(
     ".octa 0x58e92024748b482824548b4850245c8b\n"
     ".short 0xffef\n"
     ".byte 0xff\n"
-    ".reloc .Ltcp42+182,R_X86_64_PLT32,.Ltcp43-4\n"
-    ".reloc .Ltcp42+431,R_X86_64_PLT32,.Ltcp45-4\n"
-    ".reloc .Ltcp42+463,R_X86_64_PLT32,.Ltcp48-4\n"
-    ".reloc .Ltcp42+476,R_X86_64_PC32,.Ltcp101-4\n"
-    ".reloc .Ltcp42+820,R_X86_64_PLT32,.Ltcp51-4\n"
-    ".reloc .Ltcp42+1149,R_X86_64_PLT32,.Ltcp50-4\n"
-    ".reloc .Ltcp42+2065,R_X86_64_PLT32,.Ltcp51-4\n"
-    ".reloc .Ltcp42+2591,R_X86_64_PLT32,.Ltcp44-4\n"
-    ".reloc .Ltcp42+3227,R_X86_64_PC32,.Ltcp101-4\n"
-    ".reloc .Ltcp42+3501,R_X86_64_PLT32,.Ltcp38-4\n"
-    ".reloc .Ltcp42+3560,R_X86_64_PLT32,.Ltcp38-4\n"
-    ".reloc .Ltcp42+4001,R_X86_64_PLT32,.Ltcp52-4\n"
-    ".reloc .Ltcp42+4446,R_X86_64_PC32,.Ltcp101-4\n"
-    ".reloc .Ltcp42+4651,R_X86_64_PLT32,.Ltcp46-4\n"
-    ".reloc .Ltcp42+4704,R_X86_64_PLT32,.Ltcp52-4\n"
-    ".section .text.tcp.43,\"ax\",%progbits\n"
+    ".reloc .Ltcp43+182,R_X86_64_PLT32,.Ltcp44-4\n"
+    ".reloc .Ltcp43+431,R_X86_64_PLT32,.Ltcp46-4\n"
+    ".reloc .Ltcp43+463,R_X86_64_PLT32,.Ltcp49-4\n"
+    ".reloc .Ltcp43+476,R_X86_64_PC32,.Ltcp102-4\n"
+    ".reloc .Ltcp43+820,R_X86_64_PLT32,.Ltcp52-4\n"
+    ".reloc .Ltcp43+1149,R_X86_64_PLT32,.Ltcp51-4\n"
+    ".reloc .Ltcp43+2065,R_X86_64_PLT32,.Ltcp52-4\n"
+    ".reloc .Ltcp43+2591,R_X86_64_PLT32,.Ltcp45-4\n"
+    ".reloc .Ltcp43+3227,R_X86_64_PC32,.Ltcp102-4\n"
+    ".reloc .Ltcp43+3501,R_X86_64_PLT32,.Ltcp38-4\n"
+    ".reloc .Ltcp43+3560,R_X86_64_PLT32,.Ltcp38-4\n"
+    ".reloc .Ltcp43+4001,R_X86_64_PLT32,.Ltcp53-4\n"
+    ".reloc .Ltcp43+4446,R_X86_64_PC32,.Ltcp102-4\n"
+    ".reloc .Ltcp43+4651,R_X86_64_PLT32,.Ltcp47-4\n"
+    ".reloc .Ltcp43+4704,R_X86_64_PLT32,.Ltcp53-4\n"
+    ".section .text.tcp.44,\"ax\",%progbits\n"
     ".balign 16\n"
-    ".Ltcp43:\n"
+    ".Ltcp44:\n"
     ".type \"tcp_replay::growth::emit_alone::<#b999dbadf68999a9>\",%function\n"
     ".size \"tcp_replay::growth::emit_alone::<#b999dbadf68999a9>\",836\n"
     "\"tcp_replay::growth::emit_alone::<#b999dbadf68999a9>\":\n"
@@ -6906,11 +6967,11 @@ __asm__(
     ".long 0x83e93067\n"
     ".short 0xfffd\n"
     ".byte 0xff\n"
-    ".reloc .Ltcp43+365,R_X86_64_PLT32,.Ltcp50-4\n"
-    ".reloc .Ltcp43+427,R_X86_64_PLT32,.Ltcp44-4\n"
-    ".section .text.tcp.44,\"ax\",%progbits\n"
+    ".reloc .Ltcp44+365,R_X86_64_PLT32,.Ltcp51-4\n"
+    ".reloc .Ltcp44+427,R_X86_64_PLT32,.Ltcp45-4\n"
+    ".section .text.tcp.45,\"ax\",%progbits\n"
     ".balign 16\n"
-    ".Ltcp44:\n"
+    ".Ltcp45:\n"
     ".type \"std_alloc::vec::Vec::grow_amortized::<#d48bdf10996749c1>\",%function\n"
     ".size \"std_alloc::vec::Vec::grow_amortized::<#d48bdf10996749c1>\",890\n"
     "\"std_alloc::vec::Vec::grow_amortized::<#d48bdf10996749c1>\":\n"
@@ -6940,9 +7001,9 @@ __asm__(
     ".octa 0xf201054110f201654100f10164c100f,0x75d1394830c283481004110f10104c11\n"
     ".long 0xfd7be9db\n"
     ".short 0xffff\n"
-    ".section .text.tcp.45,\"ax\",%progbits\n"
+    ".section .text.tcp.46,\"ax\",%progbits\n"
     ".balign 16\n"
-    ".Ltcp45:\n"
+    ".Ltcp46:\n"
     ".type \"tcp_conn::endpoint::Endpoint::write_reset::<#4d7786d65df9050b>\",%function\n"
     ".size \"tcp_conn::endpoint::Endpoint::write_reset::<#4d7786d65df9050b>\",254\n"
     "\"tcp_conn::endpoint::Endpoint::write_reset::<#4d7786d65df9050b>\":\n"
@@ -6954,9 +7015,9 @@ __asm__(
     ".quad 0x10518966d0440fc0\n"
     ".long 0x14b8\n"
     ".short 0xc300\n"
-    ".section .text.tcp.46,\"ax\",%progbits\n"
+    ".section .text.tcp.47,\"ax\",%progbits\n"
     ".balign 16\n"
-    ".Ltcp46:\n"
+    ".Ltcp47:\n"
     ".type \"tcp_wire::encoding::write_unsummed\",%function\n"
     ".size \"tcp_wire::encoding::write_unsummed\",897\n"
     "\"tcp_wire::encoding::write_unsummed\":\n"
@@ -6985,21 +7046,21 @@ __asm__(
     ".octa 0x415d415c415b48c48348c88948e90148\n"
     ".long 0x5d5f415e\n"
     ".byte 0xc3\n"
-    ".reloc .Ltcp46+175,R_X86_64_PC32,.Ltcp47-4\n"
-    ".section .rodata.tcp.47,\"a\",%progbits\n"
+    ".reloc .Ltcp47+175,R_X86_64_PC32,.Ltcp48-4\n"
+    ".section .rodata.tcp.48,\"a\",%progbits\n"
     ".balign 4\n"
-    ".Ltcp47:\n"
+    ".Ltcp48:\n"
     ".octa 0x0\n"
     ".quad 0x0\n"
-    ".reloc .Ltcp47+0,R_X86_64_PC32,.Ltcp46+188\n"
-    ".reloc .Ltcp47+4,R_X86_64_PC32,.Ltcp46+259\n"
-    ".reloc .Ltcp47+8,R_X86_64_PC32,.Ltcp46+107\n"
-    ".reloc .Ltcp47+12,R_X86_64_PC32,.Ltcp46+255\n"
-    ".reloc .Ltcp47+16,R_X86_64_PC32,.Ltcp46+214\n"
-    ".reloc .Ltcp47+20,R_X86_64_PC32,.Ltcp46+302\n"
-    ".section .text.tcp.48,\"ax\",%progbits\n"
+    ".reloc .Ltcp48+0,R_X86_64_PC32,.Ltcp47+188\n"
+    ".reloc .Ltcp48+4,R_X86_64_PC32,.Ltcp47+259\n"
+    ".reloc .Ltcp48+8,R_X86_64_PC32,.Ltcp47+107\n"
+    ".reloc .Ltcp48+12,R_X86_64_PC32,.Ltcp47+255\n"
+    ".reloc .Ltcp48+16,R_X86_64_PC32,.Ltcp47+214\n"
+    ".reloc .Ltcp48+20,R_X86_64_PC32,.Ltcp47+302\n"
+    ".section .text.tcp.49,\"ax\",%progbits\n"
     ".balign 16\n"
-    ".Ltcp48:\n"
+    ".Ltcp49:\n"
     ".type \"tcp_conn::endpoint::Endpoint::write_syn::<#4d7786d65df9050b>\",%function\n"
     ".size \"tcp_conn::endpoint::Endpoint::write_syn::<#4d7786d65df9050b>\",1171\n"
     "\"tcp_conn::endpoint::Endpoint::write_syn::<#4d7786d65df9050b>\":\n"
@@ -7041,11 +7102,11 @@ __asm__(
     ".quad 0x415c415b00000270\n"
     ".long 0x5d5f415e\n"
     ".byte 0xc3\n"
-    ".reloc .Ltcp48+531,R_X86_64_PLT32,.Ltcp46-4\n"
-    ".reloc .Ltcp48+614,R_X86_64_PLT32,.Ltcp8-4\n"
-    ".section .text.tcp.49,\"ax\",%progbits\n"
+    ".reloc .Ltcp49+531,R_X86_64_PLT32,.Ltcp47-4\n"
+    ".reloc .Ltcp49+614,R_X86_64_PLT32,.Ltcp8-4\n"
+    ".section .text.tcp.50,\"ax\",%progbits\n"
     ".balign 16\n"
-    ".Ltcp49:\n"
+    ".Ltcp50:\n"
     ".type \"tcp_sendq::ring::copy_over_end\",%function\n"
     ".size \"tcp_sendq::ring::copy_over_end\",577\n"
     "\"tcp_sendq::ring::copy_over_end\":\n"
@@ -7072,9 +7133,9 @@ __asm__(
     ".octa 0x415b08c48348f075c33948c0ff48070c\n"
     ".quad 0x5d5f415e415d415c\n"
     ".byte 0xc3\n"
-    ".section .text.tcp.50,\"ax\",%progbits\n"
+    ".section .text.tcp.51,\"ax\",%progbits\n"
     ".balign 16\n"
-    ".Ltcp50:\n"
+    ".Ltcp51:\n"
     ".type \"tcp_conn::endpoint::Endpoint::write_blocks::<#4d7786d65df9050b>\",%function\n"
     ".size \"tcp_conn::endpoint::Endpoint::write_blocks::<#4d7786d65df9050b>\",2447\n"
     "\"tcp_conn::endpoint::Endpoint::write_blocks::<#4d7786d65df9050b>\":\n"
@@ -7135,31 +7196,34 @@ __asm__(
     ".octa 0x3949ef75d6394c04c28349101c894711\n"
     ".quad 0xe9fffffcc9840ff1\n"
     ".long 0xfffffbdc\n"
-    ".reloc .Ltcp50+1502,R_X86_64_PLT32,.Ltcp49-4\n"
-    ".reloc .Ltcp50+1651,R_X86_64_PLT32,.Ltcp46-4\n"
-    ".reloc .Ltcp50+1734,R_X86_64_PLT32,.Ltcp8-4\n"
-    ".section .text.tcp.51,\"ax\",%progbits\n"
-    ".balign 16\n"
-    ".Ltcp51:\n"
-    ".type \"tcp_halves::sender::Sender::due::<#4d7786d65df9050b>\",%function\n"
-    ".size \"tcp_halves::sender::Sender::due::<#4d7786d65df9050b>\",564\n"
-    "\"tcp_halves::sender::Sender::due::<#4d7786d65df9050b>\":\n"
-    ".octa 0xf88949c5894453544155415641574155,0x7e8b4c000000d4850f0e8b4c01687e80,0x45c7ff48107e8b48f9470f4df9394d70\n"
-    ".octa 0x485e8b48da420f4dfb2949fb894dd231,0xfc244c892574f6854df4894d50768b4c,0xd3448b420000016e850f01fe8349e989\n"
-    ".octa 0x244c8bcd89d4894dffda8349c3394904,0x3949e3048b420e73f4394d28568b4cfc,0xfc860fda394d04e35c8b460572c3\n"
-    ".octa 0x45ea89fc2454892474f6854df7894d00,0xfb048b4200000159850f01fe8349ff31,0xd4894dfc24548bd589ffdf8349c33949\n"
-    ".octa 0x1c8d4978768b4cfb248b460473f7394d,0x4de6394ddc294dc2b70f2676de29493b,0xbbe9c031e0430f4cc43949e6420f\n"
-    ".octa 0x80868bc7ff4828568b4c107e8b4800,0xc9310b76f1394908768b48c101490000,0x8949c031c9b60f03ebc9430f49f12949\n"
-    ".octa 0xf4cd9294dd1894dd8420f4cfb2949f3,0x4cc13949c9420f4cc9394cc2b70fc842,0x490000000100c7491974c9854dc8430f\n"
-    ".octa 0xeb1848894d10708949000000010840c7,0x48e82040c931c0940ffe3948d7014c5e,0x4908408949c001008949c0b60fce450f\n"
-    ".octa 0x1c8d4932eb000000001840c749104889,0x830f785e3b48ffffff62870fdf39493a,0x100c74900000003b8e43145ffffff58\n"
-    ".octa 0x5b1860894d1058894908408949000000,0xf4894dd23145c35d5f415e415d415c41,0x841f0f2e66666666661beb\n"
-    ".octa 0xe5894dfffffe6f860f01fc8349ec294d,0xe072c3394904eb448b2a2c8d4bedd149,0x441f0f6613ebf4894ddbebea8949\n"
-    ".octa 0xe5894dfffffe8f860f01fc8349ec294d,0x49e172c33949eb048b2f2c8d4bedd149\n"
-    ".long 0xdcebef89\n"
+    ".reloc .Ltcp51+1502,R_X86_64_PLT32,.Ltcp50-4\n"
+    ".reloc .Ltcp51+1651,R_X86_64_PLT32,.Ltcp47-4\n"
+    ".reloc .Ltcp51+1734,R_X86_64_PLT32,.Ltcp8-4\n"
     ".section .text.tcp.52,\"ax\",%progbits\n"
     ".balign 16\n"
     ".Ltcp52:\n"
+    ".type \"tcp_halves::sender::Sender::due::<#4d7786d65df9050b>\",%function\n"
+    ".size \"tcp_halves::sender::Sender::due::<#4d7786d65df9050b>\",622\n"
+    "\"tcp_halves::sender::Sender::due::<#4d7786d65df9050b>\":\n"
+    ".octa 0x8b4c01687e8053544155415641574155,0xf4dea394d706e8b4c0000014a850f16,0xdb3145c1ff4928468b48104e8b4cea47\n"
+    ".octa 0x92860fd8394cdb430f4ccb294ceb894c,0x149444e8bec244c89e8245489000001,0x48ed8548ee8949506e8b48487e8b4ccb\n"
+    ".octa 0x8348f631452374e424448944f0246c89,0xc3394d04f7448b47000000a5850f01fd,0x3949f0246c8b48e424448b44ffde8349\n"
+    ".octa 0xf75c8b470572db3949f71c8b430e73ee,0x8be0394ccc2949f8244c8948dc894d04,0xed894900000118860fe824548bec244c\n"
+    ".octa 0x8b477b7501fd8348ed31452674ed8548,0x4c8be424448b44ffdd8349c3394def04,0x830fed3949f0246c8b48e824548bec24\n"
+    ".octa 0x4ccc014d786e8b48ef3c8b4700000125,0x801f0f00000123e96876e529,0xeb8948ffffff5b860f01fd8348dd2948\n"
+    ".octa 0x72c3394d04e7448b4733248d4eebd148,0x841f0f2e66daebe6894ddf,0x4eebd148eb8948857601fd8348dd2948\n"
+    ".octa 0xebf5894de472c3394df7048b472b348d,0x809e8b44c1ff4928468b48104e8b4cdf,0x310b76f2394908768b48da014d000000\n"
+    ".octa 0x49db31c9b60f03ebca430f49f22949c9,0x4cda294dc28949db420f4ccb294df389,0xd23949d1420f4cd1394cd2b70fd3420f\n"
+    ".octa 0x107c7483474d2854dd2430f4c,0x1857894c10778948000000010847c748,0x3b4c8e77e5394d08248d4e0000008ee9\n"
+    ".octa 0xc1014963eb00000003b9c03188737866,0xfce450f48c02044c931c0940fce394c,0x48104f894808478948c001078948c0b6\n"
+    ".octa 0x786e8b48ff31454aeb000000001847c7,0x24440348ffffff40860fe5294ccc014d,0xd8294ccab70fc7420f49f0246c3b4cf8\n"
+    ".octa 0xc931c1430f48c83948c5420f48c53948,0x481067894c084f89480000000107c748\n"
+    ".quad 0x5d415c415b184789\n"
+    ".long 0x5f415e41\n"
+    ".short 0xc35d\n"
+    ".section .text.tcp.53,\"ax\",%progbits\n"
+    ".balign 16\n"
+    ".Ltcp53:\n"
     ".type \"tcp_numbers::parts::checksum_in_parts\",%function\n"
     ".size \"tcp_numbers::parts::checksum_in_parts\",2630\n"
     "\"tcp_numbers::parts::checksum_in_parts\":\n"
@@ -7220,14 +7284,14 @@ __asm__(
     ".octa 0xc101d12910e2c1ca892fe9c148c8af0f,0x5d415c415b18c48348c1440fd0f7c889\n"
     ".long 0x5f415e41\n"
     ".short 0xc35d\n"
-    ".reloc .Ltcp52+83,R_X86_64_PLT32,.Ltcp8-4\n"
-    ".reloc .Ltcp52+668,R_X86_64_PLT32,.Ltcp8-4\n"
-    ".reloc .Ltcp52+681,R_X86_64_PLT32,.Ltcp8-4\n"
-    ".reloc .Ltcp52+1180,R_X86_64_PLT32,.Ltcp8-4\n"
-    ".reloc .Ltcp52+2074,R_X86_64_PLT32,.Ltcp8-4\n"
-    ".section .text.tcp.53,\"ax\",%progbits\n"
+    ".reloc .Ltcp53+83,R_X86_64_PLT32,.Ltcp8-4\n"
+    ".reloc .Ltcp53+668,R_X86_64_PLT32,.Ltcp8-4\n"
+    ".reloc .Ltcp53+681,R_X86_64_PLT32,.Ltcp8-4\n"
+    ".reloc .Ltcp53+1180,R_X86_64_PLT32,.Ltcp8-4\n"
+    ".reloc .Ltcp53+2074,R_X86_64_PLT32,.Ltcp8-4\n"
+    ".section .text.tcp.54,\"ax\",%progbits\n"
     ".balign 16\n"
-    ".Ltcp53:\n"
+    ".Ltcp54:\n"
     ".type \"tcp_replay::party::Party::take_in::<#244039bd4e0652a3>\",%function\n"
     ".size \"tcp_replay::party::Party::take_in::<#244039bd4e0652a3>\",2290\n"
     "\"tcp_replay::party::Party::take_in::<#244039bd4e0652a3>\":\n"
@@ -7255,7 +7319,7 @@ __asm__(
     ".octa 0xc1d08944202444881271b70f45d40949,0xe8c1d08944082454894c2724448818e8,0x4c21245c894408ebc149252444896608\n"
     ".octa 0x4d30247489446608c6c1416628246489,0x2444c70000322444c76614418d49cf01,0x481024448b4838244489480000000034\n"
     ".octa 0x8b4c502444894c48247c894c40244489,0x75345b384101b141047bb70f4518245c,0x364b38411f753543384108e8c1d8892a\n"
-    ".octa 0x44b70f0e753743384118e8c1d8891975,0x75fd394466c1950f4138433b41662024,0x74c18441c0930f02fd83306bb60f4110\n"
+    ".octa 0x44b70f0e753743384118e8c1d8891975,0x75ef394166c1950f4138433b41662024,0x74c18441c0930f02fd83306bb60f4110\n"
     ".octa 0x31df894cff894920244c8d48f631453b,0x1b8ff894c00000000e8da89f6,0xc48348105789480877894c078948d231\n"
     ".octa 0x83fd458dc35d5f415e415d415c415b68,0x45000000d48b8b450000008d830f08f8,0xe7894500000110ab8b4500000108a38b\n"
     ".octa 0x4848738b4d404b8b4908538b45ef2945,0x44c0114101e2ba0f01e083d08924148b,0x840fc0854500000088840fc00944f889\n"
@@ -7280,48 +7344,43 @@ __asm__(
     ".octa 0x4cc8490f49c98545ffffff7a820ff389,0x482024748d4c00000000e8ce8948db89,0xe8df894800000000e8f6894cdf89\n"
     ".octa 0xdf894800000000e8f6894cdf89480000,0xff47e900000003b800000000e8f6894c\n"
     ".short 0xffff\n"
-    ".reloc .Ltcp53+158,R_X86_64_PLT32,.Ltcp8-4\n"
-    ".reloc .Ltcp53+1220,R_X86_64_PLT32,.Ltcp67-4\n"
-    ".reloc .Ltcp53+2001,R_X86_64_PLT32,.Ltcp67-4\n"
-    ".reloc .Ltcp53+2024,R_X86_64_PLT32,.Ltcp54-4\n"
-    ".reloc .Ltcp53+2046,R_X86_64_PLT32,.Ltcp67-4\n"
-    ".reloc .Ltcp53+2056,R_X86_64_PC32,.Ltcp183-4\n"
-    ".reloc .Ltcp53+2096,R_X86_64_PLT32,.Ltcp67-4\n"
-    ".reloc .Ltcp53+2139,R_X86_64_PLT32,.Ltcp55-4\n"
-    ".reloc .Ltcp53+2154,R_X86_64_PLT32,.Ltcp56-4\n"
-    ".reloc .Ltcp53+2164,R_X86_64_PLT32,.Ltcp60-4\n"
-    ".reloc .Ltcp53+2230,R_X86_64_PLT32,.Ltcp55-4\n"
-    ".reloc .Ltcp53+2246,R_X86_64_PLT32,.Ltcp56-4\n"
-    ".reloc .Ltcp53+2254,R_X86_64_PLT32,.Ltcp60-4\n"
-    ".reloc .Ltcp53+2265,R_X86_64_PLT32,.Ltcp62-4\n"
-    ".reloc .Ltcp53+2276,R_X86_64_PLT32,.Ltcp66-4\n"
-    ".section .text.tcp.54,\"ax\",%progbits\n"
+    ".reloc .Ltcp54+158,R_X86_64_PLT32,.Ltcp8-4\n"
+    ".reloc .Ltcp54+1220,R_X86_64_PLT32,.Ltcp68-4\n"
+    ".reloc .Ltcp54+2001,R_X86_64_PLT32,.Ltcp68-4\n"
+    ".reloc .Ltcp54+2024,R_X86_64_PLT32,.Ltcp55-4\n"
+    ".reloc .Ltcp54+2046,R_X86_64_PLT32,.Ltcp68-4\n"
+    ".reloc .Ltcp54+2056,R_X86_64_PC32,.Ltcp184-4\n"
+    ".reloc .Ltcp54+2096,R_X86_64_PLT32,.Ltcp68-4\n"
+    ".reloc .Ltcp54+2139,R_X86_64_PLT32,.Ltcp56-4\n"
+    ".reloc .Ltcp54+2154,R_X86_64_PLT32,.Ltcp57-4\n"
+    ".reloc .Ltcp54+2164,R_X86_64_PLT32,.Ltcp61-4\n"
+    ".reloc .Ltcp54+2230,R_X86_64_PLT32,.Ltcp56-4\n"
+    ".reloc .Ltcp54+2246,R_X86_64_PLT32,.Ltcp57-4\n"
+    ".reloc .Ltcp54+2254,R_X86_64_PLT32,.Ltcp61-4\n"
+    ".reloc .Ltcp54+2265,R_X86_64_PLT32,.Ltcp63-4\n"
+    ".reloc .Ltcp54+2276,R_X86_64_PLT32,.Ltcp67-4\n"
+    ".section .text.tcp.55,\"ax\",%progbits\n"
     ".balign 16\n"
-    ".Ltcp54:\n"
+    ".Ltcp55:\n"
     ".type \"tcp_conn::endpoint::Endpoint::judge_syn_sent::<#4d7786d65df9050b>\",%function\n"
     ".size \"tcp_conn::endpoint::Endpoint::judge_syn_sent::<#4d7786d65df9050b>\",104\n"
     "\"tcp_conn::endpoint::Endpoint::judge_syn_sent::<#4d7786d65df9050b>\":\n"
     ".octa 0xce29c101084f8b40478b48187410c2f6,0x4c2f63d7548473b482a78f685f00148,0xc3040402e0c0c0940f12c2f6d2f60e75\n"
     ".octa 0xc1440f00000007b800000001b910c2f6,0xf029480000000100000000be48c931c3,0xf04c2f6c031c37448473b48c1420f48\n"
     ".quad 0xc3c0ff80048dc094\n"
-    ".section .text.tcp.55,\"ax\",%progbits\n"
-    ".balign 16\n"
-    ".Ltcp55:\n"
-    ".type \"tcp_halves::sender::Sender::take_ack::<#4d7786d65df9050b>\",%function\n"
-    ".size \"tcp_halves::sender::Sender::take_ack::<#4d7786d65df9050b>\",285\n"
-    "\"tcp_halves::sender::Sender::take_ack::<#4d7786d65df9050b>\":\n"
-    ".octa 0x9870f08773b4800000113830f373948,0x3101418d4c28578b48104f8b48000001,0xf48c23948c1430f49c1294df18949c0\n"
-    ".octa 0x48d18948104f8948c10148378948c242,0x4830778b4820578b482073d13948c129,0x48c6294cc2430f4cd63948c03145c601\n"
-    ".octa 0x50778b48484f8b4853284f8948307789,0x3f74f685485047110fc0570f58578b48,0x841f0f2e66c03145c93145\n"
-    ".octa 0xd1420f45c2294104c15c8b46c1148b46,0x4c15c8946d9420f45c32941c1148946,0x4550ebf08949d675c6394cc0ff491276\n"
-    ".octa 0x1f0f4273f1394901488d4d4bebc031,0x2941db3104c95c8b46c9048b46c2894d,0x44c32941c03145c9048946c3420f44c0\n"
-    ".octa 0xc91c8b4ec0970f4104c95c8946db420f,0x48c175ce394cc1ff49d0014dd11c894e\n"
-    ".quad 0x485047894c484f89\n"
-    ".long 0x5b585789\n"
-    ".byte 0xc3\n"
     ".section .text.tcp.56,\"ax\",%progbits\n"
     ".balign 16\n"
     ".Ltcp56:\n"
+    ".type \"tcp_halves::sender::Sender::take_ack::<#4d7786d65df9050b>\",%function\n"
+    ".size \"tcp_halves::sender::Sender::take_ack::<#4d7786d65df9050b>\",65\n"
+    "\"tcp_halves::sender::Sender::take_ack::<#4d7786d65df9050b>\":\n"
+    ".octa 0x104f8b48c3017608773b480673373948,0xc1294df18949c03101418d4c28578b48,0x148378948c2420f48c23948c1430f49\n"
+    ".octa 0xe9c6894818c78348104f8948c1\n"
+    ".byte 0x0\n"
+    ".reloc .Ltcp56+61,R_X86_64_PLT32,.Ltcp41-4\n"
+    ".section .text.tcp.57,\"ax\",%progbits\n"
+    ".balign 16\n"
+    ".Ltcp57:\n"
     ".type \"tcp_conn::endpoint::Endpoint::take_window_and_blocks::<#4d7786d65df9050b>\",%function\n"
     ".size \"tcp_conn::endpoint::Endpoint::take_window_and_blocks::<#4d7786d65df9050b>\",174\n"
     "\"tcp_conn::endpoint::Endpoint::take_window_and_blocks::<#4d7786d65df9050b>\":\n"
@@ -7332,53 +7391,36 @@ __asm__(
     ".quad 0x18768b480974d285\n"
     ".long 0xe9\n"
     ".short 0xc300\n"
-    ".reloc .Ltcp56+169,R_X86_64_PLT32,.Ltcp57-4\n"
-    ".section .text.tcp.57,\"ax\",%progbits\n"
-    ".balign 16\n"
-    ".Ltcp57:\n"
-    ".type \"tcp_conn::endpoint::Endpoint::take_blocks::<#4d7786d65df9050b>\",%function\n"
-    ".size \"tcp_conn::endpoint::Endpoint::take_blocks::<#4d7786d65df9050b>\",1335\n"
-    "\"tcp_conn::endpoint::Endpoint::take_blocks::<#4d7786d65df9050b>\":\n"
-    ".octa 0xf8ec814853544155415641574155,0x2484290fc0570f085f8b08247c894800,0x2484290f000000a02484290f000000b0\n"
-    ".octa 0xc02484c74800000090,0x88249489480000008024b48948,0x8024b48d480000009024bc8d48\n"
-    ".octa 0xb2850f010000009024bc8000000000e8,0x4800000088888d480824448b48000004,0x48602444894800000090054818244c89\n"
-    ".octa 0x841f0f2e662deb38245c89,0x8024b48d480000009024bc8d48,0x62850f010000009024bc8000000000e8\n"
-    ".octa 0x8245c8b4c040000009824bc80000004,0x894c20708b4c000000a024848d48ce75,0x8c290f1048100f00100f000000f024b4\n"
-    ".octa 0xf6854d000000d02484290f000000e024,0x247c8b4836eb000000d024848d4c9e74,0x245c8b4c00000000e8e18944fa894418\n"
-    ".octa 0x841f0f2e66666666666608,0xff5e840fceff4908c083496824448b4c,0x8d48d62903148d40438b49308b41ffff\n"
-    ".octa 0x100000000bf48f6311379f685060c,0x48d62904708b41ce420f48f929480000,0xbf48f6311379682444894cf68530148d\n"
-    ".octa 0x49d6420f48fa29480000000100000000,0xcf8949c03145c6ff48687b8b4950738b,0x420f4df42949d48949f8420f4df72949\n"
-    ".octa 0x3948c0930fc83948e7420f4ce7394ce0,0xfe7394dffffff64850fc108c1930fd1,0x4dffffff51870f48533b49ffffff5b83\n"
-    ".octa 0xee894c00000090ab8b4d00000088838b,0x31000002a2850f01fd83491574ed854d,0x80838b4900d6834804f07c3945f6\n"
-    ".octa 0x830f1024748948ee394c482444894800,0xf5048d48402474894c000002bf,0xfff8ed048d4af00c8d4d702444894800\n"
-    ".octa 0x4838c08348f0048d495824448948ffff,0xfffeffc68149f62949ee894d50244489,0x2444894cd23145f0c78348e83c8d4bff\n"
-    ".octa 0x841f0f2e664bebcb894c20,0xab894d0000008883894d20edc148e889,0x988b894978244c8b4800000090\n"
-    ".octa 0xff49e5470f44e53944f8420f44f83944,0x215860ff53949f8c78348ceff49c2,0x98838b490000020f870f21394500\n"
-    ".octa 0x110f6024448b48c0570f782444894800,0x4c8b48f22948ea894ccdff49298b4900,0x247c894800000101fa8148f089487024\n"
-    ".octa 0xd5048d4a00000119820f282454894c30,0x31c629485824748b48f1894800000000,0xebc8894850244c8b4cc8894df2894dff\n"
-    ".octa 0x841f0f2e66666666666640,0x49c7ff48c22948ea894c000001000548,0x918d4c00000800c0814900000800c181\n"
-    ".octa 0x8f860f00000100fa8148ffffff00,0x401f0fd2314674fff88348d1894c00,0x54100f41e0d14c100f41d0d144100f41\n"
-    ".octa 0x110f41c8d144110f41d11c100f41f0d1,0x48f8d15c110f41e8d154110f41d8d14c,0x906682ebc47500000100fa814808c283\n"
-    ".octa 0x410000080013948b480be2c148fa8948,0x841f0f2e666600000800ba,0x4be81054894bf01054894bf81054894b\n"
-    ".octa 0x90ffffff41e9e675e0c28349e0105489,0x8b4800000000c50c8d485e74fff88348,0x30247c8b48d989492024448b4c102474\n"
-    ".octa 0x8d49fffffe52840fc539492824548b4c\n"
-    ".quad 0x834808348d49083c\n"
-    ".long 0xc14808c6\n"
-    ".short 0x3e2\n"
-    "call memmove\n"
-    ".octa 0x448b4cd9894930247c8b482824548b4c,0xfffe1ce908245c8b4c1024748b482024,0x4830247c8b4830048b492024448b4cff\n"
-    ".octa 0x662824548b4cd989491024748b48fa89,0x289480000000000841f0f2e66666666,0xc931fffffddfe9f475c9ff48f8c28348\n"
-    ".octa 0xd029480000000000841f0f18ebe8894c,0xc28948fffffd41860f01f88348f18948,0x8948df7204f07c39450a348d48ead148\n"
-    ".octa 0x4024748b4c38245c8b48f58949daebce,0x98838b49fffffc42860f48246c394c,0xfffc08850ffffffc0e820fc539490000\n"
-    ".octa 0x1024748b4800000000e818247c8b48ff,0xfc0be9fffffbec850fc08408245c8b4c,0x5e415d415c415b000000f8c48148ffff\n"
-    ".long 0xc35d5f41\n"
-    ".reloc .Ltcp57+97,R_X86_64_PLT32,.Ltcp9-4\n"
-    ".reloc .Ltcp57+177,R_X86_64_PLT32,.Ltcp9-4\n"
-    ".reloc .Ltcp57+280,R_X86_64_PLT32,.Ltcp59-4\n"
-    ".reloc .Ltcp57+1290,R_X86_64_PLT32,.Ltcp58-4\n"
+    ".reloc .Ltcp57+169,R_X86_64_PLT32,.Ltcp58-4\n"
     ".section .text.tcp.58,\"ax\",%progbits\n"
     ".balign 16\n"
     ".Ltcp58:\n"
+    ".type \"tcp_conn::endpoint::Endpoint::take_blocks::<#4d7786d65df9050b>\",%function\n"
+    ".size \"tcp_conn::endpoint::Endpoint::take_blocks::<#4d7786d65df9050b>\",649\n"
+    "\"tcp_conn::endpoint::Endpoint::take_blocks::<#4d7786d65df9050b>\":\n"
+    ".octa 0x88ec814853544155415641574155,0x402444290fc0570f087f8b44fb894800,0x502444c748202444290f302444290f\n"
+    ".octa 0x1f0f18245489481024748948000000,0x8000000000e81024748d4820247c8d48,0x750428247c800000021d850f0120247c\n"
+    ".octa 0x8024ac894c20688b4c3024448d48df,0x290f70244c290f1048100f00100f0000,0x413eeb60246c8d48b874ed854d602444\n"
+    ".octa 0x39fcd1448b41f0420f44f03944f1048b,0xc6ff4804f14c8941f1348945c8470fc8,0x401f0f00000000e800000088bb8d48\n"
+    ".octa 0x558bffffff73840fcdff4908c58348,0xd28502348d48ca29070c8d4140438b48,0x29480000000100000000bf48d2311379\n"
+    ".octa 0xd285103c8d48ca2904558bf2420f48fe,0x29480000000100000000ba48c9311379,0xc2ff4868438b4c50538b48f9420f48d7\n"
+    ".octa 0xf98948f1420f4dd62949f68949c93145,0x3948c8420f49c83949c9420f49d12948,0xff6e850fc208c2930ffe3948c0930ff0\n"
+    ".octa 0xf487b3b48ffffff65830fce3949ffff,0x84838b00000080bb8bffffff5b87,0xc6894c00000090838b4cc101c6014100\n"
+    ".octa 0x888b8b4c0000009d840fc0854d,0xc6920f4004713945f6311f7501f88349,0xdc820fd63948ffda8348d10c3b41d231\n"
+    ".octa 0x1f0f0febc0894cd2314571ebfffffe,0x49c38949167601f88348f28949d8294c,0xd6894ce37204f174394513348d4bebd1\n"
+    ".octa 0x90660bebc3894dd23104f1548b45deeb,0x49ecd149dc894d157601fb8349e3294d,0x3945e2ebc28948e777c10c394114048d\n"
+    ".octa 0xd63948ffda8348d10c3b4100d68348f2,0x48fffffe91830ff83949fffffe69820f,0xbb8d4814740272c0394900000098838b\n"
+    ".octa 0xfffe6fe900000000e8f2894400000088,0x824748948cc894900000088bb8d48ff,0xfc084e1894c0824748b4800000000e8\n"
+    ".octa 0x415b00000088c48148c6ebfffffe4b84\n"
+    ".quad 0x5d5f415e415d415c\n"
+    ".byte 0xc3\n"
+    ".reloc .Ltcp58+75,R_X86_64_PLT32,.Ltcp9-4\n"
+    ".reloc .Ltcp58+184,R_X86_64_PLT32,.Ltcp42-4\n"
+    ".reloc .Ltcp58+584,R_X86_64_PLT32,.Ltcp60-4\n"
+    ".reloc .Ltcp58+609,R_X86_64_PLT32,.Ltcp59-4\n"
+    ".section .text.tcp.59,\"ax\",%progbits\n"
+    ".balign 16\n"
+    ".Ltcp59:\n"
     ".type \"std_alloc::vec::Vec::grow_amortized::<#4a791bdeba1adbb6>\",%function\n"
     ".size \"std_alloc::vec::Vec::grow_amortized::<#4a791bdeba1adbb6>\",596\n"
     "\"std_alloc::vec::Vec::grow_amortized::<#4a791bdeba1adbb6>\":\n"
@@ -7399,9 +7441,9 @@ __asm__(
     ".quad 0xe075ed8440ff894c\n"
     ".long 0xfffea8e9\n"
     ".byte 0xff\n"
-    ".section .text.tcp.59,\"ax\",%progbits\n"
+    ".section .text.tcp.60,\"ax\",%progbits\n"
     ".balign 16\n"
-    ".Ltcp59:\n"
+    ".Ltcp60:\n"
     ".type \"std_alloc::vec::Vec::put_at::<#4a791bdeba1adbb6>\",%function\n"
     ".size \"std_alloc::vec::Vec::put_at::<#4a791bdeba1adbb6>\",708\n"
     "\"std_alloc::vec::Vec::put_at::<#4a791bdeba1adbb6>\":\n"
@@ -7421,37 +7463,37 @@ __asm__(
     ".octa 0xe075fb394cfcc78349f0fe4c110f43fe,0x90000000ffc18149d0294d1c74d33945,0x75c1394dc8ff49c014894ef8c0548b4e\n"
     ".octa 0x8948f0148948ca0948d28920e1c148ef,0x415b08477f0ff30000000005d40f6607\n"
     ".long 0xc35f415e\n"
-    ".reloc .Ltcp59+693,R_X86_64_PC32,.Ltcp0+668\n"
-    ".section .text.tcp.60,\"ax\",%progbits\n"
+    ".reloc .Ltcp60+693,R_X86_64_PC32,.Ltcp0+668\n"
+    ".section .text.tcp.61,\"ax\",%progbits\n"
     ".balign 16\n"
-    ".Ltcp60:\n"
+    ".Ltcp61:\n"
     ".type \"tcp_conn::endpoint::Endpoint::take_own_fin::<#4d7786d65df9050b>\",%function\n"
     ".size \"tcp_conn::endpoint::Endpoint::take_own_fin::<#4d7786d65df9050b>\",104\n"
     "\"tcp_conn::endpoint::Endpoint::take_own_fin::<#4d7786d65df9050b>\":\n"
     ".octa 0x48d1014868578b48504f8b4848478b48,0x47b60f1475404739481a73c13948c1ff,0xffc8014881046348000000000d8d4830\n"
     ".octa 0x87c76601003047c766c30a3047c6c3e0,0xc0570f000000014287c6000000000140,0xb887c748000000a887110f\n"
     ".quad 0xc3063047c6c30000\n"
-    ".reloc .Ltcp60+36,R_X86_64_PC32,.Ltcp61-4\n"
-    ".section .rodata.tcp.61,\"a\",%progbits\n"
+    ".reloc .Ltcp61+36,R_X86_64_PC32,.Ltcp62-4\n"
+    ".section .rodata.tcp.62,\"a\",%progbits\n"
     ".balign 4\n"
-    ".Ltcp61:\n"
+    ".Ltcp62:\n"
     ".octa 0x0,0x0\n"
     ".quad 0x0\n"
     ".long 0x0\n"
-    ".reloc .Ltcp61+0,R_X86_64_PC32,.Ltcp60+49\n"
-    ".reloc .Ltcp61+4,R_X86_64_PC32,.Ltcp60+53\n"
-    ".reloc .Ltcp61+8,R_X86_64_PC32,.Ltcp60+57\n"
-    ".reloc .Ltcp61+12,R_X86_64_PC32,.Ltcp60+61\n"
-    ".reloc .Ltcp61+16,R_X86_64_PC32,.Ltcp60+65\n"
-    ".reloc .Ltcp61+20,R_X86_64_PC32,.Ltcp60+119\n"
-    ".reloc .Ltcp61+24,R_X86_64_PC32,.Ltcp60+73\n"
-    ".reloc .Ltcp61+28,R_X86_64_PC32,.Ltcp60+77\n"
-    ".reloc .Ltcp61+32,R_X86_64_PC32,.Ltcp60+82\n"
-    ".reloc .Ltcp61+36,R_X86_64_PC32,.Ltcp60+91\n"
-    ".reloc .Ltcp61+40,R_X86_64_PC32,.Ltcp60+89\n"
-    ".section .text.tcp.62,\"ax\",%progbits\n"
+    ".reloc .Ltcp62+0,R_X86_64_PC32,.Ltcp61+49\n"
+    ".reloc .Ltcp62+4,R_X86_64_PC32,.Ltcp61+53\n"
+    ".reloc .Ltcp62+8,R_X86_64_PC32,.Ltcp61+57\n"
+    ".reloc .Ltcp62+12,R_X86_64_PC32,.Ltcp61+61\n"
+    ".reloc .Ltcp62+16,R_X86_64_PC32,.Ltcp61+65\n"
+    ".reloc .Ltcp62+20,R_X86_64_PC32,.Ltcp61+119\n"
+    ".reloc .Ltcp62+24,R_X86_64_PC32,.Ltcp61+73\n"
+    ".reloc .Ltcp62+28,R_X86_64_PC32,.Ltcp61+77\n"
+    ".reloc .Ltcp62+32,R_X86_64_PC32,.Ltcp61+82\n"
+    ".reloc .Ltcp62+36,R_X86_64_PC32,.Ltcp61+91\n"
+    ".reloc .Ltcp62+40,R_X86_64_PC32,.Ltcp61+89\n"
+    ".section .text.tcp.63,\"ax\",%progbits\n"
     ".balign 16\n"
-    ".Ltcp62:\n"
+    ".Ltcp63:\n"
     ".type \"tcp_conn::endpoint::Endpoint::take_its_text::<#4d7786d65df9050b>\",%function\n"
     ".size \"tcp_conn::endpoint::Endpoint::take_its_text::<#4d7786d65df9050b>\",2179\n"
     "\"tcp_conn::endpoint::Endpoint::take_its_text::<#4d7786d65df9050b>\":\n"
@@ -7506,16 +7548,16 @@ __asm__(
     ".quad 0x10247c8b48f63145\n"
     ".long 0xffff73e9\n"
     ".byte 0xff\n"
-    ".reloc .Ltcp62+340,R_X86_64_PC32,.Ltcp0+684\n"
-    ".reloc .Ltcp62+612,R_X86_64_PLT32,.Ltcp63-4\n"
-    ".reloc .Ltcp62+897,R_X86_64_PC32,.Ltcp101-4\n"
-    ".reloc .Ltcp62+909,R_X86_64_PLT32,.Ltcp64-4\n"
-    ".reloc .Ltcp62+1093,R_X86_64_PC32,.Ltcp0+684\n"
-    ".reloc .Ltcp62+1660,R_X86_64_PLT32,.Ltcp63-4\n"
-    ".reloc .Ltcp62+2106,R_X86_64_PLT32,.Ltcp65-4\n"
-    ".section .text.tcp.63,\"ax\",%progbits\n"
+    ".reloc .Ltcp63+340,R_X86_64_PC32,.Ltcp0+684\n"
+    ".reloc .Ltcp63+612,R_X86_64_PLT32,.Ltcp64-4\n"
+    ".reloc .Ltcp63+897,R_X86_64_PC32,.Ltcp102-4\n"
+    ".reloc .Ltcp63+909,R_X86_64_PLT32,.Ltcp65-4\n"
+    ".reloc .Ltcp63+1093,R_X86_64_PC32,.Ltcp0+684\n"
+    ".reloc .Ltcp63+1660,R_X86_64_PLT32,.Ltcp64-4\n"
+    ".reloc .Ltcp63+2106,R_X86_64_PLT32,.Ltcp66-4\n"
+    ".section .text.tcp.64,\"ax\",%progbits\n"
     ".balign 16\n"
-    ".Ltcp63:\n"
+    ".Ltcp64:\n"
     ".type \"tcp_reasm::lay::lay::<#4d7786d65df9050b>\",%function\n"
     ".size \"tcp_reasm::lay::lay::<#4d7786d65df9050b>\",3690\n"
     "\"tcp_reasm::lay::lay::<#4d7786d65df9050b>\":\n"
@@ -7610,14 +7652,14 @@ __asm__(
     ".octa 0xfffffce7e9fffffd1c840f0824548b4c,0x86e900000000e8f9894cca894cdd894c,0x88c48148f1894cfa894cf631fffffc\n"
     ".octa 0xe95d5f415e415d415c415b0000\n"
     ".byte 0x0\n"
-    ".reloc .Ltcp63+1415,R_X86_64_PLT32,.Ltcp64-4\n"
-    ".reloc .Ltcp63+2028,R_X86_64_PLT32,.Ltcp64-4\n"
-    ".reloc .Ltcp63+2060,R_X86_64_PLT32,.Ltcp64-4\n"
-    ".reloc .Ltcp63+3651,R_X86_64_PLT32,.Ltcp64-4\n"
-    ".reloc .Ltcp63+3686,R_X86_64_PLT32,.Ltcp64-4\n"
-    ".section .text.tcp.64,\"ax\",%progbits\n"
+    ".reloc .Ltcp64+1415,R_X86_64_PLT32,.Ltcp65-4\n"
+    ".reloc .Ltcp64+2028,R_X86_64_PLT32,.Ltcp65-4\n"
+    ".reloc .Ltcp64+2060,R_X86_64_PLT32,.Ltcp65-4\n"
+    ".reloc .Ltcp64+3651,R_X86_64_PLT32,.Ltcp65-4\n"
+    ".reloc .Ltcp64+3686,R_X86_64_PLT32,.Ltcp65-4\n"
+    ".section .text.tcp.65,\"ax\",%progbits\n"
     ".balign 16\n"
-    ".Ltcp64:\n"
+    ".Ltcp65:\n"
     ".type \"tcp_reasm::ring::grow::<#4d7786d65df9050b>\",%function\n"
     ".size \"tcp_reasm::ring::grow::<#4d7786d65df9050b>\",590\n"
     "\"tcp_reasm::ring::grow::<#4d7786d65df9050b>\":\n"
@@ -7645,11 +7687,11 @@ __asm__(
     ".quad 0x25e9e2894ce98948\n"
     ".short 0xfffe\n"
     ".byte 0xff\n"
-    ".reloc .Ltcp64+492,R_X86_64_PLT32,.Ltcp38-4\n"
-    ".reloc .Ltcp64+536,R_X86_64_PLT32,.Ltcp38-4\n"
-    ".section .text.tcp.65,\"ax\",%progbits\n"
+    ".reloc .Ltcp65+492,R_X86_64_PLT32,.Ltcp38-4\n"
+    ".reloc .Ltcp65+536,R_X86_64_PLT32,.Ltcp38-4\n"
+    ".section .text.tcp.66,\"ax\",%progbits\n"
     ".balign 16\n"
-    ".Ltcp65:\n"
+    ".Ltcp66:\n"
     ".type \"std_alloc::vec::Vec::grow_amortized::<#223e4d609cd45952>\",%function\n"
     ".size \"std_alloc::vec::Vec::grow_amortized::<#223e4d609cd45952>\",596\n"
     "\"std_alloc::vec::Vec::grow_amortized::<#223e4d609cd45952>\":\n"
@@ -7670,9 +7712,9 @@ __asm__(
     ".quad 0xe075ed8440ff894c\n"
     ".long 0xfffea8e9\n"
     ".byte 0xff\n"
-    ".section .text.tcp.66,\"ax\",%progbits\n"
+    ".section .text.tcp.67,\"ax\",%progbits\n"
     ".balign 16\n"
-    ".Ltcp66:\n"
+    ".Ltcp67:\n"
     ".type \"tcp_conn::endpoint::Endpoint::take_fin::<#4d7786d65df9050b>\",%function\n"
     ".size \"tcp_conn::endpoint::Endpoint::take_fin::<#4d7786d65df9050b>\",102\n"
     "\"tcp_conn::endpoint::Endpoint::take_fin::<#4d7786d65df9050b>\":\n"
@@ -7680,52 +7722,56 @@ __asm__(
     ".octa 0xe087c6000000d48789c0ff31740000,0x87c7480b740000000128bf8348010000,0xa0807b803e1c00000000000000128\n"
     ".long 0x4788e8d3\n"
     ".short 0xc330\n"
-    ".section .text.tcp.67,\"ax\",%progbits\n"
+    ".section .text.tcp.68,\"ax\",%progbits\n"
     ".balign 16\n"
-    ".Ltcp67:\n"
+    ".Ltcp68:\n"
     ".type \"tcp_conn::endpoint::Endpoint::follow_other::<#4d7786d65df9050b>\",%function\n"
-    ".size \"tcp_conn::endpoint::Endpoint::follow_other::<#4d7786d65df9050b>\",273\n"
+    ".size \"tcp_conn::endpoint::Endpoint::follow_other::<#4d7786d65df9050b>\",363\n"
     "\"tcp_conn::endpoint::Endpoint::follow_other::<#4d7786d65df9050b>\":\n"
     ".octa 0x488604634800000000358d48c6b60f40,0x418bf6740100000144bf80c3e0fff001,0x9789000000010000014487c709b70f08\n"
-    ".octa 0x15087890000014c8f896600000148,0x2bec3000000000000015487c74800,0xf6f7510a80d41b60f00000000e90000\n"
-    ".octa 0x44103c0b60f001401e6ba0f0124f0b6,0x48d68959ebc0314500000001be304103,0x8000000000e9ce894800000000e9ca89\n"
-    ".octa 0x87c709b70f08418b2e740100000144bf,0x89660000014897890000000100000144,0x15487c7480000015087890000014c8f\n"
-    ".octa 0x8b44c3010000014187c6000000000000,0x31840f0100000144bf80c031f6310841,0x10000014487c709b70fffffff\n"
-    ".octa 0x8789440000014c8f8966000001489789,0x158878900000154b78900000150\n"
+    ".octa 0x15087890000014c8f896600000148,0xc76653c3000000000000015487c74800,0xa887110fc0570f58478d4802003047\n"
+    ".octa 0x778b4800000000000000b887c7480000,0x48d8894800000000e8c78948fb894868,0x128bb8348000000000000011083c7\n"
+    ".octa 0x12880c7480b745b0000,0x14280c600000000014080c766,0xba0f0124f0b60f6f7510a80d41b60fc3\n"
+    ".octa 0x1be304103044103c0b60f001401e6,0xe9ca8948d68959ebc031450000,0x100000144bf8000000000e9ce894800\n"
+    ".octa 0x10000014487c709b70f08418b2e74,0x890000014c8f89660000014897890000,0x15487c7480000015087\n"
+    ".octa 0xc031f63108418b44c3010000014187c6,0x9b70ffffffed7840f0100000144bf80,0x1489789000000010000014487c7\n"
+    ".octa 0xb789000001508789440000014c8f8966\n"
+    ".quad 0x158878900000154\n"
+    ".short 0x0\n"
     ".byte 0xc3\n"
-    ".reloc .Ltcp67+7,R_X86_64_PC32,.Ltcp68-4\n"
-    ".reloc .Ltcp67+83,R_X86_64_PLT32,.Ltcp41-4\n"
-    ".reloc .Ltcp67+131,R_X86_64_PLT32,.Ltcp69-4\n"
-    ".reloc .Ltcp67+139,R_X86_64_PLT32,.Ltcp71-4\n"
-    ".section .rodata.tcp.68,\"a\",%progbits\n"
+    ".reloc .Ltcp68+7,R_X86_64_PC32,.Ltcp69-4\n"
+    ".reloc .Ltcp68+120,R_X86_64_PLT32,.Ltcp41-4\n"
+    ".reloc .Ltcp68+221,R_X86_64_PLT32,.Ltcp70-4\n"
+    ".reloc .Ltcp68+229,R_X86_64_PLT32,.Ltcp72-4\n"
+    ".section .rodata.tcp.69,\"a\",%progbits\n"
     ".balign 4\n"
-    ".Ltcp68:\n"
+    ".Ltcp69:\n"
     ".octa 0x0,0x0,0x0\n"
     ".octa 0x0\n"
     ".quad 0x0\n"
     ".long 0x0\n"
-    ".reloc .Ltcp68+0,R_X86_64_PC32,.Ltcp67+20\n"
-    ".reloc .Ltcp68+4,R_X86_64_PC32,.Ltcp67+24\n"
-    ".reloc .Ltcp68+8,R_X86_64_PC32,.Ltcp67+95\n"
-    ".reloc .Ltcp68+12,R_X86_64_PC32,.Ltcp67+33\n"
-    ".reloc .Ltcp68+16,R_X86_64_PC32,.Ltcp67+36\n"
-    ".reloc .Ltcp68+20,R_X86_64_PC32,.Ltcp67+145\n"
-    ".reloc .Ltcp68+24,R_X86_64_PC32,.Ltcp67+45\n"
-    ".reloc .Ltcp68+28,R_X86_64_PC32,.Ltcp67+105\n"
-    ".reloc .Ltcp68+32,R_X86_64_PC32,.Ltcp67+167\n"
-    ".reloc .Ltcp68+36,R_X86_64_PC32,.Ltcp67+234\n"
-    ".reloc .Ltcp68+40,R_X86_64_PC32,.Ltcp67+117\n"
-    ".reloc .Ltcp68+44,R_X86_64_PC32,.Ltcp67+242\n"
-    ".reloc .Ltcp68+48,R_X86_64_PC32,.Ltcp67+246\n"
-    ".reloc .Ltcp68+52,R_X86_64_PC32,.Ltcp67+72\n"
-    ".reloc .Ltcp68+56,R_X86_64_PC32,.Ltcp67+254\n"
-    ".reloc .Ltcp68+60,R_X86_64_PC32,.Ltcp67+81\n"
-    ".reloc .Ltcp68+64,R_X86_64_PC32,.Ltcp67+207\n"
-    ".reloc .Ltcp68+68,R_X86_64_PC32,.Ltcp67+88\n"
-    ".reloc .Ltcp68+72,R_X86_64_PC32,.Ltcp67+92\n"
-    ".section .text.tcp.69,\"ax\",%progbits\n"
+    ".reloc .Ltcp69+0,R_X86_64_PC32,.Ltcp68+20\n"
+    ".reloc .Ltcp69+4,R_X86_64_PC32,.Ltcp68+24\n"
+    ".reloc .Ltcp69+8,R_X86_64_PC32,.Ltcp68+185\n"
+    ".reloc .Ltcp69+12,R_X86_64_PC32,.Ltcp68+33\n"
+    ".reloc .Ltcp69+16,R_X86_64_PC32,.Ltcp68+36\n"
+    ".reloc .Ltcp69+20,R_X86_64_PC32,.Ltcp68+235\n"
+    ".reloc .Ltcp69+24,R_X86_64_PC32,.Ltcp68+45\n"
+    ".reloc .Ltcp69+28,R_X86_64_PC32,.Ltcp68+105\n"
+    ".reloc .Ltcp69+32,R_X86_64_PC32,.Ltcp68+257\n"
+    ".reloc .Ltcp69+36,R_X86_64_PC32,.Ltcp68+324\n"
+    ".reloc .Ltcp69+40,R_X86_64_PC32,.Ltcp68+117\n"
+    ".reloc .Ltcp69+44,R_X86_64_PC32,.Ltcp68+332\n"
+    ".reloc .Ltcp69+48,R_X86_64_PC32,.Ltcp68+336\n"
+    ".reloc .Ltcp69+52,R_X86_64_PC32,.Ltcp68+72\n"
+    ".reloc .Ltcp69+56,R_X86_64_PC32,.Ltcp68+344\n"
+    ".reloc .Ltcp69+60,R_X86_64_PC32,.Ltcp68+81\n"
+    ".reloc .Ltcp69+64,R_X86_64_PC32,.Ltcp68+297\n"
+    ".reloc .Ltcp69+68,R_X86_64_PC32,.Ltcp68+88\n"
+    ".reloc .Ltcp69+72,R_X86_64_PC32,.Ltcp68+92\n"
+    ".section .text.tcp.70,\"ax\",%progbits\n"
     ".balign 16\n"
-    ".Ltcp69:\n"
+    ".Ltcp70:\n"
     ".type \"tcp_conn::endpoint::Endpoint::peer_opens::<#4d7786d65df9050b>\",%function\n"
     ".size \"tcp_conn::endpoint::Endpoint::peer_opens::<#4d7786d65df9050b>\",381\n"
     "\"tcp_conn::endpoint::Endpoint::peer_opens::<#4d7786d65df9050b>\":\n"
@@ -7740,23 +7786,23 @@ __asm__(
     ".quad 0x415d415c415b58c4\n"
     ".long 0x5d5f415e\n"
     ".byte 0xc3\n"
-    ".reloc .Ltcp69+81,R_X86_64_PLT32,.Ltcp9-4\n"
-    ".reloc .Ltcp69+139,R_X86_64_PLT32,.Ltcp9-4\n"
-    ".reloc .Ltcp69+158,R_X86_64_PC32,.Ltcp70-4\n"
-    ".section .rodata.tcp.70,\"a\",%progbits\n"
+    ".reloc .Ltcp70+81,R_X86_64_PLT32,.Ltcp9-4\n"
+    ".reloc .Ltcp70+139,R_X86_64_PLT32,.Ltcp9-4\n"
+    ".reloc .Ltcp70+158,R_X86_64_PC32,.Ltcp71-4\n"
+    ".section .rodata.tcp.71,\"a\",%progbits\n"
     ".balign 4\n"
-    ".Ltcp70:\n"
+    ".Ltcp71:\n"
     ".octa 0x0\n"
     ".quad 0x0\n"
-    ".reloc .Ltcp70+0,R_X86_64_PC32,.Ltcp69+128\n"
-    ".reloc .Ltcp70+4,R_X86_64_PC32,.Ltcp69+175\n"
-    ".reloc .Ltcp70+8,R_X86_64_PC32,.Ltcp69+197\n"
-    ".reloc .Ltcp70+12,R_X86_64_PC32,.Ltcp69+196\n"
-    ".reloc .Ltcp70+16,R_X86_64_PC32,.Ltcp69+144\n"
-    ".reloc .Ltcp70+20,R_X86_64_PC32,.Ltcp69+148\n"
-    ".section .text.tcp.71,\"ax\",%progbits\n"
+    ".reloc .Ltcp71+0,R_X86_64_PC32,.Ltcp70+128\n"
+    ".reloc .Ltcp71+4,R_X86_64_PC32,.Ltcp70+175\n"
+    ".reloc .Ltcp71+8,R_X86_64_PC32,.Ltcp70+197\n"
+    ".reloc .Ltcp71+12,R_X86_64_PC32,.Ltcp70+196\n"
+    ".reloc .Ltcp71+16,R_X86_64_PC32,.Ltcp70+144\n"
+    ".reloc .Ltcp71+20,R_X86_64_PC32,.Ltcp70+148\n"
+    ".section .text.tcp.72,\"ax\",%progbits\n"
     ".balign 16\n"
-    ".Ltcp71:\n"
+    ".Ltcp72:\n"
     ".type \"tcp_conn::endpoint::Endpoint::peer_accepts::<#4d7786d65df9050b>\",%function\n"
     ".size \"tcp_conn::endpoint::Endpoint::peer_accepts::<#4d7786d65df9050b>\",384\n"
     "\"tcp_conn::endpoint::Endpoint::peer_accepts::<#4d7786d65df9050b>\":\n"
@@ -7768,23 +7814,23 @@ __asm__(
     ".octa 0xf0000000eb90efa80d5b60f41ff3102,0xcf450fc9b60fd4b60f4101fc8041ca42,0x7b80f7b60f41cf440fd7440f012043f6\n"
     ".octa 0x403d4b883c53883a438966f7440f0022,0x484b8b480e46b70f41003f43c63e7388,0x8948000000c08389404b894804568b49\n"
     ".octa 0x1000000d083c604468b41000000c493,0x14083c766000000d48389c0ff,0xc35d5f415e415d415c415b58c4834801\n"
-    ".reloc .Ltcp71+71,R_X86_64_PLT32,.Ltcp9-4\n"
-    ".reloc .Ltcp71+123,R_X86_64_PLT32,.Ltcp9-4\n"
-    ".reloc .Ltcp71+142,R_X86_64_PC32,.Ltcp72-4\n"
-    ".section .rodata.tcp.72,\"a\",%progbits\n"
+    ".reloc .Ltcp72+71,R_X86_64_PLT32,.Ltcp9-4\n"
+    ".reloc .Ltcp72+123,R_X86_64_PLT32,.Ltcp9-4\n"
+    ".reloc .Ltcp72+142,R_X86_64_PC32,.Ltcp73-4\n"
+    ".section .rodata.tcp.73,\"a\",%progbits\n"
     ".balign 4\n"
-    ".Ltcp72:\n"
+    ".Ltcp73:\n"
     ".octa 0x0\n"
     ".quad 0x0\n"
-    ".reloc .Ltcp72+0,R_X86_64_PC32,.Ltcp71+112\n"
-    ".reloc .Ltcp72+4,R_X86_64_PC32,.Ltcp71+159\n"
-    ".reloc .Ltcp72+8,R_X86_64_PC32,.Ltcp71+185\n"
-    ".reloc .Ltcp72+12,R_X86_64_PC32,.Ltcp71+184\n"
-    ".reloc .Ltcp72+16,R_X86_64_PC32,.Ltcp71+128\n"
-    ".reloc .Ltcp72+20,R_X86_64_PC32,.Ltcp71+132\n"
-    ".section .text.tcp.73,\"ax\",%progbits\n"
+    ".reloc .Ltcp73+0,R_X86_64_PC32,.Ltcp72+112\n"
+    ".reloc .Ltcp73+4,R_X86_64_PC32,.Ltcp72+159\n"
+    ".reloc .Ltcp73+8,R_X86_64_PC32,.Ltcp72+185\n"
+    ".reloc .Ltcp73+12,R_X86_64_PC32,.Ltcp72+184\n"
+    ".reloc .Ltcp73+16,R_X86_64_PC32,.Ltcp72+128\n"
+    ".reloc .Ltcp73+20,R_X86_64_PC32,.Ltcp72+132\n"
+    ".section .text.tcp.74,\"ax\",%progbits\n"
     ".balign 16\n"
-    ".Ltcp73:\n"
+    ".Ltcp74:\n"
     ".type \"kit_text::numbers::push_number_word::<#fc995fe602e3aacb>\",%function\n"
     ".size \"kit_text::numbers::push_number_word::<#fc995fe602e3aacb>\",437\n"
     "\"kit_text::numbers::push_number_word::<#fc995fe602e3aacb>\":\n"
@@ -7804,13 +7850,13 @@ __asm__(
     ".octa 0xc48148c0311063894c087b894c33894c,0x8948c35f415e415d415c415b00000080,0x1b0c18900000000e8d68948d58949df\n"
     ".octa 0xebea894c10638b4c087b8b4cd974c984\n"
     ".byte 0xac\n"
-    ".reloc .Ltcp73+146,R_X86_64_PC32,.Ltcp104-4\n"
-    ".reloc .Ltcp73+250,R_X86_64_PC32,.Ltcp104-4\n"
-    ".reloc .Ltcp73+289,R_X86_64_PC32,.Ltcp104-4\n"
-    ".reloc .Ltcp73+412,R_X86_64_PLT32,.Ltcp84-4\n"
-    ".section .text.tcp.74,\"ax\",%progbits\n"
+    ".reloc .Ltcp74+146,R_X86_64_PC32,.Ltcp105-4\n"
+    ".reloc .Ltcp74+250,R_X86_64_PC32,.Ltcp105-4\n"
+    ".reloc .Ltcp74+289,R_X86_64_PC32,.Ltcp105-4\n"
+    ".reloc .Ltcp74+412,R_X86_64_PLT32,.Ltcp85-4\n"
+    ".section .text.tcp.75,\"ax\",%progbits\n"
     ".balign 16\n"
-    ".Ltcp74:\n"
+    ".Ltcp75:\n"
     ".type \"kit_report::events::push_event::<#fc995fe602e3aacb>\",%function\n"
     ".size \"kit_report::events::push_event::<#fc995fe602e3aacb>\",1872\n"
     "\"kit_report::events::push_event::<#fc995fe602e3aacb>\":\n"
@@ -7859,76 +7905,76 @@ __asm__(
     ".octa 0xe7894800000000358d48fffffc08e9fa,0xfdb1850fc08400000000e800000001ba,0xe800000001bee78948fffffd94e9ffff\n"
     ".octa 0x24448b48fffffd97840fc08400000000,0x358d48fffffd5be910244c8b4808,0x8400000000e800000001bae789480000\n"
     ".octa 0xbee78948fffffed8e9fffffd6c850fc0,0xfffd52840fc08400000000e800000001,0xfffffe9fe910244c8b480824448b48ff\n"
-    ".reloc .Ltcp74+37,R_X86_64_PC32,.Ltcp75-4\n"
-    ".reloc .Ltcp74+53,R_X86_64_PC32,.Ltcp137-4\n"
-    ".reloc .Ltcp74+65,R_X86_64_PC32,.Ltcp146-4\n"
-    ".reloc .Ltcp74+77,R_X86_64_PC32,.Ltcp140-4\n"
-    ".reloc .Ltcp74+94,R_X86_64_PC32,.Ltcp147-4\n"
-    ".reloc .Ltcp74+103,R_X86_64_PC32,.Ltcp144-4\n"
-    ".reloc .Ltcp74+120,R_X86_64_PC32,.Ltcp98+20\n"
-    ".reloc .Ltcp74+129,R_X86_64_PC32,.Ltcp139-4\n"
-    ".reloc .Ltcp74+138,R_X86_64_PC32,.Ltcp143-4\n"
-    ".reloc .Ltcp74+152,R_X86_64_PC32,.Ltcp138-4\n"
-    ".reloc .Ltcp74+166,R_X86_64_PC32,.Ltcp141-4\n"
-    ".reloc .Ltcp74+180,R_X86_64_PC32,.Ltcp142-4\n"
-    ".reloc .Ltcp74+197,R_X86_64_PC32,.Ltcp145-4\n"
-    ".reloc .Ltcp74+214,R_X86_64_PC32,.Ltcp98+24\n"
-    ".reloc .Ltcp74+505,R_X86_64_PC32,.Ltcp75+48\n"
-    ".reloc .Ltcp74+545,R_X86_64_PC32,.Ltcp103-4\n"
-    ".reloc .Ltcp74+575,R_X86_64_PLT32,.Ltcp76-4\n"
-    ".reloc .Ltcp74+684,R_X86_64_PC32,.Ltcp184-4\n"
-    ".reloc .Ltcp74+695,R_X86_64_PC32,.Ltcp185-4\n"
-    ".reloc .Ltcp74+867,R_X86_64_PC32,.Ltcp103-4\n"
-    ".reloc .Ltcp74+1050,R_X86_64_PLT32,.Ltcp79-4\n"
-    ".reloc .Ltcp74+1159,R_X86_64_PLT32,.Ltcp79-4\n"
-    ".reloc .Ltcp74+1277,R_X86_64_PLT32,.Ltcp84-4\n"
-    ".reloc .Ltcp74+1327,R_X86_64_PLT32,.Ltcp84-4\n"
-    ".reloc .Ltcp74+1374,R_X86_64_PLT32,.Ltcp84-4\n"
-    ".reloc .Ltcp74+1547,R_X86_64_PLT32,.Ltcp80-4\n"
-    ".reloc .Ltcp74+1608,R_X86_64_PLT32,.Ltcp84-4\n"
-    ".reloc .Ltcp74+1652,R_X86_64_PLT32,.Ltcp84-4\n"
-    ".reloc .Ltcp74+1694,R_X86_64_PLT32,.Ltcp84-4\n"
-    ".reloc .Ltcp74+1737,R_X86_64_PC32,.Ltcp103-4\n"
-    ".reloc .Ltcp74+1750,R_X86_64_PLT32,.Ltcp77-4\n"
-    ".reloc .Ltcp74+1776,R_X86_64_PLT32,.Ltcp84-4\n"
-    ".reloc .Ltcp74+1806,R_X86_64_PC32,.Ltcp103-4\n"
-    ".reloc .Ltcp74+1819,R_X86_64_PLT32,.Ltcp77-4\n"
-    ".reloc .Ltcp74+1845,R_X86_64_PLT32,.Ltcp84-4\n"
-    ".section .rodata.tcp.75,\"a\",%progbits\n"
+    ".reloc .Ltcp75+37,R_X86_64_PC32,.Ltcp76-4\n"
+    ".reloc .Ltcp75+53,R_X86_64_PC32,.Ltcp138-4\n"
+    ".reloc .Ltcp75+65,R_X86_64_PC32,.Ltcp147-4\n"
+    ".reloc .Ltcp75+77,R_X86_64_PC32,.Ltcp141-4\n"
+    ".reloc .Ltcp75+94,R_X86_64_PC32,.Ltcp148-4\n"
+    ".reloc .Ltcp75+103,R_X86_64_PC32,.Ltcp145-4\n"
+    ".reloc .Ltcp75+120,R_X86_64_PC32,.Ltcp99+20\n"
+    ".reloc .Ltcp75+129,R_X86_64_PC32,.Ltcp140-4\n"
+    ".reloc .Ltcp75+138,R_X86_64_PC32,.Ltcp144-4\n"
+    ".reloc .Ltcp75+152,R_X86_64_PC32,.Ltcp139-4\n"
+    ".reloc .Ltcp75+166,R_X86_64_PC32,.Ltcp142-4\n"
+    ".reloc .Ltcp75+180,R_X86_64_PC32,.Ltcp143-4\n"
+    ".reloc .Ltcp75+197,R_X86_64_PC32,.Ltcp146-4\n"
+    ".reloc .Ltcp75+214,R_X86_64_PC32,.Ltcp99+24\n"
+    ".reloc .Ltcp75+505,R_X86_64_PC32,.Ltcp76+48\n"
+    ".reloc .Ltcp75+545,R_X86_64_PC32,.Ltcp104-4\n"
+    ".reloc .Ltcp75+575,R_X86_64_PLT32,.Ltcp77-4\n"
+    ".reloc .Ltcp75+684,R_X86_64_PC32,.Ltcp185-4\n"
+    ".reloc .Ltcp75+695,R_X86_64_PC32,.Ltcp186-4\n"
+    ".reloc .Ltcp75+867,R_X86_64_PC32,.Ltcp104-4\n"
+    ".reloc .Ltcp75+1050,R_X86_64_PLT32,.Ltcp80-4\n"
+    ".reloc .Ltcp75+1159,R_X86_64_PLT32,.Ltcp80-4\n"
+    ".reloc .Ltcp75+1277,R_X86_64_PLT32,.Ltcp85-4\n"
+    ".reloc .Ltcp75+1327,R_X86_64_PLT32,.Ltcp85-4\n"
+    ".reloc .Ltcp75+1374,R_X86_64_PLT32,.Ltcp85-4\n"
+    ".reloc .Ltcp75+1547,R_X86_64_PLT32,.Ltcp81-4\n"
+    ".reloc .Ltcp75+1608,R_X86_64_PLT32,.Ltcp85-4\n"
+    ".reloc .Ltcp75+1652,R_X86_64_PLT32,.Ltcp85-4\n"
+    ".reloc .Ltcp75+1694,R_X86_64_PLT32,.Ltcp85-4\n"
+    ".reloc .Ltcp75+1737,R_X86_64_PC32,.Ltcp104-4\n"
+    ".reloc .Ltcp75+1750,R_X86_64_PLT32,.Ltcp78-4\n"
+    ".reloc .Ltcp75+1776,R_X86_64_PLT32,.Ltcp85-4\n"
+    ".reloc .Ltcp75+1806,R_X86_64_PC32,.Ltcp104-4\n"
+    ".reloc .Ltcp75+1819,R_X86_64_PLT32,.Ltcp78-4\n"
+    ".reloc .Ltcp75+1845,R_X86_64_PLT32,.Ltcp85-4\n"
+    ".section .rodata.tcp.76,\"a\",%progbits\n"
     ".balign 4\n"
-    ".Ltcp75:\n"
+    ".Ltcp76:\n"
     ".octa 0x0,0x0,0x0\n"
     ".octa 0x0,0x0,0x0\n"
     ".quad 0x0\n"
-    ".reloc .Ltcp75+0,R_X86_64_PC32,.Ltcp74+50\n"
-    ".reloc .Ltcp75+4,R_X86_64_PC32,.Ltcp74+153\n"
-    ".reloc .Ltcp75+8,R_X86_64_PC32,.Ltcp74+125\n"
-    ".reloc .Ltcp75+12,R_X86_64_PC32,.Ltcp74+138\n"
-    ".reloc .Ltcp75+16,R_X86_64_PC32,.Ltcp74+90\n"
-    ".reloc .Ltcp75+20,R_X86_64_PC32,.Ltcp74+183\n"
-    ".reloc .Ltcp75+24,R_X86_64_PC32,.Ltcp74+201\n"
-    ".reloc .Ltcp75+28,R_X86_64_PC32,.Ltcp74+163\n"
-    ".reloc .Ltcp75+32,R_X86_64_PC32,.Ltcp74+243\n"
-    ".reloc .Ltcp75+36,R_X86_64_PC32,.Ltcp74+136\n"
-    ".reloc .Ltcp75+40,R_X86_64_PC32,.Ltcp74+234\n"
-    ".reloc .Ltcp75+44,R_X86_64_PC32,.Ltcp74+106\n"
-    ".reloc .Ltcp75+48,R_X86_64_PC32,.Ltcp74+139\n"
-    ".reloc .Ltcp75+52,R_X86_64_PC32,.Ltcp74+518\n"
-    ".reloc .Ltcp75+56,R_X86_64_PC32,.Ltcp74+522\n"
-    ".reloc .Ltcp75+60,R_X86_64_PC32,.Ltcp74+526\n"
-    ".reloc .Ltcp75+64,R_X86_64_PC32,.Ltcp74+550\n"
-    ".reloc .Ltcp75+68,R_X86_64_PC32,.Ltcp74+534\n"
-    ".reloc .Ltcp75+72,R_X86_64_PC32,.Ltcp74+538\n"
-    ".reloc .Ltcp75+76,R_X86_64_PC32,.Ltcp74+542\n"
-    ".reloc .Ltcp75+80,R_X86_64_PC32,.Ltcp74+667\n"
-    ".reloc .Ltcp75+84,R_X86_64_PC32,.Ltcp74+550\n"
-    ".reloc .Ltcp75+88,R_X86_64_PC32,.Ltcp74+554\n"
-    ".reloc .Ltcp75+92,R_X86_64_PC32,.Ltcp74+558\n"
-    ".reloc .Ltcp75+96,R_X86_64_PC32,.Ltcp74+582\n"
-    ".reloc .Ltcp75+100,R_X86_64_PC32,.Ltcp74+900\n"
-    ".section .text.tcp.76,\"ax\",%progbits\n"
+    ".reloc .Ltcp76+0,R_X86_64_PC32,.Ltcp75+50\n"
+    ".reloc .Ltcp76+4,R_X86_64_PC32,.Ltcp75+153\n"
+    ".reloc .Ltcp76+8,R_X86_64_PC32,.Ltcp75+125\n"
+    ".reloc .Ltcp76+12,R_X86_64_PC32,.Ltcp75+138\n"
+    ".reloc .Ltcp76+16,R_X86_64_PC32,.Ltcp75+90\n"
+    ".reloc .Ltcp76+20,R_X86_64_PC32,.Ltcp75+183\n"
+    ".reloc .Ltcp76+24,R_X86_64_PC32,.Ltcp75+201\n"
+    ".reloc .Ltcp76+28,R_X86_64_PC32,.Ltcp75+163\n"
+    ".reloc .Ltcp76+32,R_X86_64_PC32,.Ltcp75+243\n"
+    ".reloc .Ltcp76+36,R_X86_64_PC32,.Ltcp75+136\n"
+    ".reloc .Ltcp76+40,R_X86_64_PC32,.Ltcp75+234\n"
+    ".reloc .Ltcp76+44,R_X86_64_PC32,.Ltcp75+106\n"
+    ".reloc .Ltcp76+48,R_X86_64_PC32,.Ltcp75+139\n"
+    ".reloc .Ltcp76+52,R_X86_64_PC32,.Ltcp75+518\n"
+    ".reloc .Ltcp76+56,R_X86_64_PC32,.Ltcp75+522\n"
+    ".reloc .Ltcp76+60,R_X86_64_PC32,.Ltcp75+526\n"
+    ".reloc .Ltcp76+64,R_X86_64_PC32,.Ltcp75+550\n"
+    ".reloc .Ltcp76+68,R_X86_64_PC32,.Ltcp75+534\n"
+    ".reloc .Ltcp76+72,R_X86_64_PC32,.Ltcp75+538\n"
+    ".reloc .Ltcp76+76,R_X86_64_PC32,.Ltcp75+542\n"
+    ".reloc .Ltcp76+80,R_X86_64_PC32,.Ltcp75+667\n"
+    ".reloc .Ltcp76+84,R_X86_64_PC32,.Ltcp75+550\n"
+    ".reloc .Ltcp76+88,R_X86_64_PC32,.Ltcp75+554\n"
+    ".reloc .Ltcp76+92,R_X86_64_PC32,.Ltcp75+558\n"
+    ".reloc .Ltcp76+96,R_X86_64_PC32,.Ltcp75+582\n"
+    ".reloc .Ltcp76+100,R_X86_64_PC32,.Ltcp75+900\n"
+    ".section .text.tcp.77,\"ax\",%progbits\n"
     ".balign 16\n"
-    ".Ltcp76:\n"
+    ".Ltcp77:\n"
     ".type \"kit_text::numbers::push_word_number::<#fc995fe602e3aacb>\",%function\n"
     ".size \"kit_text::numbers::push_word_number::<#fc995fe602e3aacb>\",463\n"
     "\"kit_text::numbers::push_word_number::<#fc995fe602e3aacb>\":\n"
@@ -7948,13 +7994,13 @@ __asm__(
     ".octa 0xc48148c0311063894c087b894c2b894c,0x8948c35f415e415d415c415b00000080,0x1b0c18900000000e8d68948d58949df\n"
     ".octa 0xebea894c10638b4c087b8b4cd974c984\n"
     ".byte 0xad\n"
-    ".reloc .Ltcp76+149,R_X86_64_PC32,.Ltcp104-4\n"
-    ".reloc .Ltcp76+258,R_X86_64_PC32,.Ltcp104-4\n"
-    ".reloc .Ltcp76+298,R_X86_64_PC32,.Ltcp104-4\n"
-    ".reloc .Ltcp76+438,R_X86_64_PLT32,.Ltcp84-4\n"
-    ".section .text.tcp.77,\"ax\",%progbits\n"
+    ".reloc .Ltcp77+149,R_X86_64_PC32,.Ltcp105-4\n"
+    ".reloc .Ltcp77+258,R_X86_64_PC32,.Ltcp105-4\n"
+    ".reloc .Ltcp77+298,R_X86_64_PC32,.Ltcp105-4\n"
+    ".reloc .Ltcp77+438,R_X86_64_PLT32,.Ltcp85-4\n"
+    ".section .text.tcp.78,\"ax\",%progbits\n"
     ".balign 16\n"
-    ".Ltcp77:\n"
+    ".Ltcp78:\n"
     ".type \"core::fmt::formatter::Formatter::write_indented::<#66b2f40cbd927778>\",%function\n"
     ".size \"core::fmt::formatter::Formatter::write_indented::<#66b2f40cbd927778>\",306\n"
     "\"core::fmt::formatter::Formatter::write_indented::<#66b2f40cbd927778>\":\n"
@@ -7966,15 +8012,15 @@ __asm__(
     ".octa 0xe6014de375cbff482975c08400000000,0x8348ea894cf6894cff894c004047c641,0xe95d5f415e415d415c415b08c4\n"
     ".octa 0x5f415e415d415c415b08c4834801b000\n"
     ".short 0xc35d\n"
-    ".reloc .Ltcp77+66,R_X86_64_PLT32,.Ltcp78-4\n"
-    ".reloc .Ltcp77+147,R_X86_64_PC32,.Ltcp98+4\n"
-    ".reloc .Ltcp77+160,R_X86_64_PLT32,.Ltcp78-4\n"
-    ".reloc .Ltcp77+227,R_X86_64_PC32,.Ltcp98+4\n"
-    ".reloc .Ltcp77+240,R_X86_64_PLT32,.Ltcp78-4\n"
-    ".reloc .Ltcp77+285,R_X86_64_PLT32,.Ltcp78-4\n"
-    ".section .text.tcp.78,\"ax\",%progbits\n"
+    ".reloc .Ltcp78+66,R_X86_64_PLT32,.Ltcp79-4\n"
+    ".reloc .Ltcp78+147,R_X86_64_PC32,.Ltcp99+4\n"
+    ".reloc .Ltcp78+160,R_X86_64_PLT32,.Ltcp79-4\n"
+    ".reloc .Ltcp78+227,R_X86_64_PC32,.Ltcp99+4\n"
+    ".reloc .Ltcp78+240,R_X86_64_PLT32,.Ltcp79-4\n"
+    ".reloc .Ltcp78+285,R_X86_64_PLT32,.Ltcp79-4\n"
+    ".section .text.tcp.79,\"ax\",%progbits\n"
     ".balign 16\n"
-    ".Ltcp78:\n"
+    ".Ltcp79:\n"
     ".type \"core::fmt::formatter::Formatter::write_raw::<#66b2f40cbd927778>\",%function\n"
     ".size \"core::fmt::formatter::Formatter::write_raw::<#66b2f40cbd927778>\",706\n"
     "\"core::fmt::formatter::Formatter::write_raw::<#66b2f40cbd927778>\":\n"
@@ -7998,10 +8044,10 @@ __asm__(
     ".octa 0x48fffffedae9ffffff69840fc2394cef,0xe8d78949d68948f68949fb89,0x4cf6894cffffff54840fc98401b0c189\n"
     ".octa 0xfe70e9105b8b48084b8b48df8948fa89\n"
     ".short 0xffff\n"
-    ".reloc .Ltcp78+668,R_X86_64_PLT32,.Ltcp84-4\n"
-    ".section .text.tcp.79,\"ax\",%progbits\n"
+    ".reloc .Ltcp79+668,R_X86_64_PLT32,.Ltcp85-4\n"
+    ".section .text.tcp.80,\"ax\",%progbits\n"
     ".balign 16\n"
-    ".Ltcp79:\n"
+    ".Ltcp80:\n"
     ".type \"core::fmt::formatter::Formatter::write_piece::<#2411bf40c49e81b6>\",%function\n"
     ".size \"core::fmt::formatter::Formatter::write_piece::<#2411bf40c49e81b6>\",383\n"
     "\"core::fmt::formatter::Formatter::write_piece::<#2411bf40c49e81b6>\":\n"
@@ -8019,11 +8065,11 @@ __asm__(
     ".quad 0x894c107b8b4c0873\n"
     ".long 0xea894ce6\n"
     ".short 0xa3eb\n"
-    ".reloc .Ltcp79+336,R_X86_64_PLT32,.Ltcp77-4\n"
-    ".reloc .Ltcp79+355,R_X86_64_PLT32,.Ltcp84-4\n"
-    ".section .text.tcp.80,\"ax\",%progbits\n"
+    ".reloc .Ltcp80+336,R_X86_64_PLT32,.Ltcp78-4\n"
+    ".reloc .Ltcp80+355,R_X86_64_PLT32,.Ltcp85-4\n"
+    ".section .text.tcp.81,\"ax\",%progbits\n"
     ".balign 16\n"
-    ".Ltcp80:\n"
+    ".Ltcp81:\n"
     ".type \"core::fmt::formatter::Formatter::write_piece::<#fa26af870f156c24>\",%function\n"
     ".size \"core::fmt::formatter::Formatter::write_piece::<#fa26af870f156c24>\",319\n"
     "\"core::fmt::formatter::Formatter::write_piece::<#fa26af870f156c24>\":\n"
@@ -8040,11 +8086,11 @@ __asm__(
     ".quad 0x894c107b8b4c0873\n"
     ".long 0xea894ce6\n"
     ".short 0xa3eb\n"
-    ".reloc .Ltcp80+272,R_X86_64_PLT32,.Ltcp77-4\n"
-    ".reloc .Ltcp80+291,R_X86_64_PLT32,.Ltcp84-4\n"
-    ".section .text.tcp.81,\"ax\",%progbits\n"
+    ".reloc .Ltcp81+272,R_X86_64_PLT32,.Ltcp78-4\n"
+    ".reloc .Ltcp81+291,R_X86_64_PLT32,.Ltcp85-4\n"
+    ".section .text.tcp.82,\"ax\",%progbits\n"
     ".balign 16\n"
-    ".Ltcp81:\n"
+    ".Ltcp82:\n"
     ".type \"kit_text::options::push_block::<#fc995fe602e3aacb>\",%function\n"
     ".size \"kit_text::options::push_block::<#fc995fe602e3aacb>\",743\n"
     "\"kit_text::options::push_block::<#fc995fe602e3aacb>\":\n"
@@ -8067,16 +8113,16 @@ __asm__(
     ".octa 0xc48148c0311063894c087b894c33894c,0x8948c35f415e415d415c415b00000080,0x1b0c18900000000e8d68948d58949df\n"
     ".octa 0xebea894c10638b4c087b8b4cd974c984\n"
     ".byte 0xac\n"
-    ".reloc .Ltcp81+143,R_X86_64_PC32,.Ltcp104-4\n"
-    ".reloc .Ltcp81+272,R_X86_64_PC32,.Ltcp104-4\n"
-    ".reloc .Ltcp81+330,R_X86_64_PC32,.Ltcp104-4\n"
-    ".reloc .Ltcp81+464,R_X86_64_PC32,.Ltcp104-4\n"
-    ".reloc .Ltcp81+556,R_X86_64_PC32,.Ltcp104-4\n"
-    ".reloc .Ltcp81+595,R_X86_64_PC32,.Ltcp104-4\n"
-    ".reloc .Ltcp81+718,R_X86_64_PLT32,.Ltcp84-4\n"
-    ".section .text.tcp.82,\"ax\",%progbits\n"
+    ".reloc .Ltcp82+143,R_X86_64_PC32,.Ltcp105-4\n"
+    ".reloc .Ltcp82+272,R_X86_64_PC32,.Ltcp105-4\n"
+    ".reloc .Ltcp82+330,R_X86_64_PC32,.Ltcp105-4\n"
+    ".reloc .Ltcp82+464,R_X86_64_PC32,.Ltcp105-4\n"
+    ".reloc .Ltcp82+556,R_X86_64_PC32,.Ltcp105-4\n"
+    ".reloc .Ltcp82+595,R_X86_64_PC32,.Ltcp105-4\n"
+    ".reloc .Ltcp82+718,R_X86_64_PLT32,.Ltcp85-4\n"
+    ".section .text.tcp.83,\"ax\",%progbits\n"
     ".balign 16\n"
-    ".Ltcp82:\n"
+    ".Ltcp83:\n"
     ".type \"kit_text::faults::push_fault::<#fc995fe602e3aacb>\",%function\n"
     ".size \"kit_text::faults::push_fault::<#fc995fe602e3aacb>\",362\n"
     "\"kit_text::faults::push_fault::<#fc995fe602e3aacb>\":\n"
@@ -8090,12 +8136,12 @@ __asm__(
     ".octa 0x4801b00873894c9b76f1394c01b08a75\n"
     ".quad 0x415b00000088c481\n"
     ".short 0xc35e\n"
-    ".reloc .Ltcp82+122,R_X86_64_PC32,.Ltcp124-4\n"
-    ".reloc .Ltcp82+176,R_X86_64_PLT32,.Ltcp80-4\n"
-    ".reloc .Ltcp82+279,R_X86_64_PLT32,.Ltcp84-4\n"
-    ".section .text.tcp.83,\"ax\",%progbits\n"
+    ".reloc .Ltcp83+122,R_X86_64_PC32,.Ltcp125-4\n"
+    ".reloc .Ltcp83+176,R_X86_64_PLT32,.Ltcp81-4\n"
+    ".reloc .Ltcp83+279,R_X86_64_PLT32,.Ltcp85-4\n"
+    ".section .text.tcp.84,\"ax\",%progbits\n"
     ".balign 16\n"
-    ".Ltcp83:\n"
+    ".Ltcp84:\n"
     ".type \"kit_report::answers::push_refused::<#fc995fe602e3aacb>\",%function\n"
     ".size \"kit_report::answers::push_refused::<#fc995fe602e3aacb>\",337\n"
     "\"kit_report::answers::push_refused::<#fc995fe602e3aacb>\":\n"
@@ -8107,11 +8153,11 @@ __asm__(
     ".octa 0xe800000008be10247c8d48c35e41,0x2024448b4818244c8b480f74c0840000,0xf20244c280f102444280fffffff56e9\n"
     ".octa 0x3110f104b110f602444290f70244c29,0x9b76f1394c01b08a75f6854d084b8b48,0x5e415b00000088c4814801b00873894c\n"
     ".byte 0xc3\n"
-    ".reloc .Ltcp83+151,R_X86_64_PLT32,.Ltcp80-4\n"
-    ".reloc .Ltcp83+254,R_X86_64_PLT32,.Ltcp84-4\n"
-    ".section .text.tcp.84,\"ax\",%progbits\n"
+    ".reloc .Ltcp84+151,R_X86_64_PLT32,.Ltcp81-4\n"
+    ".reloc .Ltcp84+254,R_X86_64_PLT32,.Ltcp85-4\n"
+    ".section .text.tcp.85,\"ax\",%progbits\n"
     ".balign 16\n"
-    ".Ltcp84:\n"
+    ".Ltcp85:\n"
     ".type \"std_alloc::vec::Vec::grow_amortized::<#774cccd130ef0a54>\",%function\n"
     ".size \"std_alloc::vec::Vec::grow_amortized::<#774cccd130ef0a54>\",544\n"
     "\"std_alloc::vec::Vec::grow_amortized::<#774cccd130ef0a54>\":\n"
@@ -8130,9 +8176,9 @@ __asm__(
     ".octa 0x801f0fc189481b7403e08349c1,0xc8ff49c1ff480b0c88440e0cb60f4400,0x66ffffff14870ffcf88348d02948ef75\n"
     ".octa 0xb4488010e44b60f0b04880e04b60f90,0x88030e44b60f020b4488020e44b60f01,0xfffee2e9d575ca394804c18348030b44\n"
     ".byte 0xff\n"
-    ".section .text.tcp.85,\"ax\",%progbits\n"
+    ".section .text.tcp.86,\"ax\",%progbits\n"
     ".balign 16\n"
-    ".Ltcp85:\n"
+    ".Ltcp86:\n"
     ".type \"core::fmt::formatter::Formatter::write_piece::<#ab7f6a11be6e0e81>\",%function\n"
     ".size \"core::fmt::formatter::Formatter::write_piece::<#ab7f6a11be6e0e81>\",356\n"
     "\"core::fmt::formatter::Formatter::write_piece::<#ab7f6a11be6e0e81>\":\n"
@@ -8149,11 +8195,11 @@ __asm__(
     ".quad 0x894c107b8b4c0873\n"
     ".long 0xea894ce6\n"
     ".short 0xa3eb\n"
-    ".reloc .Ltcp85+309,R_X86_64_PLT32,.Ltcp77-4\n"
-    ".reloc .Ltcp85+328,R_X86_64_PLT32,.Ltcp84-4\n"
-    ".section .text.tcp.86,\"ax\",%progbits\n"
+    ".reloc .Ltcp86+309,R_X86_64_PLT32,.Ltcp78-4\n"
+    ".reloc .Ltcp86+328,R_X86_64_PLT32,.Ltcp85-4\n"
+    ".section .text.tcp.87,\"ax\",%progbits\n"
     ".balign 16\n"
-    ".Ltcp86:\n"
+    ".Ltcp87:\n"
     ".type \"std_alloc::string::String::write_fmt::<#43545b4072f2aa1d>\",%function\n"
     ".size \"std_alloc::string::String::write_fmt::<#43545b4072f2aa1d>\",652\n"
     "\"std_alloc::string::String::write_fmt::<#43545b4072f2aa1d>\":\n"
@@ -8175,11 +8221,11 @@ __asm__(
     ".octa 0x44290f60244c290f10244c280f240428,0xff854d084b8b4803110f104b110f5024,0x7b894c0676f9394c01b0fffffefa850f\n"
     ".octa 0x5f415e415d415c415b78c4834801b008\n"
     ".short 0xc35d\n"
-    ".reloc .Ltcp86+315,R_X86_64_PLT32,.Ltcp85-4\n"
-    ".reloc .Ltcp86+556,R_X86_64_PLT32,.Ltcp84-4\n"
-    ".section .text.tcp.87,\"ax\",%progbits\n"
+    ".reloc .Ltcp87+315,R_X86_64_PLT32,.Ltcp86-4\n"
+    ".reloc .Ltcp87+556,R_X86_64_PLT32,.Ltcp85-4\n"
+    ".section .text.tcp.88,\"ax\",%progbits\n"
     ".balign 16\n"
-    ".Ltcp87:\n"
+    ".Ltcp88:\n"
     ".type \"std_alloc::string::String::write_fmt::<#8ef6768b53a45598>\",%function\n"
     ".size \"std_alloc::string::String::write_fmt::<#8ef6768b53a45598>\",1137\n"
     "\"std_alloc::string::String::write_fmt::<#8ef6768b53a45598>\":\n"
@@ -8216,13 +8262,13 @@ __asm__(
     ".octa 0x24648b4c0824448b48fffffcf1840fc0\n"
     ".long 0xfd83e910\n"
     ".short 0xffff\n"
-    ".reloc .Ltcp87+331,R_X86_64_PLT32,.Ltcp85-4\n"
-    ".reloc .Ltcp87+878,R_X86_64_PLT32,.Ltcp84-4\n"
-    ".reloc .Ltcp87+936,R_X86_64_PLT32,.Ltcp77-4\n"
-    ".reloc .Ltcp87+1110,R_X86_64_PLT32,.Ltcp84-4\n"
-    ".section .text.tcp.88,\"ax\",%progbits\n"
+    ".reloc .Ltcp88+331,R_X86_64_PLT32,.Ltcp86-4\n"
+    ".reloc .Ltcp88+878,R_X86_64_PLT32,.Ltcp85-4\n"
+    ".reloc .Ltcp88+936,R_X86_64_PLT32,.Ltcp78-4\n"
+    ".reloc .Ltcp88+1110,R_X86_64_PLT32,.Ltcp85-4\n"
+    ".section .text.tcp.89,\"ax\",%progbits\n"
     ".balign 16\n"
-    ".Ltcp88:\n"
+    ".Ltcp89:\n"
     ".type \"tcp_web::exports::put_fault::<#96589b6357422c20>\",%function\n"
     ".size \"tcp_web::exports::put_fault::<#96589b6357422c20>\",1955\n"
     "\"tcp_web::exports::put_fault::<#96589b6357422c20>\":\n"
@@ -8276,32 +8322,32 @@ __asm__(
     ".octa 0x24548b4824348b48e7894cfffff8b685,0x830f702454394800000004b817894908\n"
     ".quad 0xfff892e9fffffd44\n"
     ".byte 0xff\n"
-    ".reloc .Ltcp88+158,R_X86_64_PLT32,.Ltcp91-4\n"
-    ".reloc .Ltcp88+200,R_X86_64_PC32,.Ltcp0+780\n"
-    ".reloc .Ltcp88+223,R_X86_64_PC32,.Ltcp0+716\n"
-    ".reloc .Ltcp88+317,R_X86_64_PLT32,.Ltcp91-4\n"
-    ".reloc .Ltcp88+364,R_X86_64_PC32,.Ltcp172-4\n"
-    ".reloc .Ltcp88+422,R_X86_64_PC32,.Ltcp0+780\n"
-    ".reloc .Ltcp88+664,R_X86_64_PC32,.Ltcp135-4\n"
-    ".reloc .Ltcp88+671,R_X86_64_PC32,.Ltcp136-4\n"
-    ".reloc .Ltcp88+1006,R_X86_64_PLT32,.Ltcp91-4\n"
-    ".reloc .Ltcp88+1514,R_X86_64_PLT32,.Ltcp89-4\n"
-    ".reloc .Ltcp88+1540,R_X86_64_PLT32,.Ltcp89-4\n"
-    ".reloc .Ltcp88+1566,R_X86_64_PLT32,.Ltcp91-4\n"
-    ".reloc .Ltcp88+1617,R_X86_64_PLT32,.Ltcp91-4\n"
-    ".reloc .Ltcp88+1659,R_X86_64_PC32,.Ltcp103-4\n"
-    ".reloc .Ltcp88+1672,R_X86_64_PLT32,.Ltcp89-4\n"
-    ".reloc .Ltcp88+1699,R_X86_64_PC32,.Ltcp100-4\n"
-    ".reloc .Ltcp88+1712,R_X86_64_PLT32,.Ltcp89-4\n"
-    ".reloc .Ltcp88+1743,R_X86_64_PLT32,.Ltcp91-4\n"
-    ".reloc .Ltcp88+1786,R_X86_64_PLT32,.Ltcp91-4\n"
-    ".reloc .Ltcp88+1818,R_X86_64_PLT32,.Ltcp89-4\n"
-    ".reloc .Ltcp88+1851,R_X86_64_PLT32,.Ltcp91-4\n"
-    ".reloc .Ltcp88+1887,R_X86_64_PC32,.Ltcp100-4\n"
-    ".reloc .Ltcp88+1900,R_X86_64_PLT32,.Ltcp89-4\n"
-    ".section .text.tcp.89,\"ax\",%progbits\n"
+    ".reloc .Ltcp89+158,R_X86_64_PLT32,.Ltcp92-4\n"
+    ".reloc .Ltcp89+200,R_X86_64_PC32,.Ltcp0+780\n"
+    ".reloc .Ltcp89+223,R_X86_64_PC32,.Ltcp0+716\n"
+    ".reloc .Ltcp89+317,R_X86_64_PLT32,.Ltcp92-4\n"
+    ".reloc .Ltcp89+364,R_X86_64_PC32,.Ltcp173-4\n"
+    ".reloc .Ltcp89+422,R_X86_64_PC32,.Ltcp0+780\n"
+    ".reloc .Ltcp89+664,R_X86_64_PC32,.Ltcp136-4\n"
+    ".reloc .Ltcp89+671,R_X86_64_PC32,.Ltcp137-4\n"
+    ".reloc .Ltcp89+1006,R_X86_64_PLT32,.Ltcp92-4\n"
+    ".reloc .Ltcp89+1514,R_X86_64_PLT32,.Ltcp90-4\n"
+    ".reloc .Ltcp89+1540,R_X86_64_PLT32,.Ltcp90-4\n"
+    ".reloc .Ltcp89+1566,R_X86_64_PLT32,.Ltcp92-4\n"
+    ".reloc .Ltcp89+1617,R_X86_64_PLT32,.Ltcp92-4\n"
+    ".reloc .Ltcp89+1659,R_X86_64_PC32,.Ltcp104-4\n"
+    ".reloc .Ltcp89+1672,R_X86_64_PLT32,.Ltcp90-4\n"
+    ".reloc .Ltcp89+1699,R_X86_64_PC32,.Ltcp101-4\n"
+    ".reloc .Ltcp89+1712,R_X86_64_PLT32,.Ltcp90-4\n"
+    ".reloc .Ltcp89+1743,R_X86_64_PLT32,.Ltcp92-4\n"
+    ".reloc .Ltcp89+1786,R_X86_64_PLT32,.Ltcp92-4\n"
+    ".reloc .Ltcp89+1818,R_X86_64_PLT32,.Ltcp90-4\n"
+    ".reloc .Ltcp89+1851,R_X86_64_PLT32,.Ltcp92-4\n"
+    ".reloc .Ltcp89+1887,R_X86_64_PC32,.Ltcp101-4\n"
+    ".reloc .Ltcp89+1900,R_X86_64_PLT32,.Ltcp90-4\n"
+    ".section .text.tcp.90,\"ax\",%progbits\n"
     ".balign 16\n"
-    ".Ltcp89:\n"
+    ".Ltcp90:\n"
     ".type \"core::fmt::formatter::Formatter::write_indented::<#b0b7e8f0682f909d>\",%function\n"
     ".size \"core::fmt::formatter::Formatter::write_indented::<#b0b7e8f0682f909d>\",306\n"
     "\"core::fmt::formatter::Formatter::write_indented::<#b0b7e8f0682f909d>\":\n"
@@ -8313,15 +8359,15 @@ __asm__(
     ".octa 0xe6014de375cbff482975c08400000000,0x8348ea894cf6894cff894c004047c641,0xe95d5f415e415d415c415b08c4\n"
     ".octa 0x5f415e415d415c415b08c4834801b000\n"
     ".short 0xc35d\n"
-    ".reloc .Ltcp89+66,R_X86_64_PLT32,.Ltcp90-4\n"
-    ".reloc .Ltcp89+147,R_X86_64_PC32,.Ltcp98+4\n"
-    ".reloc .Ltcp89+160,R_X86_64_PLT32,.Ltcp90-4\n"
-    ".reloc .Ltcp89+227,R_X86_64_PC32,.Ltcp98+4\n"
-    ".reloc .Ltcp89+240,R_X86_64_PLT32,.Ltcp90-4\n"
-    ".reloc .Ltcp89+285,R_X86_64_PLT32,.Ltcp90-4\n"
-    ".section .text.tcp.90,\"ax\",%progbits\n"
+    ".reloc .Ltcp90+66,R_X86_64_PLT32,.Ltcp91-4\n"
+    ".reloc .Ltcp90+147,R_X86_64_PC32,.Ltcp99+4\n"
+    ".reloc .Ltcp90+160,R_X86_64_PLT32,.Ltcp91-4\n"
+    ".reloc .Ltcp90+227,R_X86_64_PC32,.Ltcp99+4\n"
+    ".reloc .Ltcp90+240,R_X86_64_PLT32,.Ltcp91-4\n"
+    ".reloc .Ltcp90+285,R_X86_64_PLT32,.Ltcp91-4\n"
+    ".section .text.tcp.91,\"ax\",%progbits\n"
     ".balign 16\n"
-    ".Ltcp90:\n"
+    ".Ltcp91:\n"
     ".type \"core::fmt::formatter::Formatter::write_raw::<#b0b7e8f0682f909d>\",%function\n"
     ".size \"core::fmt::formatter::Formatter::write_raw::<#b0b7e8f0682f909d>\",706\n"
     "\"core::fmt::formatter::Formatter::write_raw::<#b0b7e8f0682f909d>\":\n"
@@ -8345,10 +8391,10 @@ __asm__(
     ".octa 0x48fffffedae9ffffff69840fc2394cef,0xe8d78949d68948f68949fb89,0x4cf6894cffffff54840fc98401b0c189\n"
     ".octa 0xfe70e9105b8b48084b8b48df8948fa89\n"
     ".short 0xffff\n"
-    ".reloc .Ltcp90+668,R_X86_64_PLT32,.Ltcp91-4\n"
-    ".section .text.tcp.91,\"ax\",%progbits\n"
+    ".reloc .Ltcp91+668,R_X86_64_PLT32,.Ltcp92-4\n"
+    ".section .text.tcp.92,\"ax\",%progbits\n"
     ".balign 16\n"
-    ".Ltcp91:\n"
+    ".Ltcp92:\n"
     ".type \"std_alloc::vec::Vec::grow_amortized::<#d75ad40d6e24f1b1>\",%function\n"
     ".size \"std_alloc::vec::Vec::grow_amortized::<#d75ad40d6e24f1b1>\",544\n"
     "\"std_alloc::vec::Vec::grow_amortized::<#d75ad40d6e24f1b1>\":\n"
@@ -8367,9 +8413,9 @@ __asm__(
     ".octa 0x801f0fc189481b7403e08349c1,0xc8ff49c1ff480b0c88440e0cb60f4400,0x66ffffff14870ffcf88348d02948ef75\n"
     ".octa 0xb4488010e44b60f0b04880e04b60f90,0x88030e44b60f020b4488020e44b60f01,0xfffee2e9d575ca394804c18348030b44\n"
     ".byte 0xff\n"
-    ".section .text.tcp.92,\"ax\",%progbits\n"
+    ".section .text.tcp.93,\"ax\",%progbits\n"
     ".balign 16\n"
-    ".Ltcp92:\n"
+    ".Ltcp93:\n"
     ".type \"kit_report::report::push_end_line::<#fc995fe602e3aacb>\",%function\n"
     ".size \"kit_report::report::push_end_line::<#fc995fe602e3aacb>\",248\n"
     "\"kit_report::report::push_end_line::<#fc995fe602e3aacb>\":\n"
@@ -8379,14 +8425,14 @@ __asm__(
     ".octa 0x48052454b60f3875c08401b540000000,0x8b482475c08400000000e8f6894cdf89,0x4c6138b482274c13948104b8b480843\n"
     ".octa 0x104b894808438948138948c0ff480a02,0x1bec35d5e415b50c48348e889ed31,0x8b48e474c08400000000e8df89480000\n"
     ".quad 0xc3eb104b8b480843\n"
-    ".reloc .Ltcp92+54,R_X86_64_PC32,.Ltcp98+40\n"
-    ".reloc .Ltcp92+85,R_X86_64_PC32,.Ltcp103-4\n"
-    ".reloc .Ltcp92+143,R_X86_64_PLT32,.Ltcp93-4\n"
-    ".reloc .Ltcp92+166,R_X86_64_PLT32,.Ltcp94-4\n"
-    ".reloc .Ltcp92+230,R_X86_64_PLT32,.Ltcp84-4\n"
-    ".section .text.tcp.93,\"ax\",%progbits\n"
+    ".reloc .Ltcp93+54,R_X86_64_PC32,.Ltcp99+40\n"
+    ".reloc .Ltcp93+85,R_X86_64_PC32,.Ltcp104-4\n"
+    ".reloc .Ltcp93+143,R_X86_64_PLT32,.Ltcp94-4\n"
+    ".reloc .Ltcp93+166,R_X86_64_PLT32,.Ltcp95-4\n"
+    ".reloc .Ltcp93+230,R_X86_64_PLT32,.Ltcp85-4\n"
+    ".section .text.tcp.94,\"ax\",%progbits\n"
     ".balign 16\n"
-    ".Ltcp93:\n"
+    ".Ltcp94:\n"
     ".type \"std_alloc::string::String::write_fmt::<#63f633939ab7fc33>\",%function\n"
     ".size \"std_alloc::string::String::write_fmt::<#63f633939ab7fc33>\",2548\n"
     "\"std_alloc::string::String::write_fmt::<#63f633939ab7fc33>\":\n"
@@ -8462,26 +8508,26 @@ __asm__(
     ".quad 0xb008728948fffffc\n"
     ".long 0xfc25e901\n"
     ".short 0xffff\n"
-    ".reloc .Ltcp93+434,R_X86_64_PC32,.Ltcp135-4\n"
-    ".reloc .Ltcp93+441,R_X86_64_PC32,.Ltcp136-4\n"
-    ".reloc .Ltcp93+800,R_X86_64_PC32,.Ltcp186-4\n"
-    ".reloc .Ltcp93+811,R_X86_64_PC32,.Ltcp187-4\n"
-    ".reloc .Ltcp93+1318,R_X86_64_PC32,.Ltcp102+60\n"
-    ".reloc .Ltcp93+1329,R_X86_64_PC32,.Ltcp188-4\n"
-    ".reloc .Ltcp93+1758,R_X86_64_PLT32,.Ltcp84-4\n"
-    ".reloc .Ltcp93+1805,R_X86_64_PLT32,.Ltcp77-4\n"
-    ".reloc .Ltcp93+1836,R_X86_64_PLT32,.Ltcp84-4\n"
-    ".reloc .Ltcp93+1882,R_X86_64_PLT32,.Ltcp77-4\n"
-    ".reloc .Ltcp93+2039,R_X86_64_PLT32,.Ltcp84-4\n"
-    ".reloc .Ltcp93+2075,R_X86_64_PLT32,.Ltcp77-4\n"
-    ".reloc .Ltcp93+2110,R_X86_64_PLT32,.Ltcp84-4\n"
-    ".reloc .Ltcp93+2160,R_X86_64_PLT32,.Ltcp77-4\n"
-    ".reloc .Ltcp93+2310,R_X86_64_PLT32,.Ltcp84-4\n"
-    ".reloc .Ltcp93+2347,R_X86_64_PLT32,.Ltcp77-4\n"
-    ".reloc .Ltcp93+2410,R_X86_64_PLT32,.Ltcp84-4\n"
-    ".section .text.tcp.94,\"ax\",%progbits\n"
+    ".reloc .Ltcp94+434,R_X86_64_PC32,.Ltcp136-4\n"
+    ".reloc .Ltcp94+441,R_X86_64_PC32,.Ltcp137-4\n"
+    ".reloc .Ltcp94+800,R_X86_64_PC32,.Ltcp187-4\n"
+    ".reloc .Ltcp94+811,R_X86_64_PC32,.Ltcp188-4\n"
+    ".reloc .Ltcp94+1318,R_X86_64_PC32,.Ltcp103+60\n"
+    ".reloc .Ltcp94+1329,R_X86_64_PC32,.Ltcp189-4\n"
+    ".reloc .Ltcp94+1758,R_X86_64_PLT32,.Ltcp85-4\n"
+    ".reloc .Ltcp94+1805,R_X86_64_PLT32,.Ltcp78-4\n"
+    ".reloc .Ltcp94+1836,R_X86_64_PLT32,.Ltcp85-4\n"
+    ".reloc .Ltcp94+1882,R_X86_64_PLT32,.Ltcp78-4\n"
+    ".reloc .Ltcp94+2039,R_X86_64_PLT32,.Ltcp85-4\n"
+    ".reloc .Ltcp94+2075,R_X86_64_PLT32,.Ltcp78-4\n"
+    ".reloc .Ltcp94+2110,R_X86_64_PLT32,.Ltcp85-4\n"
+    ".reloc .Ltcp94+2160,R_X86_64_PLT32,.Ltcp78-4\n"
+    ".reloc .Ltcp94+2310,R_X86_64_PLT32,.Ltcp85-4\n"
+    ".reloc .Ltcp94+2347,R_X86_64_PLT32,.Ltcp78-4\n"
+    ".reloc .Ltcp94+2410,R_X86_64_PLT32,.Ltcp85-4\n"
+    ".section .text.tcp.95,\"ax\",%progbits\n"
     ".balign 16\n"
-    ".Ltcp94:\n"
+    ".Ltcp95:\n"
     ".type \"kit_report::report::push_counts::<#fc995fe602e3aacb>\",%function\n"
     ".size \"kit_report::report::push_counts::<#fc995fe602e3aacb>\",2133\n"
     "\"kit_report::report::push_counts::<#fc995fe602e3aacb>\":\n"
@@ -8536,44 +8582,44 @@ __asm__(
     ".octa 0x4803110f104b110f70244c290f602444,0x4c01b01574cd39491a74ed854d084b8b,0x97fbf293c80420b8b4819761b72e939\n"
     ".octa 0x4801b0086b894c0676e9394c01b00deb,0x5d5f415e415d415c415b00000168c481\n"
     ".byte 0xc3\n"
-    ".reloc .Ltcp94+119,R_X86_64_PC32,.Ltcp156-4\n"
-    ".reloc .Ltcp94+126,R_X86_64_PC32,.Ltcp157-4\n"
-    ".reloc .Ltcp94+140,R_X86_64_PC32,.Ltcp177-4\n"
-    ".reloc .Ltcp94+183,R_X86_64_PC32,.Ltcp178-4\n"
-    ".reloc .Ltcp94+226,R_X86_64_PC32,.Ltcp179-4\n"
-    ".reloc .Ltcp94+266,R_X86_64_PC32,.Ltcp180-4\n"
-    ".reloc .Ltcp94+306,R_X86_64_PC32,.Ltcp181-4\n"
-    ".reloc .Ltcp94+349,R_X86_64_PC32,.Ltcp182-4\n"
-    ".reloc .Ltcp94+578,R_X86_64_PLT32,.Ltcp79-4\n"
-    ".reloc .Ltcp94+750,R_X86_64_PLT32,.Ltcp79-4\n"
-    ".reloc .Ltcp94+850,R_X86_64_PC32,.Ltcp179-4\n"
-    ".reloc .Ltcp94+903,R_X86_64_PLT32,.Ltcp95-4\n"
-    ".reloc .Ltcp94+1003,R_X86_64_PC32,.Ltcp180-4\n"
-    ".reloc .Ltcp94+1054,R_X86_64_PLT32,.Ltcp95-4\n"
-    ".reloc .Ltcp94+1154,R_X86_64_PC32,.Ltcp181-4\n"
-    ".reloc .Ltcp94+1197,R_X86_64_PLT32,.Ltcp84-4\n"
-    ".reloc .Ltcp94+1227,R_X86_64_PC32,.Ltcp178-4\n"
-    ".reloc .Ltcp94+1240,R_X86_64_PLT32,.Ltcp77-4\n"
-    ".reloc .Ltcp94+1266,R_X86_64_PLT32,.Ltcp84-4\n"
-    ".reloc .Ltcp94+1296,R_X86_64_PC32,.Ltcp179-4\n"
-    ".reloc .Ltcp94+1309,R_X86_64_PLT32,.Ltcp77-4\n"
-    ".reloc .Ltcp94+1364,R_X86_64_PLT32,.Ltcp79-4\n"
-    ".reloc .Ltcp94+1464,R_X86_64_PC32,.Ltcp182-4\n"
-    ".reloc .Ltcp94+1504,R_X86_64_PLT32,.Ltcp84-4\n"
-    ".reloc .Ltcp94+1534,R_X86_64_PC32,.Ltcp180-4\n"
-    ".reloc .Ltcp94+1547,R_X86_64_PLT32,.Ltcp77-4\n"
-    ".reloc .Ltcp94+1729,R_X86_64_PLT32,.Ltcp84-4\n"
-    ".reloc .Ltcp94+1814,R_X86_64_PC32,.Ltcp181-4\n"
-    ".reloc .Ltcp94+1827,R_X86_64_PLT32,.Ltcp77-4\n"
-    ".reloc .Ltcp94+1853,R_X86_64_PLT32,.Ltcp84-4\n"
-    ".reloc .Ltcp94+1883,R_X86_64_PC32,.Ltcp182-4\n"
-    ".reloc .Ltcp94+1896,R_X86_64_PLT32,.Ltcp77-4\n"
-    ".reloc .Ltcp94+1922,R_X86_64_PLT32,.Ltcp84-4\n"
-    ".reloc .Ltcp94+1960,R_X86_64_PLT32,.Ltcp77-4\n"
-    ".reloc .Ltcp94+2013,R_X86_64_PLT32,.Ltcp84-4\n"
-    ".section .text.tcp.95,\"ax\",%progbits\n"
+    ".reloc .Ltcp95+119,R_X86_64_PC32,.Ltcp157-4\n"
+    ".reloc .Ltcp95+126,R_X86_64_PC32,.Ltcp158-4\n"
+    ".reloc .Ltcp95+140,R_X86_64_PC32,.Ltcp178-4\n"
+    ".reloc .Ltcp95+183,R_X86_64_PC32,.Ltcp179-4\n"
+    ".reloc .Ltcp95+226,R_X86_64_PC32,.Ltcp180-4\n"
+    ".reloc .Ltcp95+266,R_X86_64_PC32,.Ltcp181-4\n"
+    ".reloc .Ltcp95+306,R_X86_64_PC32,.Ltcp182-4\n"
+    ".reloc .Ltcp95+349,R_X86_64_PC32,.Ltcp183-4\n"
+    ".reloc .Ltcp95+578,R_X86_64_PLT32,.Ltcp80-4\n"
+    ".reloc .Ltcp95+750,R_X86_64_PLT32,.Ltcp80-4\n"
+    ".reloc .Ltcp95+850,R_X86_64_PC32,.Ltcp180-4\n"
+    ".reloc .Ltcp95+903,R_X86_64_PLT32,.Ltcp96-4\n"
+    ".reloc .Ltcp95+1003,R_X86_64_PC32,.Ltcp181-4\n"
+    ".reloc .Ltcp95+1054,R_X86_64_PLT32,.Ltcp96-4\n"
+    ".reloc .Ltcp95+1154,R_X86_64_PC32,.Ltcp182-4\n"
+    ".reloc .Ltcp95+1197,R_X86_64_PLT32,.Ltcp85-4\n"
+    ".reloc .Ltcp95+1227,R_X86_64_PC32,.Ltcp179-4\n"
+    ".reloc .Ltcp95+1240,R_X86_64_PLT32,.Ltcp78-4\n"
+    ".reloc .Ltcp95+1266,R_X86_64_PLT32,.Ltcp85-4\n"
+    ".reloc .Ltcp95+1296,R_X86_64_PC32,.Ltcp180-4\n"
+    ".reloc .Ltcp95+1309,R_X86_64_PLT32,.Ltcp78-4\n"
+    ".reloc .Ltcp95+1364,R_X86_64_PLT32,.Ltcp80-4\n"
+    ".reloc .Ltcp95+1464,R_X86_64_PC32,.Ltcp183-4\n"
+    ".reloc .Ltcp95+1504,R_X86_64_PLT32,.Ltcp85-4\n"
+    ".reloc .Ltcp95+1534,R_X86_64_PC32,.Ltcp181-4\n"
+    ".reloc .Ltcp95+1547,R_X86_64_PLT32,.Ltcp78-4\n"
+    ".reloc .Ltcp95+1729,R_X86_64_PLT32,.Ltcp85-4\n"
+    ".reloc .Ltcp95+1814,R_X86_64_PC32,.Ltcp182-4\n"
+    ".reloc .Ltcp95+1827,R_X86_64_PLT32,.Ltcp78-4\n"
+    ".reloc .Ltcp95+1853,R_X86_64_PLT32,.Ltcp85-4\n"
+    ".reloc .Ltcp95+1883,R_X86_64_PC32,.Ltcp183-4\n"
+    ".reloc .Ltcp95+1896,R_X86_64_PLT32,.Ltcp78-4\n"
+    ".reloc .Ltcp95+1922,R_X86_64_PLT32,.Ltcp85-4\n"
+    ".reloc .Ltcp95+1960,R_X86_64_PLT32,.Ltcp78-4\n"
+    ".reloc .Ltcp95+2013,R_X86_64_PLT32,.Ltcp85-4\n"
+    ".section .text.tcp.96,\"ax\",%progbits\n"
     ".balign 16\n"
-    ".Ltcp95:\n"
+    ".Ltcp96:\n"
     ".type \"core::fmt::formatter::Formatter::write_piece::<#9759a26100429c7f>\",%function\n"
     ".size \"core::fmt::formatter::Formatter::write_piece::<#9759a26100429c7f>\",367\n"
     "\"core::fmt::formatter::Formatter::write_piece::<#9759a26100429c7f>\":\n"
@@ -8591,11 +8637,11 @@ __asm__(
     ".quad 0x894c107b8b4c0873\n"
     ".long 0xea894ce6\n"
     ".short 0xa3eb\n"
-    ".reloc .Ltcp95+320,R_X86_64_PLT32,.Ltcp77-4\n"
-    ".reloc .Ltcp95+339,R_X86_64_PLT32,.Ltcp84-4\n"
-    ".section .text.tcp.96,\"ax\",%progbits\n"
+    ".reloc .Ltcp96+320,R_X86_64_PLT32,.Ltcp78-4\n"
+    ".reloc .Ltcp96+339,R_X86_64_PLT32,.Ltcp85-4\n"
+    ".section .text.tcp.97,\"ax\",%progbits\n"
     ".balign 16\n"
-    ".Ltcp96:\n"
+    ".Ltcp97:\n"
     ".globl tcp_web_list\n"
     ".hidden tcp_web_list\n"
     ".type tcp_web_list,%function\n"
@@ -8687,36 +8733,36 @@ __asm__(
     ".quad 0xc031fffffd20850f\n"
     ".long 0xfffb38e9\n"
     ".byte 0xff\n"
-    ".reloc .Ltcp96+361,R_X86_64_PLT32,.Ltcp1-4\n"
-    ".reloc .Ltcp96+582,R_X86_64_PLT32,.Ltcp2-4\n"
-    ".reloc .Ltcp96+693,R_X86_64_PLT32,.Ltcp2-4\n"
-    ".reloc .Ltcp96+762,R_X86_64_PLT32,.Ltcp5-4\n"
-    ".reloc .Ltcp96+802,R_X86_64_PLT32,.Ltcp5-4\n"
-    ".reloc .Ltcp96+846,R_X86_64_PLT32,.Ltcp7-4\n"
-    ".reloc .Ltcp96+905,R_X86_64_PC32,.Ltcp103-4\n"
-    ".reloc .Ltcp96+1013,R_X86_64_PLT32,.Ltcp11-4\n"
-    ".reloc .Ltcp96+1164,R_X86_64_PLT32,.Ltcp14-4\n"
-    ".reloc .Ltcp96+1267,R_X86_64_PLT32,.Ltcp1-4\n"
-    ".reloc .Ltcp96+1352,R_X86_64_PLT32,.Ltcp2-4\n"
-    ".reloc .Ltcp96+1372,R_X86_64_PC32,.Ltcp103-4\n"
-    ".reloc .Ltcp96+1385,R_X86_64_PLT32,.Ltcp12-4\n"
-    ".reloc .Ltcp96+1447,R_X86_64_PLT32,.Ltcp25-4\n"
-    ".reloc .Ltcp96+1485,R_X86_64_PLT32,.Ltcp25-4\n"
-    ".reloc .Ltcp96+1536,R_X86_64_PC32,.Ltcp130-4\n"
-    ".reloc .Ltcp96+1579,R_X86_64_PC32,.Ltcp131-4\n"
-    ".reloc .Ltcp96+1622,R_X86_64_PC32,.Ltcp100-4\n"
-    ".reloc .Ltcp96+2126,R_X86_64_PLT32,.Ltcp11-4\n"
-    ".reloc .Ltcp96+2320,R_X86_64_PLT32,.Ltcp11-4\n"
-    ".reloc .Ltcp96+2715,R_X86_64_PLT32,.Ltcp25-4\n"
-    ".reloc .Ltcp96+3074,R_X86_64_PC32,.Ltcp131-4\n"
-    ".reloc .Ltcp96+3087,R_X86_64_PLT32,.Ltcp12-4\n"
-    ".reloc .Ltcp96+3113,R_X86_64_PLT32,.Ltcp25-4\n"
-    ".reloc .Ltcp96+3170,R_X86_64_PC32,.Ltcp100-4\n"
-    ".reloc .Ltcp96+3183,R_X86_64_PLT32,.Ltcp12-4\n"
-    ".reloc .Ltcp96+3263,R_X86_64_PLT32,.Ltcp25-4\n"
-    ".section .text.tcp.97,\"ax\",%progbits\n"
+    ".reloc .Ltcp97+361,R_X86_64_PLT32,.Ltcp1-4\n"
+    ".reloc .Ltcp97+582,R_X86_64_PLT32,.Ltcp2-4\n"
+    ".reloc .Ltcp97+693,R_X86_64_PLT32,.Ltcp2-4\n"
+    ".reloc .Ltcp97+762,R_X86_64_PLT32,.Ltcp5-4\n"
+    ".reloc .Ltcp97+802,R_X86_64_PLT32,.Ltcp5-4\n"
+    ".reloc .Ltcp97+846,R_X86_64_PLT32,.Ltcp7-4\n"
+    ".reloc .Ltcp97+905,R_X86_64_PC32,.Ltcp104-4\n"
+    ".reloc .Ltcp97+1013,R_X86_64_PLT32,.Ltcp11-4\n"
+    ".reloc .Ltcp97+1164,R_X86_64_PLT32,.Ltcp14-4\n"
+    ".reloc .Ltcp97+1267,R_X86_64_PLT32,.Ltcp1-4\n"
+    ".reloc .Ltcp97+1352,R_X86_64_PLT32,.Ltcp2-4\n"
+    ".reloc .Ltcp97+1372,R_X86_64_PC32,.Ltcp104-4\n"
+    ".reloc .Ltcp97+1385,R_X86_64_PLT32,.Ltcp12-4\n"
+    ".reloc .Ltcp97+1447,R_X86_64_PLT32,.Ltcp25-4\n"
+    ".reloc .Ltcp97+1485,R_X86_64_PLT32,.Ltcp25-4\n"
+    ".reloc .Ltcp97+1536,R_X86_64_PC32,.Ltcp131-4\n"
+    ".reloc .Ltcp97+1579,R_X86_64_PC32,.Ltcp132-4\n"
+    ".reloc .Ltcp97+1622,R_X86_64_PC32,.Ltcp101-4\n"
+    ".reloc .Ltcp97+2126,R_X86_64_PLT32,.Ltcp11-4\n"
+    ".reloc .Ltcp97+2320,R_X86_64_PLT32,.Ltcp11-4\n"
+    ".reloc .Ltcp97+2715,R_X86_64_PLT32,.Ltcp25-4\n"
+    ".reloc .Ltcp97+3074,R_X86_64_PC32,.Ltcp132-4\n"
+    ".reloc .Ltcp97+3087,R_X86_64_PLT32,.Ltcp12-4\n"
+    ".reloc .Ltcp97+3113,R_X86_64_PLT32,.Ltcp25-4\n"
+    ".reloc .Ltcp97+3170,R_X86_64_PC32,.Ltcp101-4\n"
+    ".reloc .Ltcp97+3183,R_X86_64_PLT32,.Ltcp12-4\n"
+    ".reloc .Ltcp97+3263,R_X86_64_PLT32,.Ltcp25-4\n"
+    ".section .text.tcp.98,\"ax\",%progbits\n"
     ".balign 16\n"
-    ".Ltcp97:\n"
+    ".Ltcp98:\n"
     ".globl tcp_web_replay\n"
     ".hidden tcp_web_replay\n"
     ".type tcp_web_replay,%function\n"
@@ -8763,504 +8809,504 @@ __asm__(
     ".octa 0x20c08349010c110f42f00144110f4210,0x46840f1cc2f6b674c23948e175c0394c,0x48b44fce08348d08948c18948ffffff\n"
     ".octa 0x3948ef75c8394804c183480f0489440e\n"
     ".quad 0xffffff21e98d74c2\n"
-    ".reloc .Ltcp97+176,R_X86_64_PLT32,.Ltcp26-4\n"
-    ".reloc .Ltcp97+378,R_X86_64_PLT32,.Ltcp33-4\n"
-    ".reloc .Ltcp97+439,R_X86_64_PLT32,.Ltcp33-4\n"
-    ".reloc .Ltcp97+695,R_X86_64_PLT32,.Ltcp34-4\n"
-    ".reloc .Ltcp97+760,R_X86_64_PLT32,.Ltcp92-4\n"
-    ".reloc .Ltcp97+790,R_X86_64_PLT32,.Ltcp92-4\n"
-    ".reloc .Ltcp97+858,R_X86_64_PLT32,.Ltcp88-4\n"
-    ".section .rodata.tcp.98,\"a\",%progbits\n"
-    ".balign 1\n"
-    ".Ltcp98:\n"
-    ".octa 0x206f742020202020746e6577656d6163,0x74696d65646e6573736e75726566696c,0x20646e65656e6f6e6b63617376636572\n"
+    ".reloc .Ltcp98+176,R_X86_64_PLT32,.Ltcp26-4\n"
+    ".reloc .Ltcp98+378,R_X86_64_PLT32,.Ltcp33-4\n"
+    ".reloc .Ltcp98+439,R_X86_64_PLT32,.Ltcp33-4\n"
+    ".reloc .Ltcp98+695,R_X86_64_PLT32,.Ltcp34-4\n"
+    ".reloc .Ltcp98+760,R_X86_64_PLT32,.Ltcp93-4\n"
+    ".reloc .Ltcp98+790,R_X86_64_PLT32,.Ltcp93-4\n"
+    ".reloc .Ltcp98+858,R_X86_64_PLT32,.Ltcp89-4\n"
     ".section .rodata.tcp.99,\"a\",%progbits\n"
     ".balign 1\n"
     ".Ltcp99:\n"
-    ".byte 0x2d\n"
+    ".octa 0x206f742020202020746e6577656d6163,0x74696d65646e6573736e75726566696c,0x20646e65656e6f6e6b63617376636572\n"
     ".section .rodata.tcp.100,\"a\",%progbits\n"
     ".balign 1\n"
     ".Ltcp100:\n"
-    ".byte 0xa\n"
+    ".byte 0x2d\n"
     ".section .rodata.tcp.101,\"a\",%progbits\n"
     ".balign 1\n"
     ".Ltcp101:\n"
+    ".byte 0xa\n"
     ".section .rodata.tcp.102,\"a\",%progbits\n"
-    ".balign 8\n"
+    ".balign 1\n"
     ".Ltcp102:\n"
+    ".section .rodata.tcp.103,\"a\",%progbits\n"
+    ".balign 8\n"
+    ".Ltcp103:\n"
     ".octa 0x34312065766f62612074666968732061,0x29332e32202c33323337204346522820,0x20657265687765736c652d7465736572\n"
     ".octa 0x646e6f636573202c342e372e30312e33,0x70000000000000009,0x70000000000000005\n"
-    ".section .rodata.tcp.103,\"a\",%progbits\n"
-    ".balign 1\n"
-    ".Ltcp103:\n"
-    ".byte 0x20\n"
     ".section .rodata.tcp.104,\"a\",%progbits\n"
     ".balign 1\n"
     ".Ltcp104:\n"
+    ".byte 0x20\n"
+    ".section .rodata.tcp.105,\"a\",%progbits\n"
+    ".balign 1\n"
+    ".Ltcp105:\n"
     ".octa 0x37303630353034303330323031303030,0x35313431333132313131303139303830,0x33323232313230323931383137313631\n"
     ".octa 0x31333033393238323732363235323432,0x39333833373336333533343333333233,0x37343634353434343334323431343034\n"
     ".octa 0x35353435333532353135303539343834,0x33363236313630363935383537353635,0x31373037393638363736363635363436\n"
     ".octa 0x39373837373736373537343733373237,0x37383638353834383338323831383038,0x35393439333932393139303939383838\n"
     ".quad 0x3939383937393639\n"
-    ".section .rodata.tcp.105,\"a\",%progbits\n"
-    ".balign 1\n"
-    ".Ltcp105:\n"
-    ".short 0x4341\n"
-    ".byte 0x4b\n"
     ".section .rodata.tcp.106,\"a\",%progbits\n"
     ".balign 1\n"
     ".Ltcp106:\n"
-    ".long 0x2c4b4341\n"
-    ".short 0x5350\n"
-    ".byte 0x48\n"
+    ".short 0x4341\n"
+    ".byte 0x4b\n"
     ".section .rodata.tcp.107,\"a\",%progbits\n"
     ".balign 1\n"
     ".Ltcp107:\n"
-    ".short 0x5953\n"
-    ".byte 0x4e\n"
+    ".long 0x2c4b4341\n"
+    ".short 0x5350\n"
+    ".byte 0x48\n"
     ".section .rodata.tcp.108,\"a\",%progbits\n"
     ".balign 1\n"
     ".Ltcp108:\n"
-    ".long 0x2c4b4341\n"
     ".short 0x5953\n"
     ".byte 0x4e\n"
     ".section .rodata.tcp.109,\"a\",%progbits\n"
     ".balign 1\n"
     ".Ltcp109:\n"
     ".long 0x2c4b4341\n"
-    ".short 0x4946\n"
+    ".short 0x5953\n"
     ".byte 0x4e\n"
     ".section .rodata.tcp.110,\"a\",%progbits\n"
     ".balign 1\n"
     ".Ltcp110:\n"
     ".long 0x2c4b4341\n"
-    ".short 0x5352\n"
-    ".byte 0x54\n"
+    ".short 0x4946\n"
+    ".byte 0x4e\n"
     ".section .rodata.tcp.111,\"a\",%progbits\n"
     ".balign 1\n"
     ".Ltcp111:\n"
-    ".short 0x5743\n"
-    ".byte 0x52\n"
+    ".long 0x2c4b4341\n"
+    ".short 0x5352\n"
+    ".byte 0x54\n"
     ".section .rodata.tcp.112,\"a\",%progbits\n"
     ".balign 1\n"
     ".Ltcp112:\n"
-    ".short 0x4345\n"
-    ".byte 0x45\n"
+    ".short 0x5743\n"
+    ".byte 0x52\n"
     ".section .rodata.tcp.113,\"a\",%progbits\n"
     ".balign 1\n"
     ".Ltcp113:\n"
-    ".short 0x5255\n"
-    ".byte 0x47\n"
+    ".short 0x4345\n"
+    ".byte 0x45\n"
     ".section .rodata.tcp.114,\"a\",%progbits\n"
     ".balign 1\n"
     ".Ltcp114:\n"
-    ".short 0x5350\n"
-    ".byte 0x48\n"
+    ".short 0x5255\n"
+    ".byte 0x47\n"
     ".section .rodata.tcp.115,\"a\",%progbits\n"
     ".balign 1\n"
     ".Ltcp115:\n"
-    ".short 0x5352\n"
-    ".byte 0x54\n"
+    ".short 0x5350\n"
+    ".byte 0x48\n"
     ".section .rodata.tcp.116,\"a\",%progbits\n"
     ".balign 1\n"
     ".Ltcp116:\n"
-    ".short 0x4946\n"
-    ".byte 0x4e\n"
+    ".short 0x5352\n"
+    ".byte 0x54\n"
     ".section .rodata.tcp.117,\"a\",%progbits\n"
     ".balign 1\n"
     ".Ltcp117:\n"
-    ".byte 0x2c\n"
+    ".short 0x4946\n"
+    ".byte 0x4e\n"
     ".section .rodata.tcp.118,\"a\",%progbits\n"
     ".balign 1\n"
     ".Ltcp118:\n"
-    ".octa 0x332074696b70637420776f646e697720,0x74696177656d6974322074696b706374,0x4b43412d5453414c544e45532d4e5953\n"
-    ".octa 0x20646575657571202074616570657220,0x20646165726e752020746867696c6620\n"
+    ".byte 0x2c\n"
     ".section .rodata.tcp.119,\"a\",%progbits\n"
     ".balign 1\n"
     ".Ltcp119:\n"
-    ".quad 0x736e6f6974706f20\n"
-    ".byte 0x20\n"
+    ".octa 0x332074696b70637420776f646e697720,0x74696177656d6974322074696b706374,0x4b43412d5453414c544e45532d4e5953\n"
+    ".octa 0x20646575657571202074616570657220,0x20646165726e752020746867696c6620\n"
     ".section .rodata.tcp.120,\"a\",%progbits\n"
     ".balign 1\n"
     ".Ltcp120:\n"
-    ".short 0x6f6e\n"
-    ".byte 0x70\n"
+    ".quad 0x736e6f6974706f20\n"
+    ".byte 0x20\n"
     ".section .rodata.tcp.121,\"a\",%progbits\n"
     ".balign 1\n"
     ".Ltcp121:\n"
-    ".short 0x7377\n"
-    ".byte 0x3a\n"
+    ".short 0x6f6e\n"
+    ".byte 0x70\n"
     ".section .rodata.tcp.122,\"a\",%progbits\n"
     ".balign 1\n"
     ".Ltcp122:\n"
-    ".long 0x6b636173\n"
-    ".short 0x6b6f\n"
+    ".short 0x7377\n"
+    ".byte 0x3a\n"
     ".section .rodata.tcp.123,\"a\",%progbits\n"
     ".balign 1\n"
     ".Ltcp123:\n"
     ".long 0x6b636173\n"
-    ".byte 0x3a\n"
+    ".short 0x6b6f\n"
     ".section .rodata.tcp.124,\"a\",%progbits\n"
     ".balign 1\n"
     ".Ltcp124:\n"
-    ".quad 0x656d726f666c616d\n"
-    ".short 0x2064\n"
+    ".long 0x6b636173\n"
+    ".byte 0x3a\n"
     ".section .rodata.tcp.125,\"a\",%progbits\n"
     ".balign 1\n"
     ".Ltcp125:\n"
-    ".long 0x4c6f6f54\n"
-    ".short 0x6e6f\n"
-    ".byte 0x67\n"
+    ".quad 0x656d726f666c616d\n"
+    ".short 0x2064\n"
     ".section .rodata.tcp.126,\"a\",%progbits\n"
     ".balign 1\n"
     ".Ltcp126:\n"
-    ".quad 0x6b63656843646142\n"
-    ".short 0x7573\n"
-    ".byte 0x6d\n"
+    ".long 0x4c6f6f54\n"
+    ".short 0x6e6f\n"
+    ".byte 0x67\n"
     ".section .rodata.tcp.127,\"a\",%progbits\n"
     ".balign 1\n"
     ".Ltcp127:\n"
-    ".quad 0x657366664f646142\n"
-    ".byte 0x74\n"
+    ".quad 0x6b63656843646142\n"
+    ".short 0x7573\n"
+    ".byte 0x6d\n"
     ".section .rodata.tcp.128,\"a\",%progbits\n"
     ".balign 1\n"
     ".Ltcp128:\n"
-    ".quad 0x6f6974704f646142\n"
-    ".long 0x7461206e\n"
-    ".byte 0x20\n"
+    ".quad 0x657366664f646142\n"
+    ".byte 0x74\n"
     ".section .rodata.tcp.129,\"a\",%progbits\n"
     ".balign 1\n"
     ".Ltcp129:\n"
-    ".quad 0x6964646150646142\n"
-    ".long 0x6120676e\n"
-    ".short 0x2074\n"
+    ".quad 0x6f6974704f646142\n"
+    ".long 0x7461206e\n"
+    ".byte 0x20\n"
     ".section .rodata.tcp.130,\"a\",%progbits\n"
     ".balign 1\n"
     ".Ltcp130:\n"
-    ".long 0x61746f74\n"
-    ".short 0x206c\n"
+    ".quad 0x6964646150646142\n"
+    ".long 0x6120676e\n"
+    ".short 0x2074\n"
     ".section .rodata.tcp.131,\"a\",%progbits\n"
     ".balign 1\n"
     ".Ltcp131:\n"
-    ".quad 0x6d726f666c616d20\n"
-    ".short 0x6465\n"
-    ".byte 0x20\n"
+    ".long 0x61746f74\n"
+    ".short 0x206c\n"
     ".section .rodata.tcp.132,\"a\",%progbits\n"
     ".balign 1\n"
     ".Ltcp132:\n"
-    ".long 0x666e6f63\n"
-    ".short 0x6769\n"
+    ".quad 0x6d726f666c616d20\n"
+    ".short 0x6465\n"
+    ".byte 0x20\n"
     ".section .rodata.tcp.133,\"a\",%progbits\n"
     ".balign 1\n"
     ".Ltcp133:\n"
-    ".long 0x65706572\n"
-    ".short 0x7461\n"
+    ".long 0x666e6f63\n"
+    ".short 0x6769\n"
     ".section .rodata.tcp.134,\"a\",%progbits\n"
     ".balign 1\n"
     ".Ltcp134:\n"
-    ".long 0x696d696c\n"
-    ".byte 0x74\n"
+    ".long 0x65706572\n"
+    ".short 0x7461\n"
     ".section .rodata.tcp.135,\"a\",%progbits\n"
     ".balign 1\n"
     ".Ltcp135:\n"
-    ".byte 0x41\n"
+    ".long 0x696d696c\n"
+    ".byte 0x74\n"
     ".section .rodata.tcp.136,\"a\",%progbits\n"
     ".balign 1\n"
     ".Ltcp136:\n"
-    ".byte 0x42\n"
+    ".byte 0x41\n"
     ".section .rodata.tcp.137,\"a\",%progbits\n"
     ".balign 1\n"
     ".Ltcp137:\n"
-    ".long 0x6e6e6f63\n"
-    ".short 0x6365\n"
-    ".byte 0x74\n"
+    ".byte 0x42\n"
     ".section .rodata.tcp.138,\"a\",%progbits\n"
     ".balign 1\n"
     ".Ltcp138:\n"
-    ".long 0x7473696c\n"
-    ".short 0x6e65\n"
+    ".long 0x6e6e6f63\n"
+    ".short 0x6365\n"
+    ".byte 0x74\n"
     ".section .rodata.tcp.139,\"a\",%progbits\n"
     ".balign 1\n"
     ".Ltcp139:\n"
-    ".long 0x65636572\n"
-    ".short 0x7669\n"
-    ".byte 0x65\n"
+    ".long 0x7473696c\n"
+    ".short 0x6e65\n"
     ".section .rodata.tcp.140,\"a\",%progbits\n"
     ".balign 1\n"
     ".Ltcp140:\n"
-    ".long 0x736f6c63\n"
+    ".long 0x65636572\n"
+    ".short 0x7669\n"
     ".byte 0x65\n"
     ".section .rodata.tcp.141,\"a\",%progbits\n"
     ".balign 1\n"
     ".Ltcp141:\n"
-    ".long 0x726f6261\n"
-    ".byte 0x74\n"
+    ".long 0x736f6c63\n"
+    ".byte 0x65\n"
     ".section .rodata.tcp.142,\"a\",%progbits\n"
     ".balign 1\n"
     ".Ltcp142:\n"
-    ".quad 0x656c776f6e6b6361\n"
-    ".short 0x6764\n"
-    ".byte 0x65\n"
+    ".long 0x726f6261\n"
+    ".byte 0x74\n"
     ".section .rodata.tcp.143,\"a\",%progbits\n"
     ".balign 1\n"
     ".Ltcp143:\n"
-    ".long 0x656d6974\n"
-    ".byte 0x72\n"
+    ".quad 0x656c776f6e6b6361\n"
+    ".short 0x6764\n"
+    ".byte 0x65\n"
     ".section .rodata.tcp.144,\"a\",%progbits\n"
     ".balign 1\n"
     ".Ltcp144:\n"
-    ".octa 0x656764656c776f6e6b63612d74696d65\n"
-    ".long 0x746e656d\n"
+    ".long 0x656d6974\n"
+    ".byte 0x72\n"
     ".section .rodata.tcp.145,\"a\",%progbits\n"
     ".balign 1\n"
     ".Ltcp145:\n"
-    ".quad 0x662d646e65736572\n"
-    ".long 0x74737269\n"
+    ".octa 0x656764656c776f6e6b63612d74696d65\n"
+    ".long 0x746e656d\n"
     ".section .rodata.tcp.146,\"a\",%progbits\n"
     ".balign 1\n"
     ".Ltcp146:\n"
-    ".long 0x696c6564\n"
-    ".short 0x6576\n"
-    ".byte 0x72\n"
+    ".quad 0x662d646e65736572\n"
+    ".long 0x74737269\n"
     ".section .rodata.tcp.147,\"a\",%progbits\n"
     ".balign 1\n"
     ".Ltcp147:\n"
-    ".long 0x616d6164\n"
-    ".short 0x6567\n"
+    ".long 0x696c6564\n"
+    ".short 0x6576\n"
+    ".byte 0x72\n"
     ".section .rodata.tcp.148,\"a\",%progbits\n"
     ".balign 1\n"
     ".Ltcp148:\n"
-    ".quad 0x6d736e6172746572\n"
-    ".short 0x7469\n"
+    ".long 0x616d6164\n"
+    ".short 0x6567\n"
     ".section .rodata.tcp.149,\"a\",%progbits\n"
     ".balign 1\n"
     ".Ltcp149:\n"
-    ".long 0x726f6572\n"
-    ".short 0x6564\n"
-    ".byte 0x72\n"
+    ".quad 0x6d736e6172746572\n"
+    ".short 0x7469\n"
     ".section .rodata.tcp.150,\"a\",%progbits\n"
     ".balign 1\n"
     ".Ltcp150:\n"
-    ".long 0x66696873\n"
-    ".byte 0x74\n"
+    ".long 0x726f6572\n"
+    ".short 0x6564\n"
+    ".byte 0x72\n"
     ".section .rodata.tcp.151,\"a\",%progbits\n"
     ".balign 1\n"
     ".Ltcp151:\n"
-    ".short 0x6b6f\n"
-    ".byte 0x20\n"
+    ".long 0x66696873\n"
+    ".byte 0x74\n"
     ".section .rodata.tcp.152,\"a\",%progbits\n"
     ".balign 1\n"
     ".Ltcp152:\n"
-    ".long 0x6b6f6f74\n"
+    ".short 0x6b6f\n"
     ".byte 0x20\n"
     ".section .rodata.tcp.153,\"a\",%progbits\n"
     ".balign 1\n"
     ".Ltcp153:\n"
-    ".long 0x65747962\n"
-    ".short 0x2073\n"
+    ".long 0x6b6f6f74\n"
+    ".byte 0x20\n"
     ".section .rodata.tcp.154,\"a\",%progbits\n"
     ".balign 1\n"
     ".Ltcp154:\n"
-    ".long 0x68746f6e\n"
-    ".short 0x6e69\n"
-    ".byte 0x67\n"
+    ".long 0x65747962\n"
+    ".short 0x2073\n"
     ".section .rodata.tcp.155,\"a\",%progbits\n"
     ".balign 1\n"
     ".Ltcp155:\n"
-    ".short 0x6e65\n"
-    ".byte 0x64\n"
+    ".long 0x68746f6e\n"
+    ".short 0x6e69\n"
+    ".byte 0x67\n"
     ".section .rodata.tcp.156,\"a\",%progbits\n"
     ".balign 1\n"
     ".Ltcp156:\n"
-    ".short 0x6579\n"
-    ".byte 0x73\n"
+    ".short 0x6e65\n"
+    ".byte 0x64\n"
     ".section .rodata.tcp.157,\"a\",%progbits\n"
     ".balign 1\n"
     ".Ltcp157:\n"
-    ".short 0x6f6e\n"
+    ".short 0x6579\n"
+    ".byte 0x73\n"
     ".section .rodata.tcp.158,\"a\",%progbits\n"
     ".balign 1\n"
     ".Ltcp158:\n"
-    ".long 0x67616c66\n"
-    ".short 0x2073\n"
+    ".short 0x6f6e\n"
     ".section .rodata.tcp.159,\"a\",%progbits\n"
     ".balign 1\n"
     ".Ltcp159:\n"
-    ".long 0x706f7264\n"
-    ".short 0x6570\n"
-    ".byte 0x64\n"
+    ".long 0x67616c66\n"
+    ".short 0x2073\n"
     ".section .rodata.tcp.160,\"a\",%progbits\n"
     ".balign 1\n"
     ".Ltcp160:\n"
-    ".quad 0x65737365636f7270\n"
+    ".long 0x706f7264\n"
+    ".short 0x6570\n"
     ".byte 0x64\n"
     ".section .rodata.tcp.161,\"a\",%progbits\n"
     ".balign 1\n"
     ".Ltcp161:\n"
-    ".long 0x534f4c43\n"
-    ".short 0x4445\n"
+    ".quad 0x65737365636f7270\n"
+    ".byte 0x64\n"
     ".section .rodata.tcp.162,\"a\",%progbits\n"
     ".balign 1\n"
     ".Ltcp162:\n"
-    ".long 0x5453494c\n"
-    ".short 0x4e45\n"
+    ".long 0x534f4c43\n"
+    ".short 0x4445\n"
     ".section .rodata.tcp.163,\"a\",%progbits\n"
     ".balign 1\n"
     ".Ltcp163:\n"
-    ".quad 0x454345522d4e5953\n"
-    ".long 0x44455649\n"
+    ".long 0x5453494c\n"
+    ".short 0x4e45\n"
     ".section .rodata.tcp.164,\"a\",%progbits\n"
     ".balign 1\n"
     ".Ltcp164:\n"
-    ".quad 0x53494c4241545345\n"
-    ".short 0x4548\n"
-    ".byte 0x44\n"
+    ".quad 0x454345522d4e5953\n"
+    ".long 0x44455649\n"
     ".section .rodata.tcp.165,\"a\",%progbits\n"
     ".balign 1\n"
     ".Ltcp165:\n"
-    ".quad 0x544941572d4e4946\n"
-    ".short 0x312d\n"
+    ".quad 0x53494c4241545345\n"
+    ".short 0x4548\n"
+    ".byte 0x44\n"
     ".section .rodata.tcp.166,\"a\",%progbits\n"
     ".balign 1\n"
     ".Ltcp166:\n"
     ".quad 0x544941572d4e4946\n"
-    ".short 0x322d\n"
+    ".short 0x312d\n"
     ".section .rodata.tcp.167,\"a\",%progbits\n"
     ".balign 1\n"
     ".Ltcp167:\n"
-    ".quad 0x41572d45534f4c43\n"
-    ".short 0x5449\n"
+    ".quad 0x544941572d4e4946\n"
+    ".short 0x322d\n"
     ".section .rodata.tcp.168,\"a\",%progbits\n"
     ".balign 1\n"
     ".Ltcp168:\n"
-    ".long 0x534f4c43\n"
-    ".short 0x4e49\n"
-    ".byte 0x47\n"
+    ".quad 0x41572d45534f4c43\n"
+    ".short 0x5449\n"
     ".section .rodata.tcp.169,\"a\",%progbits\n"
     ".balign 1\n"
     ".Ltcp169:\n"
-    ".quad 0x4941572d454d4954\n"
-    ".byte 0x54\n"
+    ".long 0x534f4c43\n"
+    ".short 0x4e49\n"
+    ".byte 0x47\n"
     ".section .rodata.tcp.170,\"a\",%progbits\n"
     ".balign 1\n"
     ".Ltcp170:\n"
-    ".quad 0x6465737566657220\n"
-    ".byte 0x20\n"
+    ".quad 0x4941572d454d4954\n"
+    ".byte 0x54\n"
     ".section .rodata.tcp.171,\"a\",%progbits\n"
     ".balign 1\n"
     ".Ltcp171:\n"
-    ".long 0x656e6f64\n"
+    ".quad 0x6465737566657220\n"
     ".byte 0x20\n"
     ".section .rodata.tcp.172,\"a\",%progbits\n"
     ".balign 1\n"
     ".Ltcp172:\n"
-    ".quad 0x203a74696b706374\n"
-    ".long 0x666e6f63\n"
-    ".short 0x6769\n"
+    ".long 0x656e6f64\n"
     ".byte 0x20\n"
     ".section .rodata.tcp.173,\"a\",%progbits\n"
     ".balign 1\n"
     ".Ltcp173:\n"
-    ".quad 0x65646e652d746f6e\n"
-    ".byte 0x64\n"
+    ".quad 0x203a74696b706374\n"
+    ".long 0x666e6f63\n"
+    ".short 0x6769\n"
+    ".byte 0x20\n"
     ".section .rodata.tcp.174,\"a\",%progbits\n"
     ".balign 1\n"
     ".Ltcp174:\n"
-    ".long 0x6564726f\n"
-    ".short 0x6c72\n"
-    ".byte 0x79\n"
+    ".quad 0x65646e652d746f6e\n"
+    ".byte 0x64\n"
     ".section .rodata.tcp.175,\"a\",%progbits\n"
     ".balign 1\n"
     ".Ltcp175:\n"
-    ".long 0x65736572\n"
-    ".byte 0x74\n"
+    ".long 0x6564726f\n"
+    ".short 0x6c72\n"
+    ".byte 0x79\n"
     ".section .rodata.tcp.176,\"a\",%progbits\n"
     ".balign 1\n"
     ".Ltcp176:\n"
-    ".long 0x726f6261\n"
-    ".short 0x6574\n"
-    ".byte 0x64\n"
+    ".long 0x65736572\n"
+    ".byte 0x74\n"
     ".section .rodata.tcp.177,\"a\",%progbits\n"
     ".balign 1\n"
     ".Ltcp177:\n"
-    ".quad 0x6574706563636120\n"
-    ".short 0x2064\n"
+    ".long 0x726f6261\n"
+    ".short 0x6574\n"
+    ".byte 0x64\n"
     ".section .rodata.tcp.178,\"a\",%progbits\n"
     ".balign 1\n"
     ".Ltcp178:\n"
-    ".quad 0x726576696c656420\n"
-    ".short 0x6465\n"
-    ".byte 0x20\n"
+    ".quad 0x6574706563636120\n"
+    ".short 0x2064\n"
     ".section .rodata.tcp.179,\"a\",%progbits\n"
     ".balign 1\n"
     ".Ltcp179:\n"
-    ".quad 0x657361656c657220\n"
-    ".short 0x2064\n"
+    ".quad 0x726576696c656420\n"
+    ".short 0x6465\n"
+    ".byte 0x20\n"
     ".section .rodata.tcp.180,\"a\",%progbits\n"
     ".balign 1\n"
     ".Ltcp180:\n"
-    ".quad 0x6465726564726f20\n"
-    ".byte 0x20\n"
+    ".quad 0x657361656c657220\n"
+    ".short 0x2064\n"
     ".section .rodata.tcp.181,\"a\",%progbits\n"
     ".balign 1\n"
     ".Ltcp181:\n"
-    ".long 0x6e657320\n"
-    ".short 0x2074\n"
+    ".quad 0x6465726564726f20\n"
+    ".byte 0x20\n"
     ".section .rodata.tcp.182,\"a\",%progbits\n"
     ".balign 1\n"
     ".Ltcp182:\n"
+    ".long 0x6e657320\n"
+    ".short 0x2074\n"
+    ".section .rodata.tcp.183,\"a\",%progbits\n"
+    ".balign 1\n"
+    ".Ltcp183:\n"
     ".long 0x646e6520\n"
     ".short 0x6465\n"
     ".byte 0x20\n"
-    ".section .rodata.tcp.183,\"a\",%progbits\n"
-    ".balign 8\n"
-    ".Ltcp183:\n"
-    ".octa 0x20000000000000002,0x20000000000000002,0x20000000000000003\n"
-    ".octa 0x30000000000000003\n"
     ".section .rodata.tcp.184,\"a\",%progbits\n"
     ".balign 8\n"
     ".Ltcp184:\n"
-    ".octa 0x7000000000000000a\n"
-    ".quad 0x8\n"
-    ".section .data.rel.ro.tcp.185,\"aw\",%progbits\n"
+    ".octa 0x20000000000000002,0x20000000000000002,0x20000000000000003\n"
+    ".octa 0x30000000000000003\n"
+    ".section .rodata.tcp.185,\"a\",%progbits\n"
     ".balign 8\n"
     ".Ltcp185:\n"
-    ".octa 0x0\n"
-    ".quad 0x0\n"
-    ".reloc .Ltcp185+0,R_X86_64_64,.Ltcp148+0\n"
-    ".reloc .Ltcp185+8,R_X86_64_64,.Ltcp149+0\n"
-    ".reloc .Ltcp185+16,R_X86_64_64,.Ltcp118+24\n"
-    ".section .rodata.tcp.186,\"a\",%progbits\n"
+    ".octa 0x7000000000000000a\n"
+    ".quad 0x8\n"
+    ".section .data.rel.ro.tcp.186,\"aw\",%progbits\n"
     ".balign 8\n"
     ".Ltcp186:\n"
+    ".octa 0x0\n"
+    ".quad 0x0\n"
+    ".reloc .Ltcp186+0,R_X86_64_64,.Ltcp149+0\n"
+    ".reloc .Ltcp186+8,R_X86_64_64,.Ltcp150+0\n"
+    ".reloc .Ltcp186+16,R_X86_64_64,.Ltcp119+24\n"
+    ".section .rodata.tcp.187,\"a\",%progbits\n"
+    ".balign 8\n"
+    ".Ltcp187:\n"
     ".octa 0x60000000000000006,0xc0000000000000008,0xa000000000000000b\n"
     ".octa 0xa000000000000000a,0x80000000000000007\n"
     ".quad 0x9\n"
-    ".section .data.rel.ro.tcp.187,\"aw\",%progbits\n"
-    ".balign 8\n"
-    ".Ltcp187:\n"
-    ".octa 0x0,0x0,0x0\n"
-    ".octa 0x0,0x0\n"
-    ".quad 0x0\n"
-    ".reloc .Ltcp187+0,R_X86_64_64,.Ltcp161+0\n"
-    ".reloc .Ltcp187+8,R_X86_64_64,.Ltcp162+0\n"
-    ".reloc .Ltcp187+16,R_X86_64_64,.Ltcp118+32\n"
-    ".reloc .Ltcp187+24,R_X86_64_64,.Ltcp163+0\n"
-    ".reloc .Ltcp187+32,R_X86_64_64,.Ltcp164+0\n"
-    ".reloc .Ltcp187+40,R_X86_64_64,.Ltcp165+0\n"
-    ".reloc .Ltcp187+48,R_X86_64_64,.Ltcp166+0\n"
-    ".reloc .Ltcp187+56,R_X86_64_64,.Ltcp167+0\n"
-    ".reloc .Ltcp187+64,R_X86_64_64,.Ltcp168+0\n"
-    ".reloc .Ltcp187+72,R_X86_64_64,.Ltcp118+40\n"
-    ".reloc .Ltcp187+80,R_X86_64_64,.Ltcp169+0\n"
     ".section .data.rel.ro.tcp.188,\"aw\",%progbits\n"
     ".balign 8\n"
     ".Ltcp188:\n"
+    ".octa 0x0,0x0,0x0\n"
     ".octa 0x0,0x0\n"
-    ".reloc .Ltcp188+0,R_X86_64_64,.Ltcp173+0\n"
-    ".reloc .Ltcp188+8,R_X86_64_64,.Ltcp174+0\n"
-    ".reloc .Ltcp188+16,R_X86_64_64,.Ltcp175+0\n"
-    ".reloc .Ltcp188+24,R_X86_64_64,.Ltcp176+0\n"
+    ".quad 0x0\n"
+    ".reloc .Ltcp188+0,R_X86_64_64,.Ltcp162+0\n"
+    ".reloc .Ltcp188+8,R_X86_64_64,.Ltcp163+0\n"
+    ".reloc .Ltcp188+16,R_X86_64_64,.Ltcp119+32\n"
+    ".reloc .Ltcp188+24,R_X86_64_64,.Ltcp164+0\n"
+    ".reloc .Ltcp188+32,R_X86_64_64,.Ltcp165+0\n"
+    ".reloc .Ltcp188+40,R_X86_64_64,.Ltcp166+0\n"
+    ".reloc .Ltcp188+48,R_X86_64_64,.Ltcp167+0\n"
+    ".reloc .Ltcp188+56,R_X86_64_64,.Ltcp168+0\n"
+    ".reloc .Ltcp188+64,R_X86_64_64,.Ltcp169+0\n"
+    ".reloc .Ltcp188+72,R_X86_64_64,.Ltcp119+40\n"
+    ".reloc .Ltcp188+80,R_X86_64_64,.Ltcp170+0\n"
+    ".section .data.rel.ro.tcp.189,\"aw\",%progbits\n"
+    ".balign 8\n"
+    ".Ltcp189:\n"
+    ".octa 0x0,0x0\n"
+    ".reloc .Ltcp189+0,R_X86_64_64,.Ltcp174+0\n"
+    ".reloc .Ltcp189+8,R_X86_64_64,.Ltcp175+0\n"
+    ".reloc .Ltcp189+16,R_X86_64_64,.Ltcp176+0\n"
+    ".reloc .Ltcp189+24,R_X86_64_64,.Ltcp177+0\n"
     ".popsection\n"
 );
 #elif defined(MACHINE_AARCH64)
@@ -9517,11 +9563,11 @@ __asm__(
     ".inst 0xaa1503e2,0x3901027f,0xa9444ff4,0xa94357f6,0xf9400bf9,0xa9425ff8,0xa8c57bfd,0x14000000,0x2a1f03f7,0x14000002\n"
     ".inst 0x52800037,0x2a1703e0,0xa9444ff4,0xa94357f6,0xf9400bf9,0xa9425ff8,0xa8c57bfd,0xd65f03c0\n"
     ".reloc .Ltcp12+72,R_AARCH64_CALL26,.Ltcp13+0\n"
-    ".reloc .Ltcp12+156,R_AARCH64_ADR_PREL_PG_HI21,.Ltcp92+8\n"
-    ".reloc .Ltcp12+160,R_AARCH64_ADD_ABS_LO12_NC,.Ltcp92+8\n"
+    ".reloc .Ltcp12+156,R_AARCH64_ADR_PREL_PG_HI21,.Ltcp93+8\n"
+    ".reloc .Ltcp12+160,R_AARCH64_ADD_ABS_LO12_NC,.Ltcp93+8\n"
     ".reloc .Ltcp12+172,R_AARCH64_CALL26,.Ltcp13+0\n"
-    ".reloc .Ltcp12+236,R_AARCH64_ADR_PREL_PG_HI21,.Ltcp92+8\n"
-    ".reloc .Ltcp12+240,R_AARCH64_ADD_ABS_LO12_NC,.Ltcp92+8\n"
+    ".reloc .Ltcp12+236,R_AARCH64_ADR_PREL_PG_HI21,.Ltcp93+8\n"
+    ".reloc .Ltcp12+240,R_AARCH64_ADD_ABS_LO12_NC,.Ltcp93+8\n"
     ".reloc .Ltcp12+252,R_AARCH64_CALL26,.Ltcp13+0\n"
     ".reloc .Ltcp12+308,R_AARCH64_JUMP26,.Ltcp13+0\n"
     ".section .text.tcp.13,\"ax\",%progbits\n"
@@ -9712,64 +9758,64 @@ __asm__(
     ".inst 0x17fffe02,0xad4187e0,0xad3c87a0,0xad000660,0xf9400668,0xb4000174,0xeb08029f,0x54000120,0xeb14011f,0x54ff59a3\n"
     ".inst 0x54ff5989,0xf9400268,0x38f46908,0x3101051f,0x5400008c,0x17fffac7,0xeb14011f,0x54ff58a9,0xf9000674,0x17fffac3\n"
     ".reloc .Ltcp14+284,R_AARCH64_CALL26,.Ltcp9+0\n"
-    ".reloc .Ltcp14+488,R_AARCH64_ADR_PREL_PG_HI21,.Ltcp118+0\n"
-    ".reloc .Ltcp14+492,R_AARCH64_ADD_ABS_LO12_NC,.Ltcp118+0\n"
+    ".reloc .Ltcp14+488,R_AARCH64_ADR_PREL_PG_HI21,.Ltcp119+0\n"
+    ".reloc .Ltcp14+492,R_AARCH64_ADD_ABS_LO12_NC,.Ltcp119+0\n"
     ".reloc .Ltcp14+524,R_AARCH64_CALL26,.Ltcp19+0\n"
-    ".reloc .Ltcp14+620,R_AARCH64_ADR_PREL_PG_HI21,.Ltcp119+0\n"
-    ".reloc .Ltcp14+624,R_AARCH64_ADD_ABS_LO12_NC,.Ltcp119+0\n"
+    ".reloc .Ltcp14+620,R_AARCH64_ADR_PREL_PG_HI21,.Ltcp120+0\n"
+    ".reloc .Ltcp14+624,R_AARCH64_ADD_ABS_LO12_NC,.Ltcp120+0\n"
     ".reloc .Ltcp14+644,R_AARCH64_ADR_PREL_PG_HI21,.Ltcp1+240\n"
     ".reloc .Ltcp14+652,R_AARCH64_LDST64_ABS_LO12_NC,.Ltcp1+240\n"
-    ".reloc .Ltcp14+692,R_AARCH64_ADR_PREL_PG_HI21,.Ltcp122+0\n"
-    ".reloc .Ltcp14+696,R_AARCH64_ADD_ABS_LO12_NC,.Ltcp122+0\n"
+    ".reloc .Ltcp14+692,R_AARCH64_ADR_PREL_PG_HI21,.Ltcp123+0\n"
+    ".reloc .Ltcp14+696,R_AARCH64_ADD_ABS_LO12_NC,.Ltcp123+0\n"
     ".reloc .Ltcp14+728,R_AARCH64_CALL26,.Ltcp22+0\n"
-    ".reloc .Ltcp14+852,R_AARCH64_ADR_PREL_PG_HI21,.Ltcp121+0\n"
-    ".reloc .Ltcp14+856,R_AARCH64_ADD_ABS_LO12_NC,.Ltcp121+0\n"
+    ".reloc .Ltcp14+852,R_AARCH64_ADR_PREL_PG_HI21,.Ltcp122+0\n"
+    ".reloc .Ltcp14+856,R_AARCH64_ADD_ABS_LO12_NC,.Ltcp122+0\n"
     ".reloc .Ltcp14+876,R_AARCH64_ADR_PREL_PG_HI21,.Ltcp1+224\n"
     ".reloc .Ltcp14+880,R_AARCH64_LDST64_ABS_LO12_NC,.Ltcp1+224\n"
-    ".reloc .Ltcp14+912,R_AARCH64_ADR_PREL_PG_HI21,.Ltcp120+0\n"
-    ".reloc .Ltcp14+916,R_AARCH64_ADD_ABS_LO12_NC,.Ltcp120+0\n"
+    ".reloc .Ltcp14+912,R_AARCH64_ADR_PREL_PG_HI21,.Ltcp121+0\n"
+    ".reloc .Ltcp14+916,R_AARCH64_ADD_ABS_LO12_NC,.Ltcp121+0\n"
     ".reloc .Ltcp14+936,R_AARCH64_ADR_PREL_PG_HI21,.Ltcp1+232\n"
     ".reloc .Ltcp14+944,R_AARCH64_LDST64_ABS_LO12_NC,.Ltcp1+232\n"
-    ".reloc .Ltcp14+968,R_AARCH64_ADR_PREL_PG_HI21,.Ltcp123+0\n"
-    ".reloc .Ltcp14+972,R_AARCH64_ADD_ABS_LO12_NC,.Ltcp123+0\n"
+    ".reloc .Ltcp14+968,R_AARCH64_ADR_PREL_PG_HI21,.Ltcp124+0\n"
+    ".reloc .Ltcp14+972,R_AARCH64_ADD_ABS_LO12_NC,.Ltcp124+0\n"
     ".reloc .Ltcp14+1004,R_AARCH64_CALL26,.Ltcp22+0\n"
     ".reloc .Ltcp14+1140,R_AARCH64_CALL26,.Ltcp15+0\n"
-    ".reloc .Ltcp14+1336,R_AARCH64_ADR_PREL_PG_HI21,.Ltcp98+0\n"
-    ".reloc .Ltcp14+1340,R_AARCH64_ADD_ABS_LO12_NC,.Ltcp98+0\n"
-    ".reloc .Ltcp14+2704,R_AARCH64_ADR_PREL_PG_HI21,.Ltcp99+0\n"
-    ".reloc .Ltcp14+2708,R_AARCH64_ADD_ABS_LO12_NC,.Ltcp99+0\n"
-    ".reloc .Ltcp14+2756,R_AARCH64_ADR_PREL_PG_HI21,.Ltcp100+0\n"
-    ".reloc .Ltcp14+2760,R_AARCH64_ADD_ABS_LO12_NC,.Ltcp100+0\n"
-    ".reloc .Ltcp14+2804,R_AARCH64_ADR_PREL_PG_HI21,.Ltcp104+0\n"
-    ".reloc .Ltcp14+2808,R_AARCH64_ADD_ABS_LO12_NC,.Ltcp104+0\n"
-    ".reloc .Ltcp14+2844,R_AARCH64_ADR_PREL_PG_HI21,.Ltcp101+0\n"
-    ".reloc .Ltcp14+2848,R_AARCH64_ADD_ABS_LO12_NC,.Ltcp101+0\n"
-    ".reloc .Ltcp14+2856,R_AARCH64_ADR_PREL_PG_HI21,.Ltcp102+0\n"
-    ".reloc .Ltcp14+2860,R_AARCH64_ADD_ABS_LO12_NC,.Ltcp102+0\n"
-    ".reloc .Ltcp14+2880,R_AARCH64_ADR_PREL_PG_HI21,.Ltcp103+0\n"
-    ".reloc .Ltcp14+2884,R_AARCH64_ADD_ABS_LO12_NC,.Ltcp103+0\n"
-    ".reloc .Ltcp14+2920,R_AARCH64_ADR_PREL_PG_HI21,.Ltcp106+0\n"
-    ".reloc .Ltcp14+2924,R_AARCH64_ADD_ABS_LO12_NC,.Ltcp106+0\n"
-    ".reloc .Ltcp14+2956,R_AARCH64_ADR_PREL_PG_HI21,.Ltcp108+0\n"
-    ".reloc .Ltcp14+2960,R_AARCH64_ADD_ABS_LO12_NC,.Ltcp108+0\n"
-    ".reloc .Ltcp14+2976,R_AARCH64_ADR_PREL_PG_HI21,.Ltcp107+0\n"
-    ".reloc .Ltcp14+2980,R_AARCH64_ADD_ABS_LO12_NC,.Ltcp107+0\n"
-    ".reloc .Ltcp14+2988,R_AARCH64_ADR_PREL_PG_HI21,.Ltcp109+0\n"
-    ".reloc .Ltcp14+2992,R_AARCH64_ADD_ABS_LO12_NC,.Ltcp109+0\n"
-    ".reloc .Ltcp14+3016,R_AARCH64_ADR_PREL_PG_HI21,.Ltcp102+0\n"
-    ".reloc .Ltcp14+3020,R_AARCH64_ADD_ABS_LO12_NC,.Ltcp102+0\n"
-    ".reloc .Ltcp14+3048,R_AARCH64_ADR_PREL_PG_HI21,.Ltcp111+0\n"
-    ".reloc .Ltcp14+3052,R_AARCH64_ADD_ABS_LO12_NC,.Ltcp111+0\n"
-    ".reloc .Ltcp14+3060,R_AARCH64_ADR_PREL_PG_HI21,.Ltcp110+0\n"
-    ".reloc .Ltcp14+3064,R_AARCH64_ADD_ABS_LO12_NC,.Ltcp110+0\n"
+    ".reloc .Ltcp14+1336,R_AARCH64_ADR_PREL_PG_HI21,.Ltcp99+0\n"
+    ".reloc .Ltcp14+1340,R_AARCH64_ADD_ABS_LO12_NC,.Ltcp99+0\n"
+    ".reloc .Ltcp14+2704,R_AARCH64_ADR_PREL_PG_HI21,.Ltcp100+0\n"
+    ".reloc .Ltcp14+2708,R_AARCH64_ADD_ABS_LO12_NC,.Ltcp100+0\n"
+    ".reloc .Ltcp14+2756,R_AARCH64_ADR_PREL_PG_HI21,.Ltcp101+0\n"
+    ".reloc .Ltcp14+2760,R_AARCH64_ADD_ABS_LO12_NC,.Ltcp101+0\n"
+    ".reloc .Ltcp14+2804,R_AARCH64_ADR_PREL_PG_HI21,.Ltcp105+0\n"
+    ".reloc .Ltcp14+2808,R_AARCH64_ADD_ABS_LO12_NC,.Ltcp105+0\n"
+    ".reloc .Ltcp14+2844,R_AARCH64_ADR_PREL_PG_HI21,.Ltcp102+0\n"
+    ".reloc .Ltcp14+2848,R_AARCH64_ADD_ABS_LO12_NC,.Ltcp102+0\n"
+    ".reloc .Ltcp14+2856,R_AARCH64_ADR_PREL_PG_HI21,.Ltcp103+0\n"
+    ".reloc .Ltcp14+2860,R_AARCH64_ADD_ABS_LO12_NC,.Ltcp103+0\n"
+    ".reloc .Ltcp14+2880,R_AARCH64_ADR_PREL_PG_HI21,.Ltcp104+0\n"
+    ".reloc .Ltcp14+2884,R_AARCH64_ADD_ABS_LO12_NC,.Ltcp104+0\n"
+    ".reloc .Ltcp14+2920,R_AARCH64_ADR_PREL_PG_HI21,.Ltcp107+0\n"
+    ".reloc .Ltcp14+2924,R_AARCH64_ADD_ABS_LO12_NC,.Ltcp107+0\n"
+    ".reloc .Ltcp14+2956,R_AARCH64_ADR_PREL_PG_HI21,.Ltcp109+0\n"
+    ".reloc .Ltcp14+2960,R_AARCH64_ADD_ABS_LO12_NC,.Ltcp109+0\n"
+    ".reloc .Ltcp14+2976,R_AARCH64_ADR_PREL_PG_HI21,.Ltcp108+0\n"
+    ".reloc .Ltcp14+2980,R_AARCH64_ADD_ABS_LO12_NC,.Ltcp108+0\n"
+    ".reloc .Ltcp14+2988,R_AARCH64_ADR_PREL_PG_HI21,.Ltcp110+0\n"
+    ".reloc .Ltcp14+2992,R_AARCH64_ADD_ABS_LO12_NC,.Ltcp110+0\n"
+    ".reloc .Ltcp14+3016,R_AARCH64_ADR_PREL_PG_HI21,.Ltcp103+0\n"
+    ".reloc .Ltcp14+3020,R_AARCH64_ADD_ABS_LO12_NC,.Ltcp103+0\n"
+    ".reloc .Ltcp14+3048,R_AARCH64_ADR_PREL_PG_HI21,.Ltcp112+0\n"
+    ".reloc .Ltcp14+3052,R_AARCH64_ADD_ABS_LO12_NC,.Ltcp112+0\n"
+    ".reloc .Ltcp14+3060,R_AARCH64_ADR_PREL_PG_HI21,.Ltcp111+0\n"
+    ".reloc .Ltcp14+3064,R_AARCH64_ADD_ABS_LO12_NC,.Ltcp111+0\n"
     ".reloc .Ltcp14+3404,R_AARCH64_CALL26,.Ltcp16+0\n"
     ".reloc .Ltcp14+3564,R_AARCH64_CALL26,.Ltcp15+0\n"
-    ".reloc .Ltcp14+3604,R_AARCH64_ADR_PREL_PG_HI21,.Ltcp112+0\n"
-    ".reloc .Ltcp14+3608,R_AARCH64_ADD_ABS_LO12_NC,.Ltcp112+0\n"
+    ".reloc .Ltcp14+3604,R_AARCH64_ADR_PREL_PG_HI21,.Ltcp113+0\n"
+    ".reloc .Ltcp14+3608,R_AARCH64_ADD_ABS_LO12_NC,.Ltcp113+0\n"
     ".reloc .Ltcp14+3628,R_AARCH64_CALL26,.Ltcp16+0\n"
     ".reloc .Ltcp14+3660,R_AARCH64_CALL26,.Ltcp15+0\n"
-    ".reloc .Ltcp14+3684,R_AARCH64_ADR_PREL_PG_HI21,.Ltcp105+0\n"
-    ".reloc .Ltcp14+3688,R_AARCH64_ADD_ABS_LO12_NC,.Ltcp105+0\n"
+    ".reloc .Ltcp14+3684,R_AARCH64_ADR_PREL_PG_HI21,.Ltcp106+0\n"
+    ".reloc .Ltcp14+3688,R_AARCH64_ADD_ABS_LO12_NC,.Ltcp106+0\n"
     ".reloc .Ltcp14+3844,R_AARCH64_CALL26,.Ltcp15+0\n"
     ".reloc .Ltcp14+3872,R_AARCH64_CALL26,.Ltcp15+0\n"
     ".reloc .Ltcp14+3900,R_AARCH64_CALL26,.Ltcp15+0\n"
@@ -9777,8 +9823,8 @@ __asm__(
     ".reloc .Ltcp14+4088,R_AARCH64_CALL26,.Ltcp15+0\n"
     ".reloc .Ltcp14+4124,R_AARCH64_CALL26,.Ltcp15+0\n"
     ".reloc .Ltcp14+4168,R_AARCH64_CALL26,.Ltcp15+0\n"
-    ".reloc .Ltcp14+4812,R_AARCH64_ADR_PREL_PG_HI21,.Ltcp113+0\n"
-    ".reloc .Ltcp14+4816,R_AARCH64_ADD_ABS_LO12_NC,.Ltcp113+0\n"
+    ".reloc .Ltcp14+4812,R_AARCH64_ADR_PREL_PG_HI21,.Ltcp114+0\n"
+    ".reloc .Ltcp14+4816,R_AARCH64_ADD_ABS_LO12_NC,.Ltcp114+0\n"
     ".reloc .Ltcp14+4844,R_AARCH64_ADR_PREL_PG_HI21,.Ltcp1+216\n"
     ".reloc .Ltcp14+4848,R_AARCH64_LDST64_ABS_LO12_NC,.Ltcp1+216\n"
     ".reloc .Ltcp14+4944,R_AARCH64_CALL26,.Ltcp10+0\n"
@@ -9791,8 +9837,8 @@ __asm__(
     ".reloc .Ltcp14+5648,R_AARCH64_CALL26,.Ltcp15+0\n"
     ".reloc .Ltcp14+5708,R_AARCH64_CALL26,.Ltcp15+0\n"
     ".reloc .Ltcp14+5740,R_AARCH64_CALL26,.Ltcp15+0\n"
-    ".reloc .Ltcp14+5760,R_AARCH64_ADR_PREL_PG_HI21,.Ltcp93+0\n"
-    ".reloc .Ltcp14+5764,R_AARCH64_ADD_ABS_LO12_NC,.Ltcp93+0\n"
+    ".reloc .Ltcp14+5760,R_AARCH64_ADR_PREL_PG_HI21,.Ltcp94+0\n"
+    ".reloc .Ltcp14+5764,R_AARCH64_ADD_ABS_LO12_NC,.Ltcp94+0\n"
     ".reloc .Ltcp14+5776,R_AARCH64_CALL26,.Ltcp16+0\n"
     ".reloc .Ltcp14+5812,R_AARCH64_CALL26,.Ltcp15+0\n"
     ".section .text.tcp.15,\"ax\",%progbits\n"
@@ -9831,11 +9877,11 @@ __asm__(
     ".inst 0xaa1503e2,0x3901027f,0xa9444ff4,0xa94357f6,0xf9400bf9,0xa9425ff8,0xa8c57bfd,0x14000000,0x2a1f03f7,0x14000002\n"
     ".inst 0x52800037,0x2a1703e0,0xa9444ff4,0xa94357f6,0xf9400bf9,0xa9425ff8,0xa8c57bfd,0xd65f03c0\n"
     ".reloc .Ltcp16+72,R_AARCH64_CALL26,.Ltcp17+0\n"
-    ".reloc .Ltcp16+156,R_AARCH64_ADR_PREL_PG_HI21,.Ltcp92+8\n"
-    ".reloc .Ltcp16+160,R_AARCH64_ADD_ABS_LO12_NC,.Ltcp92+8\n"
+    ".reloc .Ltcp16+156,R_AARCH64_ADR_PREL_PG_HI21,.Ltcp93+8\n"
+    ".reloc .Ltcp16+160,R_AARCH64_ADD_ABS_LO12_NC,.Ltcp93+8\n"
     ".reloc .Ltcp16+172,R_AARCH64_CALL26,.Ltcp17+0\n"
-    ".reloc .Ltcp16+236,R_AARCH64_ADR_PREL_PG_HI21,.Ltcp92+8\n"
-    ".reloc .Ltcp16+240,R_AARCH64_ADD_ABS_LO12_NC,.Ltcp92+8\n"
+    ".reloc .Ltcp16+236,R_AARCH64_ADR_PREL_PG_HI21,.Ltcp93+8\n"
+    ".reloc .Ltcp16+240,R_AARCH64_ADD_ABS_LO12_NC,.Ltcp93+8\n"
     ".reloc .Ltcp16+252,R_AARCH64_CALL26,.Ltcp17+0\n"
     ".reloc .Ltcp16+308,R_AARCH64_JUMP26,.Ltcp17+0\n"
     ".section .text.tcp.17,\"ax\",%progbits\n"
@@ -9912,26 +9958,26 @@ __asm__(
     ".inst 0xf9400668,0xb40001b4,0xeb08029f,0x54000160,0xeb14011f,0x54ffdd23,0xeb14011f,0x52800020,0x54ffef69,0xf9400268\n"
     ".inst 0x38f46908,0x3101051f,0x5400008c,0x17ffff76,0xeb14011f,0x54ffdbe9,0xf9000674,0x17fffedd,0xaa1303e0,0x52800021\n"
     ".inst 0x94000000,0x2a0003e8,0x52800020,0x34ffed88,0xa940a26a,0xf9400269,0x17ffff63,0x2a1603e0,0x17ffff67\n"
-    ".reloc .Ltcp18+360,R_AARCH64_ADR_PREL_PG_HI21,.Ltcp117+0\n"
-    ".reloc .Ltcp18+364,R_AARCH64_ADD_ABS_LO12_NC,.Ltcp117+0\n"
+    ".reloc .Ltcp18+360,R_AARCH64_ADR_PREL_PG_HI21,.Ltcp118+0\n"
+    ".reloc .Ltcp18+364,R_AARCH64_ADD_ABS_LO12_NC,.Ltcp118+0\n"
     ".reloc .Ltcp18+388,R_AARCH64_ADR_PREL_PG_HI21,.Ltcp1+248\n"
     ".reloc .Ltcp18+392,R_AARCH64_LDST64_ABS_LO12_NC,.Ltcp1+248\n"
     ".reloc .Ltcp18+436,R_AARCH64_CALL26,.Ltcp20+0\n"
-    ".reloc .Ltcp18+476,R_AARCH64_ADR_PREL_PG_HI21,.Ltcp114+0\n"
-    ".reloc .Ltcp18+480,R_AARCH64_ADD_ABS_LO12_NC,.Ltcp114+0\n"
-    ".reloc .Ltcp18+544,R_AARCH64_ADR_PREL_PG_HI21,.Ltcp116+0\n"
-    ".reloc .Ltcp18+548,R_AARCH64_ADD_ABS_LO12_NC,.Ltcp116+0\n"
+    ".reloc .Ltcp18+476,R_AARCH64_ADR_PREL_PG_HI21,.Ltcp115+0\n"
+    ".reloc .Ltcp18+480,R_AARCH64_ADD_ABS_LO12_NC,.Ltcp115+0\n"
+    ".reloc .Ltcp18+544,R_AARCH64_ADR_PREL_PG_HI21,.Ltcp117+0\n"
+    ".reloc .Ltcp18+548,R_AARCH64_ADD_ABS_LO12_NC,.Ltcp117+0\n"
     ".reloc .Ltcp18+572,R_AARCH64_ADR_PREL_PG_HI21,.Ltcp1+248\n"
     ".reloc .Ltcp18+576,R_AARCH64_LDST64_ABS_LO12_NC,.Ltcp1+248\n"
-    ".reloc .Ltcp18+596,R_AARCH64_ADR_PREL_PG_HI21,.Ltcp115+0\n"
-    ".reloc .Ltcp18+600,R_AARCH64_ADD_ABS_LO12_NC,.Ltcp115+0\n"
+    ".reloc .Ltcp18+596,R_AARCH64_ADR_PREL_PG_HI21,.Ltcp116+0\n"
+    ".reloc .Ltcp18+600,R_AARCH64_ADD_ABS_LO12_NC,.Ltcp116+0\n"
     ".reloc .Ltcp18+628,R_AARCH64_CALL26,.Ltcp19+0\n"
-    ".reloc .Ltcp18+748,R_AARCH64_ADR_PREL_PG_HI21,.Ltcp98+0\n"
-    ".reloc .Ltcp18+752,R_AARCH64_ADD_ABS_LO12_NC,.Ltcp98+0\n"
+    ".reloc .Ltcp18+748,R_AARCH64_ADR_PREL_PG_HI21,.Ltcp99+0\n"
+    ".reloc .Ltcp18+752,R_AARCH64_ADD_ABS_LO12_NC,.Ltcp99+0\n"
     ".reloc .Ltcp18+1128,R_AARCH64_CALL26,.Ltcp20+0\n"
     ".reloc .Ltcp18+1172,R_AARCH64_CALL26,.Ltcp15+0\n"
-    ".reloc .Ltcp18+1188,R_AARCH64_ADR_PREL_PG_HI21,.Ltcp98+0\n"
-    ".reloc .Ltcp18+1192,R_AARCH64_ADD_ABS_LO12_NC,.Ltcp98+0\n"
+    ".reloc .Ltcp18+1188,R_AARCH64_ADR_PREL_PG_HI21,.Ltcp99+0\n"
+    ".reloc .Ltcp18+1192,R_AARCH64_ADD_ABS_LO12_NC,.Ltcp99+0\n"
     ".reloc .Ltcp18+1304,R_AARCH64_JUMP26,.Ltcp21+0\n"
     ".reloc .Ltcp18+1316,R_AARCH64_CALL26,.Ltcp15+0\n"
     ".reloc .Ltcp18+1340,R_AARCH64_CALL26,.Ltcp15+0\n"
@@ -10001,8 +10047,8 @@ __asm__(
     ".inst 0x2a1f03e0,0xa9005e76,0xf9000a75,0xa94b4ff4,0xf9404bf7,0xa94a57f6,0xa9487bfd,0x910303ff,0xd65f03c0,0xaa1303e0\n"
     ".inst 0xaa0203e1,0xaa0203f6,0x94000000,0x34000080,0xa940d668,0xaa1603e2,0x17ffffea,0x52800020,0xa94b4ff4,0xf9404bf7\n"
     ".inst 0xa94a57f6,0xa9487bfd,0x910303ff,0xd65f03c0\n"
-    ".reloc .Ltcp20+56,R_AARCH64_ADR_PREL_PG_HI21,.Ltcp98+0\n"
-    ".reloc .Ltcp20+60,R_AARCH64_ADD_ABS_LO12_NC,.Ltcp98+0\n"
+    ".reloc .Ltcp20+56,R_AARCH64_ADR_PREL_PG_HI21,.Ltcp99+0\n"
+    ".reloc .Ltcp20+60,R_AARCH64_ADD_ABS_LO12_NC,.Ltcp99+0\n"
     ".reloc .Ltcp20+768,R_AARCH64_CALL26,.Ltcp15+0\n"
     ".section .text.tcp.21,\"ax\",%progbits\n"
     ".balign 4\n"
@@ -10237,37 +10283,37 @@ __asm__(
     ".reloc .Ltcp24+880,R_AARCH64_LDST64_ABS_LO12_NC,.Ltcp1+256\n"
     ".reloc .Ltcp24+1104,R_AARCH64_CALL26,.Ltcp2+0\n"
     ".reloc .Ltcp24+1324,R_AARCH64_CALL26,.Ltcp3+0\n"
-    ".reloc .Ltcp24+1404,R_AARCH64_ADR_PREL_PG_HI21,.Ltcp126+0\n"
-    ".reloc .Ltcp24+1408,R_AARCH64_ADD_ABS_LO12_NC,.Ltcp126+0\n"
+    ".reloc .Ltcp24+1404,R_AARCH64_ADR_PREL_PG_HI21,.Ltcp127+0\n"
+    ".reloc .Ltcp24+1408,R_AARCH64_ADD_ABS_LO12_NC,.Ltcp127+0\n"
     ".reloc .Ltcp24+1424,R_AARCH64_CALL26,.Ltcp5+0\n"
     ".reloc .Ltcp24+1508,R_AARCH64_CALL26,.Ltcp3+0\n"
-    ".reloc .Ltcp24+1584,R_AARCH64_ADR_PREL_PG_HI21,.Ltcp92+16\n"
-    ".reloc .Ltcp24+1588,R_AARCH64_ADD_ABS_LO12_NC,.Ltcp92+16\n"
+    ".reloc .Ltcp24+1584,R_AARCH64_ADR_PREL_PG_HI21,.Ltcp93+16\n"
+    ".reloc .Ltcp24+1588,R_AARCH64_ADD_ABS_LO12_NC,.Ltcp93+16\n"
     ".reloc .Ltcp24+1600,R_AARCH64_CALL26,.Ltcp5+0\n"
-    ".reloc .Ltcp24+1760,R_AARCH64_ADR_PREL_PG_HI21,.Ltcp127+0\n"
-    ".reloc .Ltcp24+1764,R_AARCH64_ADD_ABS_LO12_NC,.Ltcp127+0\n"
+    ".reloc .Ltcp24+1760,R_AARCH64_ADR_PREL_PG_HI21,.Ltcp128+0\n"
+    ".reloc .Ltcp24+1764,R_AARCH64_ADD_ABS_LO12_NC,.Ltcp128+0\n"
     ".reloc .Ltcp24+1780,R_AARCH64_CALL26,.Ltcp5+0\n"
     ".reloc .Ltcp24+1888,R_AARCH64_CALL26,.Ltcp3+0\n"
     ".reloc .Ltcp24+1980,R_AARCH64_CALL26,.Ltcp3+0\n"
     ".reloc .Ltcp24+2140,R_AARCH64_CALL26,.Ltcp3+0\n"
-    ".reloc .Ltcp24+2200,R_AARCH64_ADR_PREL_PG_HI21,.Ltcp126+0\n"
-    ".reloc .Ltcp24+2204,R_AARCH64_ADD_ABS_LO12_NC,.Ltcp126+0\n"
+    ".reloc .Ltcp24+2200,R_AARCH64_ADR_PREL_PG_HI21,.Ltcp127+0\n"
+    ".reloc .Ltcp24+2204,R_AARCH64_ADD_ABS_LO12_NC,.Ltcp127+0\n"
     ".reloc .Ltcp24+2220,R_AARCH64_CALL26,.Ltcp5+0\n"
     ".reloc .Ltcp24+2304,R_AARCH64_CALL26,.Ltcp3+0\n"
     ".reloc .Ltcp24+2456,R_AARCH64_CALL26,.Ltcp25+0\n"
     ".reloc .Ltcp24+2812,R_AARCH64_CALL26,.Ltcp29+0\n"
     ".reloc .Ltcp24+3004,R_AARCH64_CALL26,.Ltcp3+0\n"
     ".reloc .Ltcp24+3268,R_AARCH64_CALL26,.Ltcp3+0\n"
-    ".reloc .Ltcp24+3340,R_AARCH64_ADR_PREL_PG_HI21,.Ltcp128+0\n"
-    ".reloc .Ltcp24+3344,R_AARCH64_ADD_ABS_LO12_NC,.Ltcp128+0\n"
+    ".reloc .Ltcp24+3340,R_AARCH64_ADR_PREL_PG_HI21,.Ltcp129+0\n"
+    ".reloc .Ltcp24+3344,R_AARCH64_ADD_ABS_LO12_NC,.Ltcp129+0\n"
     ".reloc .Ltcp24+3364,R_AARCH64_CALL26,.Ltcp5+0\n"
     ".reloc .Ltcp24+3564,R_AARCH64_CALL26,.Ltcp25+0\n"
     ".reloc .Ltcp24+3656,R_AARCH64_CALL26,.Ltcp3+0\n"
     ".reloc .Ltcp24+3732,R_AARCH64_CALL26,.Ltcp3+0\n"
     ".reloc .Ltcp24+3800,R_AARCH64_CALL26,.Ltcp27+0\n"
     ".reloc .Ltcp24+3900,R_AARCH64_CALL26,.Ltcp26+0\n"
-    ".reloc .Ltcp24+4176,R_AARCH64_ADR_PREL_PG_HI21,.Ltcp92+20\n"
-    ".reloc .Ltcp24+4180,R_AARCH64_ADD_ABS_LO12_NC,.Ltcp92+20\n"
+    ".reloc .Ltcp24+4176,R_AARCH64_ADR_PREL_PG_HI21,.Ltcp93+20\n"
+    ".reloc .Ltcp24+4180,R_AARCH64_ADD_ABS_LO12_NC,.Ltcp93+20\n"
     ".reloc .Ltcp24+4200,R_AARCH64_CALL26,.Ltcp5+0\n"
     ".reloc .Ltcp24+4660,R_AARCH64_CALL26,.Ltcp29+0\n"
     ".section .text.tcp.25,\"ax\",%progbits\n"
@@ -10347,35 +10393,35 @@ __asm__(
     ".inst 0xaa1803e0,0x528000e1,0x528000f6,0x94000000,0x360000e0,0xaa1f03e9,0x2a1f03ea,0x2a1f03eb,0xaa1f03e8,0x5280002c\n"
     ".inst 0x17ffffd5,0xaa1f03e9,0x2a1f03ea,0x2a1f03ee,0x2a1f03f6,0x2a1f03ed,0x2a1f03ec,0xaa1f03e8,0xf81f73bf,0x5280002b\n"
     ".inst 0xf81f03bf,0xf85f03af,0xf85f73b0,0xf9000bef,0xf80173f0,0xf9400bef,0xf84173f0,0xf90003ef,0xf80073f0,0x17fffe55\n"
-    ".reloc .Ltcp25+124,R_AARCH64_ADR_PREL_PG_HI21,.Ltcp134+0\n"
-    ".reloc .Ltcp25+128,R_AARCH64_ADD_ABS_LO12_NC,.Ltcp134+0\n"
+    ".reloc .Ltcp25+124,R_AARCH64_ADR_PREL_PG_HI21,.Ltcp135+0\n"
+    ".reloc .Ltcp25+128,R_AARCH64_ADD_ABS_LO12_NC,.Ltcp135+0\n"
     ".reloc .Ltcp25+140,R_AARCH64_CALL26,.Ltcp5+0\n"
-    ".reloc .Ltcp25+232,R_AARCH64_ADR_PREL_PG_HI21,.Ltcp131+0\n"
-    ".reloc .Ltcp25+236,R_AARCH64_ADD_ABS_LO12_NC,.Ltcp131+0\n"
+    ".reloc .Ltcp25+232,R_AARCH64_ADR_PREL_PG_HI21,.Ltcp132+0\n"
+    ".reloc .Ltcp25+236,R_AARCH64_ADD_ABS_LO12_NC,.Ltcp132+0\n"
     ".reloc .Ltcp25+248,R_AARCH64_CALL26,.Ltcp5+0\n"
-    ".reloc .Ltcp25+324,R_AARCH64_ADR_PREL_PG_HI21,.Ltcp92+24\n"
-    ".reloc .Ltcp25+328,R_AARCH64_ADD_ABS_LO12_NC,.Ltcp92+24\n"
+    ".reloc .Ltcp25+324,R_AARCH64_ADR_PREL_PG_HI21,.Ltcp93+24\n"
+    ".reloc .Ltcp25+328,R_AARCH64_ADD_ABS_LO12_NC,.Ltcp93+24\n"
     ".reloc .Ltcp25+340,R_AARCH64_CALL26,.Ltcp5+0\n"
-    ".reloc .Ltcp25+416,R_AARCH64_ADR_PREL_PG_HI21,.Ltcp132+0\n"
-    ".reloc .Ltcp25+420,R_AARCH64_ADD_ABS_LO12_NC,.Ltcp132+0\n"
+    ".reloc .Ltcp25+416,R_AARCH64_ADR_PREL_PG_HI21,.Ltcp133+0\n"
+    ".reloc .Ltcp25+420,R_AARCH64_ADD_ABS_LO12_NC,.Ltcp133+0\n"
     ".reloc .Ltcp25+432,R_AARCH64_CALL26,.Ltcp5+0\n"
-    ".reloc .Ltcp25+492,R_AARCH64_ADR_PREL_PG_HI21,.Ltcp133+0\n"
-    ".reloc .Ltcp25+496,R_AARCH64_ADD_ABS_LO12_NC,.Ltcp133+0\n"
+    ".reloc .Ltcp25+492,R_AARCH64_ADR_PREL_PG_HI21,.Ltcp134+0\n"
+    ".reloc .Ltcp25+496,R_AARCH64_ADD_ABS_LO12_NC,.Ltcp134+0\n"
     ".reloc .Ltcp25+508,R_AARCH64_CALL26,.Ltcp5+0\n"
-    ".reloc .Ltcp25+568,R_AARCH64_ADR_PREL_PG_HI21,.Ltcp92+28\n"
-    ".reloc .Ltcp25+572,R_AARCH64_ADD_ABS_LO12_NC,.Ltcp92+28\n"
+    ".reloc .Ltcp25+568,R_AARCH64_ADR_PREL_PG_HI21,.Ltcp93+28\n"
+    ".reloc .Ltcp25+572,R_AARCH64_ADD_ABS_LO12_NC,.Ltcp93+28\n"
     ".reloc .Ltcp25+584,R_AARCH64_CALL26,.Ltcp5+0\n"
-    ".reloc .Ltcp25+644,R_AARCH64_ADR_PREL_PG_HI21,.Ltcp141+0\n"
-    ".reloc .Ltcp25+648,R_AARCH64_ADD_ABS_LO12_NC,.Ltcp141+0\n"
+    ".reloc .Ltcp25+644,R_AARCH64_ADR_PREL_PG_HI21,.Ltcp142+0\n"
+    ".reloc .Ltcp25+648,R_AARCH64_ADD_ABS_LO12_NC,.Ltcp142+0\n"
     ".reloc .Ltcp25+660,R_AARCH64_CALL26,.Ltcp5+0\n"
-    ".reloc .Ltcp25+720,R_AARCH64_ADR_PREL_PG_HI21,.Ltcp135+0\n"
-    ".reloc .Ltcp25+724,R_AARCH64_ADD_ABS_LO12_NC,.Ltcp135+0\n"
+    ".reloc .Ltcp25+720,R_AARCH64_ADR_PREL_PG_HI21,.Ltcp136+0\n"
+    ".reloc .Ltcp25+724,R_AARCH64_ADD_ABS_LO12_NC,.Ltcp136+0\n"
     ".reloc .Ltcp25+736,R_AARCH64_CALL26,.Ltcp5+0\n"
-    ".reloc .Ltcp25+796,R_AARCH64_ADR_PREL_PG_HI21,.Ltcp137+0\n"
-    ".reloc .Ltcp25+800,R_AARCH64_ADD_ABS_LO12_NC,.Ltcp137+0\n"
+    ".reloc .Ltcp25+796,R_AARCH64_ADR_PREL_PG_HI21,.Ltcp138+0\n"
+    ".reloc .Ltcp25+800,R_AARCH64_ADD_ABS_LO12_NC,.Ltcp138+0\n"
     ".reloc .Ltcp25+812,R_AARCH64_CALL26,.Ltcp5+0\n"
-    ".reloc .Ltcp25+872,R_AARCH64_ADR_PREL_PG_HI21,.Ltcp140+0\n"
-    ".reloc .Ltcp25+876,R_AARCH64_ADD_ABS_LO12_NC,.Ltcp140+0\n"
+    ".reloc .Ltcp25+872,R_AARCH64_ADR_PREL_PG_HI21,.Ltcp141+0\n"
+    ".reloc .Ltcp25+876,R_AARCH64_ADD_ABS_LO12_NC,.Ltcp141+0\n"
     ".reloc .Ltcp25+888,R_AARCH64_CALL26,.Ltcp5+0\n"
     ".reloc .Ltcp25+1028,R_AARCH64_CALL26,.Ltcp3+0\n"
     ".reloc .Ltcp25+1276,R_AARCH64_CALL26,.Ltcp3+0\n"
@@ -10385,11 +10431,11 @@ __asm__(
     ".reloc .Ltcp25+1672,R_AARCH64_CALL26,.Ltcp3+0\n"
     ".reloc .Ltcp25+2112,R_AARCH64_CALL26,.Ltcp8+0\n"
     ".reloc .Ltcp25+2284,R_AARCH64_CALL26,.Ltcp3+0\n"
-    ".reloc .Ltcp25+2640,R_AARCH64_ADR_PREL_PG_HI21,.Ltcp142+0\n"
-    ".reloc .Ltcp25+2644,R_AARCH64_ADD_ABS_LO12_NC,.Ltcp142+0\n"
+    ".reloc .Ltcp25+2640,R_AARCH64_ADR_PREL_PG_HI21,.Ltcp143+0\n"
+    ".reloc .Ltcp25+2644,R_AARCH64_ADD_ABS_LO12_NC,.Ltcp143+0\n"
     ".reloc .Ltcp25+2656,R_AARCH64_CALL26,.Ltcp5+0\n"
-    ".reloc .Ltcp25+2712,R_AARCH64_ADR_PREL_PG_HI21,.Ltcp143+0\n"
-    ".reloc .Ltcp25+2716,R_AARCH64_ADD_ABS_LO12_NC,.Ltcp143+0\n"
+    ".reloc .Ltcp25+2712,R_AARCH64_ADR_PREL_PG_HI21,.Ltcp144+0\n"
+    ".reloc .Ltcp25+2716,R_AARCH64_ADD_ABS_LO12_NC,.Ltcp144+0\n"
     ".reloc .Ltcp25+2732,R_AARCH64_CALL26,.Ltcp5+0\n"
     ".section .text.tcp.26,\"ax\",%progbits\n"
     ".balign 4\n"
@@ -10441,20 +10487,20 @@ __asm__(
     ".inst 0x540001e8,0x52800028,0x5280002a,0x5280008b,0x39002408,0x12001d28,0xf900000a,0x3900200b,0x79001408,0xb9000c1f\n"
     ".inst 0xf900081f,0xa9424ff4,0xf9400bf5,0xa8c37bfd,0xd65f03c0,0xa9007c1f,0xf900081f,0xa9424ff4,0xf9400bf5,0xa8c37bfd\n"
     ".inst 0xd65f03c0,0xa9007e7f,0xf9000a7f,0xa9424ff4,0xf9400bf5,0xa8c37bfd,0xd65f03c0\n"
-    ".reloc .Ltcp27+60,R_AARCH64_ADR_PREL_PG_HI21,.Ltcp144+0\n"
-    ".reloc .Ltcp27+64,R_AARCH64_ADD_ABS_LO12_NC,.Ltcp144+0\n"
+    ".reloc .Ltcp27+60,R_AARCH64_ADR_PREL_PG_HI21,.Ltcp145+0\n"
+    ".reloc .Ltcp27+64,R_AARCH64_ADD_ABS_LO12_NC,.Ltcp145+0\n"
     ".reloc .Ltcp27+92,R_AARCH64_CALL26,.Ltcp5+0\n"
-    ".reloc .Ltcp27+156,R_AARCH64_ADR_PREL_PG_HI21,.Ltcp92+40\n"
-    ".reloc .Ltcp27+160,R_AARCH64_ADD_ABS_LO12_NC,.Ltcp92+40\n"
+    ".reloc .Ltcp27+156,R_AARCH64_ADR_PREL_PG_HI21,.Ltcp93+40\n"
+    ".reloc .Ltcp27+160,R_AARCH64_ADD_ABS_LO12_NC,.Ltcp93+40\n"
     ".reloc .Ltcp27+172,R_AARCH64_CALL26,.Ltcp5+0\n"
-    ".reloc .Ltcp27+256,R_AARCH64_ADR_PREL_PG_HI21,.Ltcp92+24\n"
-    ".reloc .Ltcp27+260,R_AARCH64_ADD_ABS_LO12_NC,.Ltcp92+24\n"
+    ".reloc .Ltcp27+256,R_AARCH64_ADR_PREL_PG_HI21,.Ltcp93+24\n"
+    ".reloc .Ltcp27+260,R_AARCH64_ADD_ABS_LO12_NC,.Ltcp93+24\n"
     ".reloc .Ltcp27+288,R_AARCH64_CALL26,.Ltcp5+0\n"
-    ".reloc .Ltcp27+812,R_AARCH64_ADR_PREL_PG_HI21,.Ltcp92+32\n"
-    ".reloc .Ltcp27+816,R_AARCH64_ADD_ABS_LO12_NC,.Ltcp92+32\n"
+    ".reloc .Ltcp27+812,R_AARCH64_ADR_PREL_PG_HI21,.Ltcp93+32\n"
+    ".reloc .Ltcp27+816,R_AARCH64_ADD_ABS_LO12_NC,.Ltcp93+32\n"
     ".reloc .Ltcp27+844,R_AARCH64_CALL26,.Ltcp5+0\n"
-    ".reloc .Ltcp27+1036,R_AARCH64_ADR_PREL_PG_HI21,.Ltcp92+36\n"
-    ".reloc .Ltcp27+1040,R_AARCH64_ADD_ABS_LO12_NC,.Ltcp92+36\n"
+    ".reloc .Ltcp27+1036,R_AARCH64_ADR_PREL_PG_HI21,.Ltcp93+36\n"
+    ".reloc .Ltcp27+1040,R_AARCH64_ADD_ABS_LO12_NC,.Ltcp93+36\n"
     ".reloc .Ltcp27+1068,R_AARCH64_CALL26,.Ltcp5+0\n"
     ".reloc .Ltcp27+1092,R_AARCH64_CALL26,.Ltcp28+0\n"
     ".section .text.tcp.28,\"ax\",%progbits\n"
@@ -10489,52 +10535,52 @@ __asm__(
     ".balign 4\n"
     ".Ltcp30:\n"
     ".type \"tcp_replay::party::Party::new_in::<#244039bd4e0652a3>\",%function\n"
-    ".size \"tcp_replay::party::Party::new_in::<#244039bd4e0652a3>\",1744\n"
+    ".size \"tcp_replay::party::Party::new_in::<#244039bd4e0652a3>\",1756\n"
     "\"tcp_replay::party::Party::new_in::<#244039bd4e0652a3>\":\n"
-    ".inst 0xa9bd5ffe,0xa90157f6,0xa9024ff4,0xd109c3ff,0xb9400849,0xb842204a,0x6f00e400,0xf9400048,0x7940184c,0x2a1f03e5\n"
-    ".inst 0xb901bbe9,0x79401c4d,0x3940804f,0xb901abea,0x39408450,0xa941244a,0xf900dbe8,0x79404c48,0xa917ffff,0x790313ff\n"
-    ".inst 0xd100054b,0xd100052e,0x79035be8,0xaa0b01cb,0xf940144e,0x9102e3e8,0xd354fd71,0x910703eb,0x7902ebff,0xb90173ff\n"
-    ".inst 0x7902d3ff,0xf900b3ff,0xa9147fff,0xf900abff,0xa9137fff,0x3c868100,0x3c858100,0x3c848100,0x3c838100,0x3c828100\n"
-    ".inst 0x3c818100,0xa90bffff,0x790193ff,0x79016bff,0xb900b3ff,0x790153ff,0xf90053ff,0xa9087fff,0xf9004bff,0xa9077fff\n"
-    ".inst 0xad0083e0,0xad0183e0,0xad0283e0,0x79001bff,0xb9000bff,0xf9012fff,0xf9012bff,0x7904c3ff,0xb5000171,0x51010191\n"
-    ".inst 0x7115d23f,0x540000e8,0x710005ff,0x54001dc1,0x71003a1f,0x54001d89,0x52800045,0x14000002,0x52800025,0x2a1f03f3\n"
-    ".inst 0x2a1f03ec,0x2a1f03ed,0xaa1f03ea,0xaa1f03e9,0x2a1f03ef,0x2a1f03f0,0xaa1f03ee,0x2a1f03e7,0xaa1f03f1,0xaa1f03e6\n"
-    ".inst 0xaa1f03e3,0xaa1f03f2,0xaa1f03e2,0x2a1f03f4,0xaa1f03e4,0xb809e17f,0xf809617f,0xb901a3ff,0x79034bff,0xf900cbff\n"
-    ".inst 0x790333ff,0xf90123ff,0xf9011bff,0xf9011fff,0xf90117ff,0xf90113ff,0xad000160,0xad010160,0xad020160,0xad430161\n"
-    ".inst 0xf8496175,0xb849e176,0xf9012fff,0xf8006115,0xb941a3f5,0xad0383e1,0xad410560,0xb800e116,0x79434bf6,0xb900b3f5\n"
-    ".inst 0xf940cbf5,0xad0187e0,0xad420162,0x79016bf6,0x794333f6,0xf90053f5,0xf94123f5,0xad0283e2,0xad400161,0x790153f6\n"
-    ".inst 0xf9004bf5,0xad0083e1,0x6f00e400,0xf9012bff,0x7904c3ff,0xb90193ff,0x79032bff,0xf900dbff,0x790373ff,0xf90123ff\n"
-    ".inst 0xf9011bff,0xf9011fff,0xf90117ff,0xf90113ff,0xad000160,0xad010160,0xad020160,0x34000373,0xad4383e1,0x9102e3f5\n"
-    ".inst 0xb940b3f6,0xb27f06b5,0x79416bf7,0x2a1f03e5,0xad030161,0xad428be0,0xb90193f6,0xf94002b6,0xb9400ab5,0x79032bf7\n"
-    ".inst 0xad020960,0xad4187e0,0xf8096176,0xf94053f6,0xb809e175,0x794153f5,0xad010560,0xad408be0,0xf900dbf6,0xf9404bf6\n"
-    ".inst 0x790373f5,0xf90123f6,0xad000960,0x14000010,0x2a1f03ec,0x2a1f03ed,0xaa1f03ea,0xaa1f03e9,0x2a1f03ef,0x2a1f03f0\n"
-    ".inst 0xaa1f03ee,0x2a1f03e7,0xaa1f03f1,0xaa1f03e6,0xaa1f03e3,0xaa1f03f2,0xaa1f03e2,0x2a1f03f4,0xaa1f03e4,0xad430161\n"
-    ".inst 0xf8496175,0xf80c6115,0xb94193f5,0x3c888100,0x3c878101,0xad420161,0xb90173f5,0xf940dbf5,0x3c868100,0x3c858101\n"
-    ".inst 0xad410161,0xf900b3f5,0xf94123f5,0x3c848100,0x3c838101,0xad400161,0xb849e16b,0xf900abf5,0xb80ce10b,0x79432beb\n"
-    ".inst 0x3c828100,0x7902ebeb,0x794373eb,0x3c818101,0x7902d3eb,0x9100200b,0x34000893,0x3cc88100,0x9105e3e5,0x7900280c\n"
-    ".inst 0xb27f04a5,0x79002c0d,0x3cc58101,0x3c848000,0x3cc78100,0xf94000ac,0xb94008ad,0x3cc48102,0xa901a40a,0x3d801c00\n"
-    ".inst 0x3cc68100,0xf900016c,0x7942ebec,0xb900096d,0xb94173eb,0xad068001,0x3cc38100,0x3cc18101,0xb802a00b,0x7942d3eb\n"
-    ".inst 0xad058800,0x3cc28100,0x9109a3e8,0xa9101809,0x91052009,0x79005c0c,0xf940b3ec,0x7900800b,0xf940abeb,0xad000121\n"
-    ".inst 0xb9400be9,0xa916fc08,0xa918fc08,0xa91afc08,0x79401be8,0xf900340a,0x9107280a,0x7900001f,0x3900a00f,0x3900a410\n"
-    ".inst 0xa903300e,0x79008407,0xb900441f,0xa905c40b,0xa9080c06,0xa9097c12,0xa90a1803,0xa90f7c02,0xb9011014,0xb901141f\n"
-    ".inst 0xa9118c1f,0xa912fc04,0xa9139803,0xa917841f,0xa919841f,0xa91b841f,0x79039c08,0xb9000149,0x7903901f,0x9109c3ff\n"
-    ".inst 0xa9424ff4,0xa94157f6,0xa8c35ffe,0xd65f03c0,0x6f00e400,0x52800028,0x91072809,0x39000405,0x79039c1f,0x39000008\n"
-    ".inst 0xb900013f,0xad000160,0xad010160,0xad020160,0xad030160,0xad040160,0xad050160,0xad060160,0xad070160,0xad080160\n"
-    ".inst 0xad090160,0xad0a0160,0xad0b0160,0xad0c0160,0xad0d0160,0x7903901f,0x9109c3ff,0xa9424ff4,0xa94157f6,0xa8c35ffe\n"
-    ".inst 0xd65f03c0,0x92e80011,0x8b1101d1,0xd37efe31,0xf1000a3f,0x54000068,0x52800065,0x17ffff12,0xd1440151,0xd1000631\n"
+    ".inst 0xf81c0ffe,0xa9015ff8,0xa90257f6,0xa9034ff4,0xd109c3ff,0xb9400849,0xb842204a,0x6f00e400,0xf9400048,0x7940184c\n"
+    ".inst 0x2a1f03e5,0xb901bbe9,0x79401c4d,0x3940804f,0xb901abea,0x39408450,0xa941244a,0xf900dbe8,0x79404c48,0xa917ffff\n"
+    ".inst 0x790313ff,0xd100054b,0xd100052e,0x79035be8,0xaa0b01cb,0xf940144e,0x9102e3e8,0xd354fd71,0x910703eb,0x7902ebff\n"
+    ".inst 0xb90173ff,0x7902d3ff,0xf900b3ff,0xa9147fff,0xf900abff,0xa9137fff,0x3c868100,0x3c858100,0x3c848100,0x3c838100\n"
+    ".inst 0x3c828100,0x3c818100,0xa90bffff,0x790193ff,0x79016bff,0xb900b3ff,0x790153ff,0xf90053ff,0xa9087fff,0xf9004bff\n"
+    ".inst 0xa9077fff,0xad0083e0,0xad0183e0,0xad0283e0,0x79001bff,0xb9000bff,0xf9012fff,0xf9012bff,0x7904c3ff,0xb5000171\n"
+    ".inst 0x51010191,0x7115d23f,0x540000e8,0x710005ff,0x54001da1,0x71003a1f,0x54001d69,0x52800045,0x14000002,0x52800025\n"
+    ".inst 0x2a1f03f3,0x2a1f03ec,0x2a1f03ed,0xaa1f03ea,0xaa1f03e9,0x2a1f03ef,0x2a1f03f0,0xaa1f03ee,0x2a1f03e7,0xaa1f03f1\n"
+    ".inst 0xaa1f03e6,0x2a1f03f5,0xaa1f03f2,0xaa1f03e3,0xaa1f03e2,0x2a1f03f4,0xaa1f03e4,0xb809e17f,0xf809617f,0xb901a3ff\n"
+    ".inst 0x79034bff,0xf900cbff,0x790333ff,0xf90123ff,0xf9011bff,0xf9011fff,0xf90117ff,0xf90113ff,0xad000160,0xad010160\n"
+    ".inst 0xad020160,0xad430161,0xf8496176,0xb849e177,0xf9012fff,0xf8006116,0xb941a3f6,0xad0383e1,0xad410560,0xb800e117\n"
+    ".inst 0x79434bf7,0xb900b3f6,0xf940cbf6,0xad0187e0,0xad420162,0x79016bf7,0x794333f7,0xf90053f6,0xf94123f6,0xad0283e2\n"
+    ".inst 0xad400161,0x790153f7,0xf9004bf6,0xad0083e1,0x6f00e400,0xf9012bff,0x7904c3ff,0xb90193ff,0x79032bff,0xf900dbff\n"
+    ".inst 0x790373ff,0xf90123ff,0xf9011bff,0xf9011fff,0xf90117ff,0xf90113ff,0xad000160,0xad010160,0xad020160,0x34000373\n"
+    ".inst 0xad4383e1,0x9102e3f6,0xb940b3f7,0xb27f06d6,0x79416bf8,0x2a1f03e5,0xad030161,0xad428be0,0xb90193f7,0xf94002d7\n"
+    ".inst 0xb9400ad6,0x79032bf8,0xad020960,0xad4187e0,0xf8096177,0xf94053f7,0xb809e176,0x794153f6,0xad010560,0xad408be0\n"
+    ".inst 0xf900dbf7,0xf9404bf7,0x790373f6,0xf90123f7,0xad000960,0x14000011,0x2a1f03ec,0x2a1f03ed,0xaa1f03ea,0xaa1f03e9\n"
+    ".inst 0x2a1f03ef,0x2a1f03f0,0xaa1f03ee,0x2a1f03e7,0xaa1f03f1,0xaa1f03e6,0x2a1f03f5,0xaa1f03f2,0xaa1f03e3,0xaa1f03e2\n"
+    ".inst 0x2a1f03f4,0xaa1f03e4,0xad430161,0xf8496176,0xf80c6116,0xb94193f6,0x3c888100,0x3c878101,0xad420161,0xb90173f6\n"
+    ".inst 0xf940dbf6,0x3c868100,0x3c858101,0xad410161,0xf900b3f6,0xf94123f6,0x3c848100,0x3c838101,0xad400161,0xb849e16b\n"
+    ".inst 0xf900abf6,0xb80ce10b,0x79432beb,0x3c828100,0x7902ebeb,0x794373eb,0x3c818101,0x7902d3eb,0x9100200b,0x34000813\n"
+    ".inst 0x3cc88100,0x9105e3e5,0x7900280c,0xb27f04a5,0x79002c0d,0x3cc58101,0x3c848000,0x3cc78100,0xf94000ac,0xb94008ad\n"
+    ".inst 0x3cc48102,0xa901a40a,0x3d801c00,0x3cc68100,0xf900016c,0x7942ebec,0xb900096d,0xb94173eb,0xad068001,0x3cc38100\n"
+    ".inst 0x3cc18101,0xb802a00b,0x7942d3eb,0xad058800,0x3cc28100,0x9109a3e8,0xa9101809,0x91052009,0x79005c0c,0xf940b3ec\n"
+    ".inst 0x7900800b,0xf940abeb,0xad000121,0xb9400be9,0xa916fc08,0xa918fc08,0xa91afc08,0x79401be8,0xf900340a,0x9107280a\n"
+    ".inst 0x7900001f,0x3900a00f,0x3900a410,0xa903300e,0x79008407,0xb900441f,0xa905c40b,0xf9004006,0x29117c15,0xa9097c12\n"
+    ".inst 0xa90a1803,0xa90f7c02,0xb9011014,0xb901141f,0xa9118c1f,0xa912fc04,0xa9139803,0xa917841f,0xa919841f,0xa91b841f\n"
+    ".inst 0x79039c08,0xb9000149,0x14000016,0x6f00e400,0x52800028,0x91072809,0x39000405,0x79039c1f,0x39000008,0xb900013f\n"
+    ".inst 0xad000160,0xad010160,0xad020160,0xad030160,0xad040160,0xad050160,0xad060160,0xad070160,0xad080160,0xad090160\n"
+    ".inst 0xad0a0160,0xad0b0160,0xad0c0160,0xad0d0160,0x7903901f,0x9109c3ff,0xa9434ff4,0xa94257f6,0xa9415ff8,0xf84407fe\n"
+    ".inst 0xd65f03c0,0x92e80011,0x8b1101d1,0xd37efe31,0xf1000a3f,0x54000068,0x52800065,0x17ffff13,0xd1440151,0xd1000631\n"
     ".inst 0xb144023f,0x54000943,0x39400032,0xa9408831,0xa900fc3f,0x7100065f,0xf900003f,0x54000881,0xeb0a005f,0x540000a2\n"
     ".inst 0x52800029,0xf9000822,0xa9004429,0x1400003e,0x927c4152,0xf2400d5f,0x52800024,0x91004252,0x9a920145,0x8b050232\n"
     ".inst 0xcb050045,0xa9004824,0xf9000825,0xb4000163,0xd37cfc62,0xb5000642,0xd37df062,0xa9007c3f,0xf900083f,0xeb0200bf\n"
     ".inst 0x540000e2,0x52800029,0xa9004829,0x14000029,0xaa1203e2,0x9109a3f2,0x1400000a,0x927ce844,0xf240007f,0x52800026\n"
     ".inst 0x91004084,0x9a840044,0x8b040242,0xcb0400a5,0xa9000826,0xf9000825,0xd1440124,0xd1000484,0xb144009f,0x54000343\n"
     ".inst 0xeb0900bf,0xa9007c3f,0xf900083f,0x54000082,0x52800029,0xa9000829,0x14000012,0x927c4124,0xf2400d3f,0x52800026\n"
-    ".inst 0x91004084,0x9a840127,0x8b070044,0xcb0700a5,0xa9001026,0xf9000825,0xb4000383,0xd37df066,0xa9007c3f,0xf900083f\n"
-    ".inst 0xeb0600bf,0x54000322,0x52800029,0xa9001029,0xf9000825,0x2a1f03f3,0x2a1f03ec,0x2a1f03ed,0xaa1f03ea,0xaa1f03e9\n"
-    ".inst 0x2a1f03ef,0x2a1f03f0,0xaa1f03ee,0x2a1f03e7,0xaa1f03f1,0xaa1f03e6,0xaa1f03e3,0xaa1f03f2,0xaa1f03e2,0x2a1f03f4\n"
-    ".inst 0xaa1f03e4,0xb809e17f,0x52800085,0x17fffec3,0x9109a3e4,0x1400000a,0x927ce8c7,0xf240007f,0x52800033,0x910040e7\n"
-    ".inst 0x9a8700c6,0x8b060087,0xcb0600a5,0xa9001c33,0xf9000825,0xf940dbe6,0xb941bbe7,0x2a1f03e5,0xb941abf3,0x2a0903f4\n"
-    ".inst 0xf900cbff,0xf8096166,0x79435be6,0xb809e167,0x52804307,0xb901a3f3,0x52800033,0x79034be6,0xaa0103e6,0x790333ff\n"
-    ".inst 0xf90123ff,0xf9011bff,0xf9011fff,0xf90113ff,0xf90117ff,0x17fffead\n"
+    ".inst 0x91004084,0x9a840127,0x8b070044,0xcb0700a5,0xa9001026,0xf9000825,0xb40003c3,0xd37df066,0xa9007c3f,0xf900083f\n"
+    ".inst 0xeb0600bf,0x54000362,0x52800029,0xa9001029,0xf9000825,0x2a1f03f3,0x2a1f03ec,0x2a1f03ed,0xaa1f03ea,0xaa1f03e9\n"
+    ".inst 0x2a1f03ef,0x2a1f03f0,0xaa1f03ee,0x2a1f03e7,0xaa1f03f1,0xaa1f03e6,0x2a1f03f5,0xaa1f03f2,0xaa1f03e3,0xaa1f03e2\n"
+    ".inst 0x2a1f03f4,0xaa1f03e4,0xb809e17f,0xf809617f,0x52800085,0x17fffec4,0x9109a3e4,0x1400000a,0x927ce8c7,0xf240007f\n"
+    ".inst 0x52800033,0x910040e7,0x9a8700c6,0x8b060087,0xcb0600a5,0xa9001c33,0xf9000825,0xf940dbe6,0xb941bbe7,0x2a1f03e5\n"
+    ".inst 0xb941abf3,0x2a0303f5,0x2a0903f4,0xf8096166,0x79435be6,0xb809e167,0x52804307,0xb901a3f3,0x52800033,0x79034be6\n"
+    ".inst 0xaa0103e6,0xf900cbff,0x790333ff,0xf90123ff,0xf9011bff,0xf9011fff,0xf90113ff,0xf90117ff,0x17fffeac\n"
     ".section .text.tcp.31,\"ax\",%progbits\n"
     ".balign 4\n"
     ".Ltcp31:\n"
@@ -10740,234 +10786,235 @@ __asm__(
     ".reloc .Ltcp31+316,R_AARCH64_CALL26,.Ltcp32+0\n"
     ".reloc .Ltcp31+596,R_AARCH64_ADR_PREL_PG_HI21,.Ltcp1+552\n"
     ".reloc .Ltcp31+600,R_AARCH64_ADD_ABS_LO12_NC,.Ltcp1+552\n"
-    ".reloc .Ltcp31+628,R_AARCH64_ADR_PREL_PG_HI21,.Ltcp97+0\n"
-    ".reloc .Ltcp31+632,R_AARCH64_ADD_ABS_LO12_NC,.Ltcp97+0\n"
-    ".reloc .Ltcp31+692,R_AARCH64_CALL26,.Ltcp72+0\n"
-    ".reloc .Ltcp31+784,R_AARCH64_CALL26,.Ltcp79+0\n"
+    ".reloc .Ltcp31+628,R_AARCH64_ADR_PREL_PG_HI21,.Ltcp98+0\n"
+    ".reloc .Ltcp31+632,R_AARCH64_ADD_ABS_LO12_NC,.Ltcp98+0\n"
+    ".reloc .Ltcp31+692,R_AARCH64_CALL26,.Ltcp73+0\n"
+    ".reloc .Ltcp31+784,R_AARCH64_CALL26,.Ltcp80+0\n"
     ".reloc .Ltcp31+868,R_AARCH64_CALL26,.Ltcp32+0\n"
-    ".reloc .Ltcp31+956,R_AARCH64_CALL26,.Ltcp66+0\n"
-    ".reloc .Ltcp31+976,R_AARCH64_CALL26,.Ltcp67+0\n"
-    ".reloc .Ltcp31+1056,R_AARCH64_CALL26,.Ltcp76+0\n"
-    ".reloc .Ltcp31+1160,R_AARCH64_CALL26,.Ltcp67+0\n"
-    ".reloc .Ltcp31+1228,R_AARCH64_ADR_PREL_PG_HI21,.Ltcp146+0\n"
-    ".reloc .Ltcp31+1232,R_AARCH64_ADD_ABS_LO12_NC,.Ltcp146+0\n"
+    ".reloc .Ltcp31+956,R_AARCH64_CALL26,.Ltcp67+0\n"
+    ".reloc .Ltcp31+976,R_AARCH64_CALL26,.Ltcp68+0\n"
+    ".reloc .Ltcp31+1056,R_AARCH64_CALL26,.Ltcp77+0\n"
+    ".reloc .Ltcp31+1160,R_AARCH64_CALL26,.Ltcp68+0\n"
+    ".reloc .Ltcp31+1228,R_AARCH64_ADR_PREL_PG_HI21,.Ltcp147+0\n"
+    ".reloc .Ltcp31+1232,R_AARCH64_ADD_ABS_LO12_NC,.Ltcp147+0\n"
     ".reloc .Ltcp31+1360,R_AARCH64_ADR_PREL_PG_HI21,.Ltcp1+304\n"
     ".reloc .Ltcp31+1364,R_AARCH64_LDST64_ABS_LO12_NC,.Ltcp1+304\n"
-    ".reloc .Ltcp31+1428,R_AARCH64_ADR_PREL_PG_HI21,.Ltcp146+0\n"
-    ".reloc .Ltcp31+1432,R_AARCH64_ADD_ABS_LO12_NC,.Ltcp146+0\n"
-    ".reloc .Ltcp31+1448,R_AARCH64_CALL26,.Ltcp69+0\n"
-    ".reloc .Ltcp31+1488,R_AARCH64_CALL26,.Ltcp66+0\n"
-    ".reloc .Ltcp31+1560,R_AARCH64_CALL26,.Ltcp75+0\n"
-    ".reloc .Ltcp31+1572,R_AARCH64_ADR_PREL_PG_HI21,.Ltcp165+0\n"
-    ".reloc .Ltcp31+1576,R_AARCH64_ADD_ABS_LO12_NC,.Ltcp165+0\n"
-    ".reloc .Ltcp31+1616,R_AARCH64_CALL26,.Ltcp80+0\n"
+    ".reloc .Ltcp31+1428,R_AARCH64_ADR_PREL_PG_HI21,.Ltcp147+0\n"
+    ".reloc .Ltcp31+1432,R_AARCH64_ADD_ABS_LO12_NC,.Ltcp147+0\n"
+    ".reloc .Ltcp31+1448,R_AARCH64_CALL26,.Ltcp70+0\n"
+    ".reloc .Ltcp31+1488,R_AARCH64_CALL26,.Ltcp67+0\n"
+    ".reloc .Ltcp31+1560,R_AARCH64_CALL26,.Ltcp76+0\n"
+    ".reloc .Ltcp31+1572,R_AARCH64_ADR_PREL_PG_HI21,.Ltcp166+0\n"
+    ".reloc .Ltcp31+1576,R_AARCH64_ADD_ABS_LO12_NC,.Ltcp166+0\n"
+    ".reloc .Ltcp31+1616,R_AARCH64_CALL26,.Ltcp81+0\n"
     ".reloc .Ltcp31+1632,R_AARCH64_ADR_PREL_PG_HI21,.Ltcp1+552\n"
     ".reloc .Ltcp31+1636,R_AARCH64_ADD_ABS_LO12_NC,.Ltcp1+552\n"
-    ".reloc .Ltcp31+1648,R_AARCH64_CALL26,.Ltcp70+0\n"
-    ".reloc .Ltcp31+1672,R_AARCH64_CALL26,.Ltcp77+0\n"
-    ".reloc .Ltcp31+1720,R_AARCH64_CALL26,.Ltcp72+0\n"
-    ".reloc .Ltcp31+1744,R_AARCH64_ADR_PREL_PG_HI21,.Ltcp164+0\n"
-    ".reloc .Ltcp31+1748,R_AARCH64_ADD_ABS_LO12_NC,.Ltcp164+0\n"
-    ".reloc .Ltcp31+1764,R_AARCH64_ADR_PREL_PG_HI21,.Ltcp94+0\n"
-    ".reloc .Ltcp31+1768,R_AARCH64_ADD_ABS_LO12_NC,.Ltcp94+0\n"
-    ".reloc .Ltcp31+1792,R_AARCH64_CALL26,.Ltcp81+0\n"
-    ".reloc .Ltcp31+1844,R_AARCH64_ADR_PREL_PG_HI21,.Ltcp151+0\n"
-    ".reloc .Ltcp31+1848,R_AARCH64_ADD_ABS_LO12_NC,.Ltcp151+0\n"
-    ".reloc .Ltcp31+1856,R_AARCH64_ADR_PREL_PG_HI21,.Ltcp150+0\n"
-    ".reloc .Ltcp31+1860,R_AARCH64_ADD_ABS_LO12_NC,.Ltcp150+0\n"
-    ".reloc .Ltcp31+1960,R_AARCH64_ADR_PREL_PG_HI21,.Ltcp95+0\n"
-    ".reloc .Ltcp31+1964,R_AARCH64_ADD_ABS_LO12_NC,.Ltcp95+0\n"
-    ".reloc .Ltcp31+2008,R_AARCH64_CALL26,.Ltcp75+0\n"
-    ".reloc .Ltcp31+2036,R_AARCH64_CALL26,.Ltcp77+0\n"
-    ".reloc .Ltcp31+2052,R_AARCH64_ADR_PREL_PG_HI21,.Ltcp97+0\n"
-    ".reloc .Ltcp31+2056,R_AARCH64_ADD_ABS_LO12_NC,.Ltcp97+0\n"
-    ".reloc .Ltcp31+2068,R_AARCH64_CALL26,.Ltcp70+0\n"
-    ".reloc .Ltcp31+2104,R_AARCH64_CALL26,.Ltcp77+0\n"
-    ".reloc .Ltcp31+2176,R_AARCH64_ADR_PREL_PG_HI21,.Ltcp153+0\n"
-    ".reloc .Ltcp31+2180,R_AARCH64_ADD_ABS_LO12_NC,.Ltcp153+0\n"
+    ".reloc .Ltcp31+1648,R_AARCH64_CALL26,.Ltcp71+0\n"
+    ".reloc .Ltcp31+1672,R_AARCH64_CALL26,.Ltcp78+0\n"
+    ".reloc .Ltcp31+1720,R_AARCH64_CALL26,.Ltcp73+0\n"
+    ".reloc .Ltcp31+1744,R_AARCH64_ADR_PREL_PG_HI21,.Ltcp165+0\n"
+    ".reloc .Ltcp31+1748,R_AARCH64_ADD_ABS_LO12_NC,.Ltcp165+0\n"
+    ".reloc .Ltcp31+1764,R_AARCH64_ADR_PREL_PG_HI21,.Ltcp95+0\n"
+    ".reloc .Ltcp31+1768,R_AARCH64_ADD_ABS_LO12_NC,.Ltcp95+0\n"
+    ".reloc .Ltcp31+1792,R_AARCH64_CALL26,.Ltcp82+0\n"
+    ".reloc .Ltcp31+1844,R_AARCH64_ADR_PREL_PG_HI21,.Ltcp152+0\n"
+    ".reloc .Ltcp31+1848,R_AARCH64_ADD_ABS_LO12_NC,.Ltcp152+0\n"
+    ".reloc .Ltcp31+1856,R_AARCH64_ADR_PREL_PG_HI21,.Ltcp151+0\n"
+    ".reloc .Ltcp31+1860,R_AARCH64_ADD_ABS_LO12_NC,.Ltcp151+0\n"
+    ".reloc .Ltcp31+1960,R_AARCH64_ADR_PREL_PG_HI21,.Ltcp96+0\n"
+    ".reloc .Ltcp31+1964,R_AARCH64_ADD_ABS_LO12_NC,.Ltcp96+0\n"
+    ".reloc .Ltcp31+2008,R_AARCH64_CALL26,.Ltcp76+0\n"
+    ".reloc .Ltcp31+2036,R_AARCH64_CALL26,.Ltcp78+0\n"
+    ".reloc .Ltcp31+2052,R_AARCH64_ADR_PREL_PG_HI21,.Ltcp98+0\n"
+    ".reloc .Ltcp31+2056,R_AARCH64_ADD_ABS_LO12_NC,.Ltcp98+0\n"
+    ".reloc .Ltcp31+2068,R_AARCH64_CALL26,.Ltcp71+0\n"
+    ".reloc .Ltcp31+2104,R_AARCH64_CALL26,.Ltcp78+0\n"
+    ".reloc .Ltcp31+2176,R_AARCH64_ADR_PREL_PG_HI21,.Ltcp154+0\n"
+    ".reloc .Ltcp31+2180,R_AARCH64_ADD_ABS_LO12_NC,.Ltcp154+0\n"
     ".reloc .Ltcp31+2200,R_AARCH64_ADR_PREL_PG_HI21,.Ltcp1+272\n"
     ".reloc .Ltcp31+2208,R_AARCH64_LDST64_ABS_LO12_NC,.Ltcp1+272\n"
-    ".reloc .Ltcp31+2252,R_AARCH64_ADR_PREL_PG_HI21,.Ltcp145+0\n"
-    ".reloc .Ltcp31+2256,R_AARCH64_ADD_ABS_LO12_NC,.Ltcp145+0\n"
-    ".reloc .Ltcp31+2332,R_AARCH64_ADR_PREL_PG_HI21,.Ltcp148+0\n"
-    ".reloc .Ltcp31+2336,R_AARCH64_ADD_ABS_LO12_NC,.Ltcp148+0\n"
+    ".reloc .Ltcp31+2252,R_AARCH64_ADR_PREL_PG_HI21,.Ltcp146+0\n"
+    ".reloc .Ltcp31+2256,R_AARCH64_ADD_ABS_LO12_NC,.Ltcp146+0\n"
+    ".reloc .Ltcp31+2332,R_AARCH64_ADR_PREL_PG_HI21,.Ltcp149+0\n"
+    ".reloc .Ltcp31+2336,R_AARCH64_ADD_ABS_LO12_NC,.Ltcp149+0\n"
     ".reloc .Ltcp31+2356,R_AARCH64_ADR_PREL_PG_HI21,.Ltcp1+288\n"
     ".reloc .Ltcp31+2364,R_AARCH64_LDST64_ABS_LO12_NC,.Ltcp1+288\n"
-    ".reloc .Ltcp31+2396,R_AARCH64_CALL26,.Ltcp77+0\n"
-    ".reloc .Ltcp31+2468,R_AARCH64_ADR_PREL_PG_HI21,.Ltcp154+0\n"
-    ".reloc .Ltcp31+2472,R_AARCH64_ADD_ABS_LO12_NC,.Ltcp154+0\n"
+    ".reloc .Ltcp31+2396,R_AARCH64_CALL26,.Ltcp78+0\n"
+    ".reloc .Ltcp31+2468,R_AARCH64_ADR_PREL_PG_HI21,.Ltcp155+0\n"
+    ".reloc .Ltcp31+2472,R_AARCH64_ADD_ABS_LO12_NC,.Ltcp155+0\n"
     ".reloc .Ltcp31+2492,R_AARCH64_ADR_PREL_PG_HI21,.Ltcp1+264\n"
     ".reloc .Ltcp31+2496,R_AARCH64_LDST64_ABS_LO12_NC,.Ltcp1+264\n"
-    ".reloc .Ltcp31+2536,R_AARCH64_ADR_PREL_PG_HI21,.Ltcp180+0\n"
-    ".reloc .Ltcp31+2540,R_AARCH64_ADD_ABS_LO12_NC,.Ltcp180+0\n"
-    ".reloc .Ltcp31+2556,R_AARCH64_ADR_PREL_PG_HI21,.Ltcp181+0\n"
-    ".reloc .Ltcp31+2560,R_AARCH64_ADD_ABS_LO12_NC,.Ltcp181+0\n"
-    ".reloc .Ltcp31+2628,R_AARCH64_CALL26,.Ltcp77+0\n"
-    ".reloc .Ltcp31+2656,R_AARCH64_ADR_PREL_PG_HI21,.Ltcp149+0\n"
-    ".reloc .Ltcp31+2660,R_AARCH64_ADD_ABS_LO12_NC,.Ltcp149+0\n"
-    ".reloc .Ltcp31+2712,R_AARCH64_ADR_PREL_PG_HI21,.Ltcp147+0\n"
-    ".reloc .Ltcp31+2716,R_AARCH64_ADD_ABS_LO12_NC,.Ltcp147+0\n"
+    ".reloc .Ltcp31+2536,R_AARCH64_ADR_PREL_PG_HI21,.Ltcp181+0\n"
+    ".reloc .Ltcp31+2540,R_AARCH64_ADD_ABS_LO12_NC,.Ltcp181+0\n"
+    ".reloc .Ltcp31+2556,R_AARCH64_ADR_PREL_PG_HI21,.Ltcp182+0\n"
+    ".reloc .Ltcp31+2560,R_AARCH64_ADD_ABS_LO12_NC,.Ltcp182+0\n"
+    ".reloc .Ltcp31+2628,R_AARCH64_CALL26,.Ltcp78+0\n"
+    ".reloc .Ltcp31+2656,R_AARCH64_ADR_PREL_PG_HI21,.Ltcp150+0\n"
+    ".reloc .Ltcp31+2660,R_AARCH64_ADD_ABS_LO12_NC,.Ltcp150+0\n"
+    ".reloc .Ltcp31+2712,R_AARCH64_ADR_PREL_PG_HI21,.Ltcp148+0\n"
+    ".reloc .Ltcp31+2716,R_AARCH64_ADD_ABS_LO12_NC,.Ltcp148+0\n"
     ".reloc .Ltcp31+2736,R_AARCH64_ADR_PREL_PG_HI21,.Ltcp1+296\n"
     ".reloc .Ltcp31+2740,R_AARCH64_LDST64_ABS_LO12_NC,.Ltcp1+296\n"
-    ".reloc .Ltcp31+2860,R_AARCH64_ADR_PREL_PG_HI21,.Ltcp180+0\n"
-    ".reloc .Ltcp31+2864,R_AARCH64_ADD_ABS_LO12_NC,.Ltcp180+0\n"
-    ".reloc .Ltcp31+2884,R_AARCH64_ADR_PREL_PG_HI21,.Ltcp181+0\n"
-    ".reloc .Ltcp31+2888,R_AARCH64_ADD_ABS_LO12_NC,.Ltcp181+0\n"
+    ".reloc .Ltcp31+2860,R_AARCH64_ADR_PREL_PG_HI21,.Ltcp181+0\n"
+    ".reloc .Ltcp31+2864,R_AARCH64_ADD_ABS_LO12_NC,.Ltcp181+0\n"
+    ".reloc .Ltcp31+2884,R_AARCH64_ADR_PREL_PG_HI21,.Ltcp182+0\n"
+    ".reloc .Ltcp31+2888,R_AARCH64_ADD_ABS_LO12_NC,.Ltcp182+0\n"
     ".reloc .Ltcp31+3124,R_AARCH64_CALL26,.Ltcp21+0\n"
-    ".reloc .Ltcp31+3148,R_AARCH64_CALL26,.Ltcp77+0\n"
-    ".reloc .Ltcp31+3212,R_AARCH64_CALL26,.Ltcp77+0\n"
-    ".reloc .Ltcp31+3244,R_AARCH64_CALL26,.Ltcp77+0\n"
-    ".reloc .Ltcp31+3436,R_AARCH64_CALL26,.Ltcp77+0\n"
-    ".reloc .Ltcp31+3464,R_AARCH64_CALL26,.Ltcp77+0\n"
-    ".reloc .Ltcp31+3500,R_AARCH64_CALL26,.Ltcp77+0\n"
-    ".reloc .Ltcp31+3604,R_AARCH64_CALL26,.Ltcp78+0\n"
-    ".reloc .Ltcp31+3632,R_AARCH64_CALL26,.Ltcp77+0\n"
+    ".reloc .Ltcp31+3148,R_AARCH64_CALL26,.Ltcp78+0\n"
+    ".reloc .Ltcp31+3212,R_AARCH64_CALL26,.Ltcp78+0\n"
+    ".reloc .Ltcp31+3244,R_AARCH64_CALL26,.Ltcp78+0\n"
+    ".reloc .Ltcp31+3436,R_AARCH64_CALL26,.Ltcp78+0\n"
+    ".reloc .Ltcp31+3464,R_AARCH64_CALL26,.Ltcp78+0\n"
+    ".reloc .Ltcp31+3500,R_AARCH64_CALL26,.Ltcp78+0\n"
+    ".reloc .Ltcp31+3604,R_AARCH64_CALL26,.Ltcp79+0\n"
+    ".reloc .Ltcp31+3632,R_AARCH64_CALL26,.Ltcp78+0\n"
     ".reloc .Ltcp31+3656,R_AARCH64_CALL26,.Ltcp9+0\n"
-    ".reloc .Ltcp31+3672,R_AARCH64_CALL26,.Ltcp77+0\n"
-    ".reloc .Ltcp31+3700,R_AARCH64_CALL26,.Ltcp77+0\n"
-    ".reloc .Ltcp31+3728,R_AARCH64_CALL26,.Ltcp77+0\n"
-    ".reloc .Ltcp31+4032,R_AARCH64_CALL26,.Ltcp77+0\n"
-    ".reloc .Ltcp31+4060,R_AARCH64_CALL26,.Ltcp77+0\n"
-    ".reloc .Ltcp31+4096,R_AARCH64_CALL26,.Ltcp77+0\n"
-    ".reloc .Ltcp31+4292,R_AARCH64_ADR_PREL_PG_HI21,.Ltcp152+0\n"
-    ".reloc .Ltcp31+4296,R_AARCH64_ADD_ABS_LO12_NC,.Ltcp152+0\n"
+    ".reloc .Ltcp31+3672,R_AARCH64_CALL26,.Ltcp78+0\n"
+    ".reloc .Ltcp31+3700,R_AARCH64_CALL26,.Ltcp78+0\n"
+    ".reloc .Ltcp31+3728,R_AARCH64_CALL26,.Ltcp78+0\n"
+    ".reloc .Ltcp31+4032,R_AARCH64_CALL26,.Ltcp78+0\n"
+    ".reloc .Ltcp31+4060,R_AARCH64_CALL26,.Ltcp78+0\n"
+    ".reloc .Ltcp31+4096,R_AARCH64_CALL26,.Ltcp78+0\n"
+    ".reloc .Ltcp31+4292,R_AARCH64_ADR_PREL_PG_HI21,.Ltcp153+0\n"
+    ".reloc .Ltcp31+4296,R_AARCH64_ADD_ABS_LO12_NC,.Ltcp153+0\n"
     ".reloc .Ltcp31+4324,R_AARCH64_ADR_PREL_PG_HI21,.Ltcp1+280\n"
     ".reloc .Ltcp31+4328,R_AARCH64_LDST64_ABS_LO12_NC,.Ltcp1+280\n"
-    ".reloc .Ltcp31+4376,R_AARCH64_ADR_PREL_PG_HI21,.Ltcp100+0\n"
-    ".reloc .Ltcp31+4380,R_AARCH64_ADD_ABS_LO12_NC,.Ltcp100+0\n"
-    ".reloc .Ltcp31+4424,R_AARCH64_ADR_PREL_PG_HI21,.Ltcp104+0\n"
-    ".reloc .Ltcp31+4428,R_AARCH64_ADD_ABS_LO12_NC,.Ltcp104+0\n"
-    ".reloc .Ltcp31+4464,R_AARCH64_ADR_PREL_PG_HI21,.Ltcp101+0\n"
-    ".reloc .Ltcp31+4468,R_AARCH64_ADD_ABS_LO12_NC,.Ltcp101+0\n"
-    ".reloc .Ltcp31+4492,R_AARCH64_ADR_PREL_PG_HI21,.Ltcp102+0\n"
-    ".reloc .Ltcp31+4496,R_AARCH64_ADD_ABS_LO12_NC,.Ltcp102+0\n"
-    ".reloc .Ltcp31+4516,R_AARCH64_ADR_PREL_PG_HI21,.Ltcp103+0\n"
-    ".reloc .Ltcp31+4520,R_AARCH64_ADD_ABS_LO12_NC,.Ltcp103+0\n"
-    ".reloc .Ltcp31+4556,R_AARCH64_ADR_PREL_PG_HI21,.Ltcp106+0\n"
-    ".reloc .Ltcp31+4560,R_AARCH64_ADD_ABS_LO12_NC,.Ltcp106+0\n"
-    ".reloc .Ltcp31+4592,R_AARCH64_ADR_PREL_PG_HI21,.Ltcp108+0\n"
-    ".reloc .Ltcp31+4596,R_AARCH64_ADD_ABS_LO12_NC,.Ltcp108+0\n"
-    ".reloc .Ltcp31+4612,R_AARCH64_ADR_PREL_PG_HI21,.Ltcp107+0\n"
-    ".reloc .Ltcp31+4616,R_AARCH64_ADD_ABS_LO12_NC,.Ltcp107+0\n"
-    ".reloc .Ltcp31+4624,R_AARCH64_ADR_PREL_PG_HI21,.Ltcp109+0\n"
-    ".reloc .Ltcp31+4628,R_AARCH64_ADD_ABS_LO12_NC,.Ltcp109+0\n"
-    ".reloc .Ltcp31+4652,R_AARCH64_ADR_PREL_PG_HI21,.Ltcp102+0\n"
-    ".reloc .Ltcp31+4656,R_AARCH64_ADD_ABS_LO12_NC,.Ltcp102+0\n"
-    ".reloc .Ltcp31+4684,R_AARCH64_ADR_PREL_PG_HI21,.Ltcp111+0\n"
-    ".reloc .Ltcp31+4688,R_AARCH64_ADD_ABS_LO12_NC,.Ltcp111+0\n"
-    ".reloc .Ltcp31+4696,R_AARCH64_ADR_PREL_PG_HI21,.Ltcp110+0\n"
-    ".reloc .Ltcp31+4700,R_AARCH64_ADD_ABS_LO12_NC,.Ltcp110+0\n"
-    ".reloc .Ltcp31+5048,R_AARCH64_CALL26,.Ltcp70+0\n"
-    ".reloc .Ltcp31+5204,R_AARCH64_CALL26,.Ltcp77+0\n"
-    ".reloc .Ltcp31+5240,R_AARCH64_ADR_PREL_PG_HI21,.Ltcp112+0\n"
-    ".reloc .Ltcp31+5244,R_AARCH64_ADD_ABS_LO12_NC,.Ltcp112+0\n"
-    ".reloc .Ltcp31+5256,R_AARCH64_CALL26,.Ltcp70+0\n"
-    ".reloc .Ltcp31+5280,R_AARCH64_CALL26,.Ltcp77+0\n"
-    ".reloc .Ltcp31+5300,R_AARCH64_ADR_PREL_PG_HI21,.Ltcp105+0\n"
-    ".reloc .Ltcp31+5304,R_AARCH64_ADD_ABS_LO12_NC,.Ltcp105+0\n"
-    ".reloc .Ltcp31+5452,R_AARCH64_CALL26,.Ltcp77+0\n"
-    ".reloc .Ltcp31+5476,R_AARCH64_CALL26,.Ltcp77+0\n"
-    ".reloc .Ltcp31+5600,R_AARCH64_ADR_PREL_PG_HI21,.Ltcp98+0\n"
-    ".reloc .Ltcp31+5604,R_AARCH64_ADD_ABS_LO12_NC,.Ltcp98+0\n"
+    ".reloc .Ltcp31+4376,R_AARCH64_ADR_PREL_PG_HI21,.Ltcp101+0\n"
+    ".reloc .Ltcp31+4380,R_AARCH64_ADD_ABS_LO12_NC,.Ltcp101+0\n"
+    ".reloc .Ltcp31+4424,R_AARCH64_ADR_PREL_PG_HI21,.Ltcp105+0\n"
+    ".reloc .Ltcp31+4428,R_AARCH64_ADD_ABS_LO12_NC,.Ltcp105+0\n"
+    ".reloc .Ltcp31+4464,R_AARCH64_ADR_PREL_PG_HI21,.Ltcp102+0\n"
+    ".reloc .Ltcp31+4468,R_AARCH64_ADD_ABS_LO12_NC,.Ltcp102+0\n"
+    ".reloc .Ltcp31+4492,R_AARCH64_ADR_PREL_PG_HI21,.Ltcp103+0\n"
+    ".reloc .Ltcp31+4496,R_AARCH64_ADD_ABS_LO12_NC,.Ltcp103+0\n"
+    ".reloc .Ltcp31+4516,R_AARCH64_ADR_PREL_PG_HI21,.Ltcp104+0\n"
+    ".reloc .Ltcp31+4520,R_AARCH64_ADD_ABS_LO12_NC,.Ltcp104+0\n"
+    ".reloc .Ltcp31+4556,R_AARCH64_ADR_PREL_PG_HI21,.Ltcp107+0\n"
+    ".reloc .Ltcp31+4560,R_AARCH64_ADD_ABS_LO12_NC,.Ltcp107+0\n"
+    ".reloc .Ltcp31+4592,R_AARCH64_ADR_PREL_PG_HI21,.Ltcp109+0\n"
+    ".reloc .Ltcp31+4596,R_AARCH64_ADD_ABS_LO12_NC,.Ltcp109+0\n"
+    ".reloc .Ltcp31+4612,R_AARCH64_ADR_PREL_PG_HI21,.Ltcp108+0\n"
+    ".reloc .Ltcp31+4616,R_AARCH64_ADD_ABS_LO12_NC,.Ltcp108+0\n"
+    ".reloc .Ltcp31+4624,R_AARCH64_ADR_PREL_PG_HI21,.Ltcp110+0\n"
+    ".reloc .Ltcp31+4628,R_AARCH64_ADD_ABS_LO12_NC,.Ltcp110+0\n"
+    ".reloc .Ltcp31+4652,R_AARCH64_ADR_PREL_PG_HI21,.Ltcp103+0\n"
+    ".reloc .Ltcp31+4656,R_AARCH64_ADD_ABS_LO12_NC,.Ltcp103+0\n"
+    ".reloc .Ltcp31+4684,R_AARCH64_ADR_PREL_PG_HI21,.Ltcp112+0\n"
+    ".reloc .Ltcp31+4688,R_AARCH64_ADD_ABS_LO12_NC,.Ltcp112+0\n"
+    ".reloc .Ltcp31+4696,R_AARCH64_ADR_PREL_PG_HI21,.Ltcp111+0\n"
+    ".reloc .Ltcp31+4700,R_AARCH64_ADD_ABS_LO12_NC,.Ltcp111+0\n"
+    ".reloc .Ltcp31+5048,R_AARCH64_CALL26,.Ltcp71+0\n"
+    ".reloc .Ltcp31+5204,R_AARCH64_CALL26,.Ltcp78+0\n"
+    ".reloc .Ltcp31+5240,R_AARCH64_ADR_PREL_PG_HI21,.Ltcp113+0\n"
+    ".reloc .Ltcp31+5244,R_AARCH64_ADD_ABS_LO12_NC,.Ltcp113+0\n"
+    ".reloc .Ltcp31+5256,R_AARCH64_CALL26,.Ltcp71+0\n"
+    ".reloc .Ltcp31+5280,R_AARCH64_CALL26,.Ltcp78+0\n"
+    ".reloc .Ltcp31+5300,R_AARCH64_ADR_PREL_PG_HI21,.Ltcp106+0\n"
+    ".reloc .Ltcp31+5304,R_AARCH64_ADD_ABS_LO12_NC,.Ltcp106+0\n"
+    ".reloc .Ltcp31+5452,R_AARCH64_CALL26,.Ltcp78+0\n"
+    ".reloc .Ltcp31+5476,R_AARCH64_CALL26,.Ltcp78+0\n"
+    ".reloc .Ltcp31+5600,R_AARCH64_ADR_PREL_PG_HI21,.Ltcp99+0\n"
+    ".reloc .Ltcp31+5604,R_AARCH64_ADD_ABS_LO12_NC,.Ltcp99+0\n"
     ".reloc .Ltcp31+6936,R_AARCH64_CALL26,.Ltcp10+0\n"
-    ".reloc .Ltcp31+6980,R_AARCH64_CALL26,.Ltcp74+0\n"
-    ".reloc .Ltcp31+7052,R_AARCH64_CALL26,.Ltcp74+0\n"
-    ".reloc .Ltcp31+7088,R_AARCH64_CALL26,.Ltcp77+0\n"
-    ".reloc .Ltcp31+7292,R_AARCH64_CALL26,.Ltcp77+0\n"
-    ".reloc .Ltcp31+7316,R_AARCH64_CALL26,.Ltcp77+0\n"
-    ".reloc .Ltcp31+7336,R_AARCH64_ADR_PREL_PG_HI21,.Ltcp93+0\n"
-    ".reloc .Ltcp31+7340,R_AARCH64_ADD_ABS_LO12_NC,.Ltcp93+0\n"
-    ".reloc .Ltcp31+7352,R_AARCH64_CALL26,.Ltcp70+0\n"
-    ".reloc .Ltcp31+7388,R_AARCH64_CALL26,.Ltcp77+0\n"
+    ".reloc .Ltcp31+6980,R_AARCH64_CALL26,.Ltcp75+0\n"
+    ".reloc .Ltcp31+7052,R_AARCH64_CALL26,.Ltcp75+0\n"
+    ".reloc .Ltcp31+7088,R_AARCH64_CALL26,.Ltcp78+0\n"
+    ".reloc .Ltcp31+7292,R_AARCH64_CALL26,.Ltcp78+0\n"
+    ".reloc .Ltcp31+7316,R_AARCH64_CALL26,.Ltcp78+0\n"
+    ".reloc .Ltcp31+7336,R_AARCH64_ADR_PREL_PG_HI21,.Ltcp94+0\n"
+    ".reloc .Ltcp31+7340,R_AARCH64_ADD_ABS_LO12_NC,.Ltcp94+0\n"
+    ".reloc .Ltcp31+7352,R_AARCH64_CALL26,.Ltcp71+0\n"
+    ".reloc .Ltcp31+7388,R_AARCH64_CALL26,.Ltcp78+0\n"
     ".section .text.tcp.32,\"ax\",%progbits\n"
     ".balign 4\n"
     ".Ltcp32:\n"
     ".type \"tcp_replay::world::step_at::<#092612425c726c7d>\",%function\n"
-    ".size \"tcp_replay::world::step_at::<#092612425c726c7d>\",4924\n"
+    ".size \"tcp_replay::world::step_at::<#092612425c726c7d>\",5044\n"
     "\"tcp_replay::world::step_at::<#092612425c726c7d>\":\n"
     ".inst 0xd10283ff,0x6f00e400,0x394000a8,0x90000009,0x91000129,0xa9057bfd,0x910143fd,0xa90667fa,0xa9075ff8,0xa90857f6\n"
-    ".inst 0xa9094ff4,0xf90013ff,0xad0003e0,0x1000008a,0x3868692b,0x8b0b094a,0xd61f0140,0x3940c468,0x350013a8,0x3940c06b\n"
-    ".inst 0x5280002a,0x52800029,0x3500136b,0x9000000e,0xb940008b,0x7940088d,0x3dc001c0,0x2a1f03e9,0x5280004c,0x3900c06c\n"
-    ".inst 0xb900346b,0x7900706d,0x3d801060,0x3905006a,0x140000d2,0xf94004a8,0xf940b469,0xa93e7fbf,0xf81f03bf,0xeb08013f\n"
-    ".inst 0x54000649,0x52800609,0xf940b06a,0x9b092909,0xf9400528,0xf100351f,0x54002328,0xf940112b,0xf9406c8c,0x2a1f03ea\n"
-    ".inst 0x3943808d,0x2a1f03ef,0x2a0203ee,0x14000143,0x3940c473,0x340015f3,0x2a1f03ea,0x52800069,0x52800028,0x3947006b\n"
-    ".inst 0x390027e8,0x390003ff,0x2a0b0148,0x390023ff,0x39070068,0x39002be9,0x140000d0,0xa940d4a8,0xf940b469,0x394060b6\n"
-    ".inst 0xa93e7fbf,0xf81f03bf,0xeb08013f,0x54000229,0x34002156,0x52800609,0xf940b06a,0x9b092908,0xf9400513,0xeb15027f\n"
-    ".inst 0x540020c9,0xf100367f,0x540030e8,0xf940110a,0xf9406c8b,0x2a1f03e9,0x3943808c,0x2a1f03ee,0x2a0203ed,0x140001d9\n"
-    ".inst 0x52800028,0x140001e3,0xaa0003f3,0x910003e0,0xaa0103e2,0xaa0303e1,0x52800023,0x1400007b,0xa958a069,0xa940d4b4\n"
-    ".inst 0xcb090108,0xeb0802bf,0x540031e8,0x3940c476,0x34001616,0xaa1f03f3,0x52800068,0xd2e02009,0x5280002a,0x790003ff\n"
-    ".inst 0x390023ea,0xf80093e9,0x390047e8,0x39004bf6,0xb80133ff,0x39005fff,0xa901fff3,0x140002ef,0xf94004a8,0xf9408874\n"
-    ".inst 0xa95aa46a,0xeb08029f,0x9a883293,0xcb0a0128,0xeb08027f,0x54003048,0xb4001433,0x3940c469,0x121f1928,0x7100091f\n"
-    ".inst 0x54004f20,0x3940c068,0x2a090108,0x34005128,0xf9408868,0xb4002b68,0xb9410c69,0xb941086a,0xcb09014b,0xeb0b011f\n"
-    ".inst 0x54002c89,0xf9407474,0x6b09015f,0x54004341,0xaa1403e1,0x90000014,0x91000294,0x14000219,0x394008a9,0x3940c068\n"
-    ".inst 0x7100093f,0x54001300,0x7100053f,0x54001401,0x5280002a,0x2a1f03e9,0x1ac82148,0x528089ea,0x6a0a011f,0x54002621\n"
-    ".inst 0xf9404868,0xb4001628,0xf9404469,0xf940286a,0xf940206b,0x8b080d28,0x52800029,0xb85fc108,0xa90aac69,0x8b0a0108\n"
-    ".inst 0x91000508,0xf9005c68,0x14000124,0x3940c468,0x34000808,0x52800069,0x5280002a,0x390003ff,0x390023ff,0x390027ea\n"
-    ".inst 0x39002be9,0x39002fe8,0x1400005d,0x3940c473,0x340007d3,0x52800068,0x52800029,0x14000053,0x39450468,0x36000448\n"
-    ".inst 0x52800028,0x14000024,0x3940c068,0x52800029,0x2a1f03ea,0x1ac82128,0x528089e9,0x6a09011f,0x54001e21,0xa9442468\n"
-    ".inst 0xeb09011f,0x540010e2,0x3940f86c,0x7940186a,0x7940746b,0x7100059f,0x54001bc1,0xf940946c,0x5280008d,0xf100119f\n"
-    ".inst 0x9a8d318e,0xf100019f,0x2a0e0dad,0x1a8d03ec,0x140000d7,0xaa0003f3,0x910003e0,0xaa0103e2,0xaa0303e1,0x2a1f03e3\n"
-    ".inst 0x94000000,0xaa1303e0,0x14000286,0x3940c068,0x51001108,0x71000d1f,0x1a9f27e8,0x39050468,0x390003ff,0x1400015a\n"
-    ".inst 0x3940c069,0x34001129,0x3940c86a,0x52800028,0x360016aa,0x2a1f03ea,0x52800049,0x17ffff4e,0x3940c06b,0x5280002a\n"
-    ".inst 0x52800029,0x35fff80b,0x2a1f03e9,0x3900c06a,0x2a1f03ea,0x17ffffbc,0x3940c068,0x34fff868,0x51000d08,0xaa0003f4\n"
-    ".inst 0x7100111f,0x540001a8,0xb9403468,0x79407069,0x5280002a,0xb940486b,0xb940086c,0xb901446a,0x79029869,0xb0b0189\n"
-    ".inst 0xb9014868,0x91055068,0xb9015069,0xf900011f,0xaa0303e0,0x52800061,0x94000000,0x2a1f03e9,0x2a1f03e8,0xaa1403e0\n"
-    ".inst 0x390003ff,0x390023ff,0x390027e9,0x39002be8,0x39002ff3,0xf800c3ff,0xf801c3ff,0xf80143ff,0xb90027ff,0x1400024d\n"
-    ".inst 0x3940c073,0x34000fd3,0x7100067f,0x54000fe1,0xaa1f03f3,0x528000a8,0x17ffff4d,0x3940c469,0x121f1928,0x7100091f\n"
-    ".inst 0x54003b20,0x3940c068,0x2a090108,0x34003d28,0x3940f068,0x7100051f,0x54001c61,0x39408068,0x39408469,0x7100051f\n"
-    ".inst 0x1a9f0128,0x12001d13,0x140000de,0x7100291f,0x54000441,0x52802008,0x52800029,0x7902807f,0x79006068,0x3905087f\n"
-    ".inst 0xa90afc7f,0xf9005c7f,0x14000098,0x5280002a,0x528089eb,0x2a1f03e9,0x1ac8214a,0x6a0b015f,0x54000340,0x5280002b\n"
-    ".inst 0x528089ec,0x2a1f03ea,0x1ac8216b,0x6a0c017f,0x540003a0,0x34001009,0x14000078,0xf940012a,0xf940112b,0x2a0203ee\n"
-    ".inst 0xf9406c8c,0x3943808d,0x3940354a,0x372004aa,0x2a1f03ef,0x14000029,0x2a1f03ea,0x14000066,0x2a1f03e9,0x1400007d\n"
-    ".inst 0x52802028,0x140000e9,0x52804028,0x140000e7,0xa9442869,0xeb0a013f,0x1a9f27e9,0x5280002b,0x528089ec,0x2a1f03ea\n"
-    ".inst 0x1ac8216b,0x6a0c017f,0x54fffca1,0xa9442c6a,0xeb0b015f,0x54000b21,0xf940286b,0xf940346c,0x9100056b,0xeb0b014a\n"
-    ".inst 0x9a8a33ea,0xeb0a019f,0x54000a49,0xb940c06a,0x7100015f,0x1a9f17ea,0x35000a09,0x14000056,0x2a1f03ea,0x17fffec9\n"
-    ".inst 0xf940208f,0xf9401530,0xeb0e01ef,0x1a9f37f1,0xeb0f021f,0x1a9183ef,0xb100058c,0xda9f318c,0xab2d418c,0xda9f318c\n"
-    ".inst 0xeb0e018c,0x1a9f37ed,0xeb0c017f,0x1a8d83eb,0x3710006a,0x2a0f016a,0x3700176a,0xf9400129,0xaa0003f3,0xd10083a0\n"
-    ".inst 0xaa0403e1,0xaa0303e2,0xaa0803e4,0xaa0903e3,0x94000000,0x528000a8,0x385e83a9,0xf85f03aa,0x390023e8,0x385e03a8\n"
-    ".inst 0xaa1303e0,0x790003ff,0xb80093ff,0xb9000fff,0xa90127e8,0xf90013ea,0x140001ce,0xd2e02009,0x2a1303e8,0x17fffed3\n"
-    ".inst 0x3940c868,0x36000968,0xaa1f03f3,0x52800048,0x17fffecd,0x7100293f,0x3900c868,0x54003f88,0x1ac92108,0x5280ed0a\n"
-    ".inst 0x6a0a011f,0x54003fe1,0x7100113f,0x54003de1,0x2a1f03e8,0x2a1f03e9,0x528000aa,0x140001f0,0x2a1f03ec,0x6b0a017f\n"
-    ".inst 0x1a8a316a,0x6b2c214a,0x1a8a33ea,0x8b0a010b,0x5280002a,0xeb09017f,0xa90aa06a,0x9a893169,0xf9005c69,0x52800068\n"
-    ".inst 0x390003ff,0x390023e8,0x390027ea,0x14000019,0x2a1f03ea,0x34000109,0xf940486b,0xb400004b,0xf900487f,0x3dc01060\n"
-    ".inst 0x5280002b,0xf900546b,0x3d802c60,0x121f1908,0x3945006b,0x7100091f,0x39450868,0x1a9f17ec,0x1a9f1529,0x2a0b018b\n"
-    ".inst 0x2a080148,0x2a0a0129,0x3905006b,0x39050868,0x52800068,0x390003ff,0x390023e8,0x390027e9,0xf800a3ff,0xf801a3ff\n"
-    ".inst 0xf80123ff,0xf90013ff,0x1400018c,0xf9400109,0xf940110a,0x2a0203ed,0xf9406c8b,0x3943808c,0x39403529,0x372009a9\n"
-    ".inst 0x2a1f03ee,0x14000051,0x90000001,0x91000021,0xaa0103f4,0x140000c7,0xf9402868,0xf940346a,0xf9401469,0x8b08014b\n"
-    ".inst 0xb4000d15,0xeb0b013f,0x54000cc8,0xaa1f03f3,0x52800088,0x17fffe7c,0xf940746a,0x90000014,0x91000294,0x8b090141\n"
-    ".inst 0x140000b8,0xaa0003f3,0x91060060,0xaa1503e1,0xaa0303f6,0x94000000,0xaa1603e3,0x2a0003e8,0xaa1303e0,0x35ffcd48\n"
-    ".inst 0x1400000a,0xaa0003f4,0x91068060,0xaa1303e1,0xaa0303f5,0x94000000,0xaa1503e3,0x2a0003e8,0xaa1403e0,0x3707cf08\n"
-    ".inst 0x6f00e400,0x52808028,0x14000034,0x2a1f03f3,0xb9410c62,0xf9407861,0xaa1403e8,0xb9410875,0xeb02003f,0x54004063\n"
-    ".inst 0xb5000068,0xf9409469,0xb4002ca9,0xb9410869,0xb9410c6a,0x6b0a013f,0x1a8a03ea,0x3940c06b,0x2a1f03e9,0xb9010c6a\n"
-    ".inst 0x5100116b,0x7100097f,0x540024c8,0x4b1402aa,0x1ad3254a,0x3500246a,0x3940f06a,0xb9410869,0x7100055f,0x54002341\n"
-    ".inst 0x3940806a,0x3940846b,0x7100055f,0x1a9f016a,0x12001d4a,0x14000115,0xf940208e,0xf940150f,0xeb0d01ce,0x1a9f37f0\n"
-    ".inst 0xeb0e01ff,0x1a9083ee,0xb100056b,0xda9f316b,0xab2c416b,0xda9f316b,0xeb0d016b,0x1a9f37ec,0xeb0b015f,0x1a8c83ea\n"
-    ".inst 0x37100109,0x2a0e0149,0x360000c9,0x52806028,0x790003e8,0x3c8083e0,0x3c8183e0,0x14000123,0xb7f801d3,0xaa0103e9\n"
-    ".inst 0xf9400101,0x3940012b,0xa940a134,0xa900fd3f,0x7100057f,0xf900013f,0x540000c1,0xeb13011f,0x54002682,0x5280002a\n"
-    ".inst 0xf9000928,0xa900512a,0x52808028,0x17ffffed,0xf9403068,0xeb0b0129,0x9a8933e9,0xcb0a010b,0xeb0b013f,0x9a8b3129\n"
-    ".inst 0xeb0902bf,0x9a8932b3,0xb40030d3,0xf940386c,0x8b0a0189,0xeb08013f,0x9a8833ed,0xcb0d012b,0xeb0b0109,0xeb13013f\n"
-    ".inst 0x9a933129,0xeb0b010b,0xf9402c68,0x54000280,0xf100213f,0x540000e3,0x8b0a018e,0x8b0801ce,0xcb1401ce,0xcb0d01ce\n"
-    ".inst 0xf10081df,0x54003762,0xaa1f03ee,0x8b0a01ca,0x8b0c014a,0xcb0d014c,0xcb0901ca,0x8b0e028d,0x8b0c010c,0x384015ae\n"
-    ".inst 0xb100054a,0x3800158e,0x54ffffa3,0xeb0b027f,0x54000229,0xcb09026a,0xf100215f,0x540000a3,0x8b14012b,0xcb0b010b\n"
-    ".inst 0xf100817f,0x54003562,0xaa1f03eb,0x8b09016a,0x8b0b0108,0xcb130149,0x8b0a028a,0x3840154b,0xb1000529,0x3800150b\n"
-    ".inst 0x54ffffa3,0xa958d469,0xf9403468,0x8b130108,0xcb0902aa,0xf9003468,0xeb0a027f,0x54004608,0xf940c077,0x8b130138\n"
-    ".inst 0xa918fc7f,0x8b0902e8,0xcb14010a,0xeb13015f,0x54002de2,0xf100227f,0x540000a3,0x8b170128,0xcb140108,0xf100811f\n"
-    ".inst 0x54003242,0xaa1f03e8,0xcb13010a,0x8b08028b,0x8b090108,0x38401569,0xb100054a,0x38286ae9,0x91000508,0x54ffff83\n"
-    ".inst 0x14000167,0xf9407868,0x8b090281,0xcb090108,0xa95ad869,0xeb13011f,0x9a933115,0xcb0902c8,0xeb0802bf,0x540026c8\n"
-    ".inst 0xf940d078,0x8b150137,0xa91afc7f,0x8b090308,0xcb01010a,0xeb15015f,0x54000222,0xf10022bf,0x540000a3,0x8b180128\n"
-    ".inst 0xcb010108,0xf100811f,0x54001662,0xaa1f03e8,0x8b09010a,0xcb0802a9,0x8b080028,0x8b0a030a,0x3840150b,0xf1000529\n"
-    ".inst 0x3800154b,0x54ffffa1,0x14000008,0xaa0003f9,0xaa0803e0,0xaa1503e2,0xaa0303fa\n"
+    ".inst 0xa9094ff4,0xf90013ff,0xad0003e0,0x1000008a,0x3868692b,0x8b0b094a,0xd61f0140,0x3940c468,0x35001408,0x3940c06b\n"
+    ".inst 0x5280002a,0x52800029,0x350013cb,0x9000000e,0xb940008b,0x7940088d,0x3dc001c0,0x2a1f03e9,0x5280004c,0x3900c06c\n"
+    ".inst 0xb900346b,0x7900706d,0x3d801060,0x3905006a,0x140000d5,0xf94004a8,0xf940b469,0xa93e7fbf,0xf81f03bf,0xeb08013f\n"
+    ".inst 0x54000649,0x52800609,0xf940b06a,0x9b092909,0xf9400528,0xf100351f,0x54002508,0xf940112b,0xf9406c8c,0x2a1f03ea\n"
+    ".inst 0x3943808d,0x2a1f03ef,0x2a0203ee,0x14000152,0x3940c473,0x34001653,0x2a1f03ea,0x52800069,0x52800028,0x3947006b\n"
+    ".inst 0x390027e8,0x390003ff,0x2a0b0148,0x390023ff,0x39070068,0x39002be9,0x140000df,0xa940d4a8,0xf940b469,0x394060b6\n"
+    ".inst 0xa93e7fbf,0xf81f03bf,0xeb08013f,0x54000229,0x34002336,0x52800609,0xf940b06a,0x9b092908,0xf9400513,0xeb15027f\n"
+    ".inst 0x540022a9,0xf100367f,0x54003288,0xf940110a,0xf9406c8b,0x2a1f03e9,0x3943808c,0x2a1f03ee,0x2a0203ed,0x140001e6\n"
+    ".inst 0x52800028,0x140001f0,0xaa0003f3,0x910003e0,0xaa0103e2,0xaa0303e1,0x52800023,0x1400007e,0xa958a069,0xa940d4b4\n"
+    ".inst 0xcb090108,0xeb0802bf,0x54003388,0x3940c476,0x340017f6,0xaa1f03f3,0x52800068,0xd2e02009,0x5280002a,0x790003ff\n"
+    ".inst 0x390023ea,0xf80093e9,0x390047e8,0x39004bf6,0xb80133ff,0x39005fff,0xa901fff3,0x140002fc,0xf94004a8,0xf9408874\n"
+    ".inst 0xa95aa46a,0xeb08029f,0x9a883293,0xcb0a0128,0xeb08027f,0x540031e8,0xb4001613,0x3940c469,0x121f1928,0x7100091f\n"
+    ".inst 0x540050c0,0x3940c068,0x2a090108,0x340052c8,0xf9408868,0xb4002d08,0xb9410c69,0xb941086a,0xcb09014b,0xeb0b011f\n"
+    ".inst 0x54002e29,0xf9407474,0x6b09015f,0x540044e1,0xaa1403e1,0x90000014,0x91000294,0x14000226,0x394008a9,0x3940c068\n"
+    ".inst 0x7100093f,0x540014e0,0x7100053f,0x540015e1,0x5280002a,0x2a1f03e9,0x1ac82148,0x528089ea,0x6a0a011f,0x540027c1\n"
+    ".inst 0xf9404868,0xb4001808,0xf9404469,0xf940286a,0xf940206b,0x8b080d28,0xb9408469,0xb85fc108,0xeb090108,0x52800029\n"
+    ".inst 0x9a8833e8,0xa90aac69,0x8b0a0108,0x91000508,0xf9005c68,0x1400012e,0x3940c468,0x34000808,0x52800069,0x5280002a\n"
+    ".inst 0x390003ff,0x390023ff,0x390027ea,0x39002be9,0x39002fe8,0x14000069,0x3940c473,0x340007d3,0x52800068,0x52800029\n"
+    ".inst 0x1400005f,0x39450468,0x36000448,0x52800028,0x14000024,0x3940c068,0x52800029,0x2a1f03ea,0x1ac82128,0x528089e9\n"
+    ".inst 0x6a09011f,0x54001f41,0xa9442468,0xeb09011f,0x54001262,0x3940f86c,0x7940186a,0x7940746b,0x7100059f,0x54001ce1\n"
+    ".inst 0xf940946c,0x5280008d,0xf100119f,0x9a8d318e,0xf100019f,0x2a0e0dad,0x1a8d03ec,0x140000e0,0xaa0003f3,0x910003e0\n"
+    ".inst 0xaa0103e2,0xaa0303e1,0x2a1f03e3,0x94000000,0xaa1303e0,0x14000290,0x3940c068,0x51001108,0x71000d1f,0x1a9f27e8\n"
+    ".inst 0x39050468,0x390003ff,0x14000164,0x3940c069,0x340012a9,0x3940c86a,0x52800028,0x3600182a,0x2a1f03ea,0x52800049\n"
+    ".inst 0x17ffff4b,0x3940c06b,0x5280002a,0x52800029,0x35fff80b,0x2a1f03e9,0x3900c06a,0x2a1f03ea,0x17ffffbc,0x3940c068\n"
+    ".inst 0x34fff868,0x51000d08,0xaa0003f4,0x7100111f,0x540001a8,0xb9403468,0x79407069,0x5280002a,0xb940486b,0xb940086c\n"
+    ".inst 0xb901446a,0x79029869,0xb0b0189,0xb9014868,0x91055068,0xb9015069,0xf900011f,0xf9403461,0x52806008,0x91016060\n"
+    ".inst 0xa90b7c7f,0xaa0303f5,0x79006068,0xf900547f,0x94000000,0xf94096a8,0xaa1503ea,0xf9008abf,0xb4000048,0xf900955f\n"
+    ".inst 0x2a1f03e9,0x2a1f03e8,0xaa1403e0,0x7902815f,0x3905095f,0x390003ff,0x390023ff,0x390027e9,0x39002be8,0x39002ff3\n"
+    ".inst 0xf800c3ff,0xf801c3ff,0xf80143ff,0xb90027ff,0x1400024b,0x3940c073,0x34000fd3,0x7100067f,0x54000fe1,0xaa1f03f3\n"
+    ".inst 0x528000a8,0x17ffff3e,0x3940c469,0x121f1928,0x7100091f,0x54003ae0,0x3940c068,0x2a090108,0x34003ce8,0x3940f068\n"
+    ".inst 0x7100051f,0x54001c21,0x39408068,0x39408469,0x7100051f,0x1a9f0128,0x12001d13,0x140000dc,0x7100291f,0x54000441\n"
+    ".inst 0x52802008,0x52800029,0x7902807f,0x79006068,0x3905087f,0xa90afc7f,0xf9005c7f,0x14000096,0x5280002a,0x528089eb\n"
+    ".inst 0x2a1f03e9,0x1ac8214a,0x6a0b015f,0x54000340,0x5280002b,0x528089ec,0x2a1f03ea,0x1ac8216b,0x6a0c017f,0x540003a0\n"
+    ".inst 0x34000fc9,0x14000075,0xf940012a,0xf940112b,0x2a0203ee,0xf9406c8c,0x3943808d,0x3940354a,0x372004aa,0x2a1f03ef\n"
+    ".inst 0x14000029,0x2a1f03ea,0x14000063,0x2a1f03e9,0x1400007b,0x52802028,0x140000e7,0x52804028,0x140000e5,0xa9442869\n"
+    ".inst 0xeb0a013f,0x1a9f27e9,0x5280002b,0x528089ec,0x2a1f03ea,0x1ac8216b,0x6a0c017f,0x54fffca1,0xa9442c6a,0xeb0b015f\n"
+    ".inst 0x54000ac1,0xf940286b,0xf940346c,0x9100056b,0xeb0b014a,0x9a8a33ea,0xeb0a019f,0x540009e9,0xb940c06a,0x7100015f\n"
+    ".inst 0x1a9f17ea,0x350009a9,0x14000054,0x2a1f03ea,0x17fffeba,0xf940208f,0xf9401530,0xeb0e01ef,0x1a9f37f1,0xeb0f021f\n"
+    ".inst 0x1a9183ef,0xb100058c,0xda9f318c,0xab2d418c,0xda9f318c,0xeb0e018c,0x1a9f37ed,0xeb0c017f,0x1a8d83eb,0x3710006a\n"
+    ".inst 0x2a0f016a,0x3700172a,0xf9400129,0xaa0003f3,0xd10083a0,0xaa0403e1,0xaa0303e2,0xaa0803e4,0xaa0903e3,0x94000000\n"
+    ".inst 0x528000a8,0x385e83a9,0xf85f03aa,0x390023e8,0x385e03a8,0xaa1303e0,0x790003ff,0xb80093ff,0xb9000fff,0xa90127e8\n"
+    ".inst 0xf90013ea,0x140001cc,0xd2e02009,0x2a1303e8,0x17fffec4,0x3940c868,0x36000928,0xaa1f03f3,0x52800048,0x17fffebe\n"
+    ".inst 0x7100293f,0x3900c868,0x54004028,0x1ac92108,0x5280ed0a,0x6a0a011f,0x54003940,0x2a1f03e8,0x2a1f03e9,0x140001f8\n"
+    ".inst 0x2a1f03ec,0x6b0a017f,0x1a8a316a,0x6b2c214a,0x1a8a33ea,0x8b0a010b,0x5280002a,0xeb09017f,0xa90aa06a,0x9a893169\n"
+    ".inst 0xf9005c69,0x52800068,0x390003ff,0x390023e8,0x390027ea,0x1400001a,0x2a1f03ea,0x34000129,0xf940486b,0xb400004b\n"
+    ".inst 0xf900487f,0x3dc01060,0x5280002b,0xb900847f,0xf900546b,0x3d802c60,0x121f1908,0x3945006b,0x7100091f,0x39450868\n"
+    ".inst 0x1a9f17ec,0x1a9f1529,0x2a0b018b,0x2a080148,0x2a0a0129,0x3905006b,0x39050868,0x52800068,0x390003ff,0x390023e8\n"
+    ".inst 0x390027e9,0xf800a3ff,0xf801a3ff,0xf80123ff,0xf90013ff,0x1400018c,0xf9400109,0xf940110a,0x2a0203ed,0xf9406c8b\n"
+    ".inst 0x3943808c,0x39403529,0x372009a9,0x2a1f03ee,0x14000051,0x90000001,0x91000021,0xaa0103f4,0x140000c7,0xf9402868\n"
+    ".inst 0xf940346a,0xf9401469,0x8b08014b,0xb4000d15,0xeb0b013f,0x54000cc8,0xaa1f03f3,0x52800088,0x17fffe6f,0xf940746a\n"
+    ".inst 0x90000014,0x91000294,0x8b090141,0x140000b8,0xaa0003f3,0x91060060,0xaa1503e1,0xaa0303f6,0x94000000,0xaa1603e3\n"
+    ".inst 0x2a0003e8,0xaa1303e0,0x35ffcba8,0x1400000a,0xaa0003f4,0x91068060,0xaa1303e1,0xaa0303f5,0x94000000,0xaa1503e3\n"
+    ".inst 0x2a0003e8,0xaa1403e0,0x3707cd68,0x6f00e400,0x52808028,0x14000034,0x2a1f03f3,0xb9410c62,0xf9407861,0xaa1403e8\n"
+    ".inst 0xb9410875,0xeb02003f,0x54004283,0xb5000068,0xf9409469,0xb4002d69,0xb9410869,0xb9410c6a,0x6b0a013f,0x1a8a03ea\n"
+    ".inst 0x3940c06b,0x2a1f03e9,0xb9010c6a,0x5100116b,0x7100097f,0x540024c8,0x4b1402aa,0x1ad3254a,0x3500246a,0x3940f06a\n"
+    ".inst 0xb9410869,0x7100055f,0x54002341,0x3940806a,0x3940846b,0x7100055f,0x1a9f016a,0x12001d4a,0x14000115,0xf940208e\n"
+    ".inst 0xf940150f,0xeb0d01ce,0x1a9f37f0,0xeb0e01ff,0x1a9083ee,0xb100056b,0xda9f316b,0xab2c416b,0xda9f316b,0xeb0d016b\n"
+    ".inst 0x1a9f37ec,0xeb0b015f,0x1a8c83ea,0x37100109,0x2a0e0149,0x360000c9,0x52806028,0x790003e8,0x3c8083e0,0x3c8183e0\n"
+    ".inst 0x14000123,0xb7f801d3,0xaa0103e9,0xf9400101,0x3940012b,0xa940a134,0xa900fd3f,0x7100057f,0xf900013f,0x540000c1\n"
+    ".inst 0xeb13011f,0x54002742,0x5280002a,0xf9000928,0xa900512a,0x52808028,0x17ffffed,0xf9403068,0xeb0b0129,0x9a8933e9\n"
+    ".inst 0xcb0a010b,0xeb0b013f,0x9a8b3129,0xeb0902bf,0x9a8932b3,0xb40032f3,0xf940386c,0x8b0a0189,0xeb08013f,0x9a8833ed\n"
+    ".inst 0xcb0d012b,0xeb0b0109,0xeb13013f,0x9a933129,0xeb0b010b,0xf9402c68,0x54000280,0xf100213f,0x540000e3,0x8b0a018e\n"
+    ".inst 0x8b0801ce,0xcb1401ce,0xcb0d01ce,0xf10081df,0x54003982,0xaa1f03ee,0x8b0a01ca,0x8b0c014a,0xcb0d014c,0xcb0901ca\n"
+    ".inst 0x8b0e028d,0x8b0c010c,0x384015ae,0xb100054a,0x3800158e,0x54ffffa3,0xeb0b027f,0x54000229,0xcb09026a,0xf100215f\n"
+    ".inst 0x540000a3,0x8b14012b,0xcb0b010b,0xf100817f,0x54003782,0xaa1f03eb,0x8b09016a,0x8b0b0108,0xcb130149,0x8b0a028a\n"
+    ".inst 0x3840154b,0xb1000529,0x3800150b,0x54ffffa3,0xa958d469,0xf9403468,0x8b130108,0xcb0902aa,0xf9003468,0xeb0a027f\n"
+    ".inst 0x54004828,0xf940c077,0x8b130138,0xa918fc7f,0x8b0902e8,0xcb14010a,0xeb13015f,0x54003002,0xf100227f,0x540000a3\n"
+    ".inst 0x8b170128,0xcb140108,0xf100811f,0x54003462,0xaa1f03e8,0xcb13010a,0x8b08028b,0x8b090108,0x38401569,0xb100054a\n"
+    ".inst 0x38286ae9,0x91000508,0x54ffff83,0x14000178,0xf9407868,0x8b090281,0xcb090108,0xa95ad869,0xeb13011f,0x9a933115\n"
+    ".inst 0xcb0902c8,0xeb0802bf,0x540028e8,0xf940d078,0x8b150137,0xa91afc7f,0x8b090308,0xcb01010a,0xeb15015f,0x54000222\n"
+    ".inst 0xf10022bf,0x540000a3,0x8b180128,0xcb010108,0xf100811f,0x54001722,0xaa1f03e8,0x8b09010a,0xcb0802a9,0x8b080028\n"
+    ".inst 0x8b0a030a,0x3840150b,0xf1000529,0x3800154b,0x54ffffa1,0x14000008,0xaa0003f9,0xaa0803e0,0xaa1503e2,0xaa0303fa\n"
     "bl memmove\n"
-    ".inst 0xaa1a03e3,0xaa1903e0,0xa91a5c78,0xf900d876,0xcb150262,0xcb1702c8,0xeb08005f,0x54002408,0xf940d078,0x8b0202f9\n"
+    ".inst 0xaa1a03e3,0xaa1903e0,0xa91a5c78,0xf900d876,0xcb150262,0xcb1702c8,0xeb08005f,0x54002628,0xf940d078,0x8b0202f9\n"
     ".inst 0xa91afc7f,0x8b170308,0xcb140109,0xeb02013f,0x54000242,0xf100205f,0x540000a3,0x8b1802e8,0xcb140108,0xf100811f\n"
-    ".inst 0x54001262,0xaa1f03e8,0x8b150109,0x8b17010a,0x8b080288,0xcb130129,0x8b0a030a,0x3840150b,0xb1000529,0x3800154b\n"
+    ".inst 0x54001322,0xaa1f03e8,0x8b150109,0x8b17010a,0x8b080288,0xcb130129,0x8b0a030a,0x3840150b,0xb1000529,0x3800154b\n"
     ".inst 0x54ffffa3,0x14000008,0xaa0003f5,0xaa0803e0,0xaa1403e1,0xaa0303f4\n"
     "bl memmove\n"
     ".inst 0xaa1403e3,0xaa1503e0,0xa91a6478,0xf900d876,0x3940c469,0x121f1928,0x7100091f,0x540000e1,0x2a1f03ec,0x2a1f03eb\n"
     ".inst 0xaa1f03e8,0x5280006a,0xd2e0200d,0x14000053,0x3940c06d,0x2a0901a8,0x34000168,0x3940f069,0xf940886c,0x7100053f\n"
     ".inst 0x540001c1,0x39408068,0x3940846a,0x7100051f,0x1a9f0148,0x12001d0e,0x14000009,0x2a1f03ec,0x2a1f03ea,0x2a1f03e9\n"
     ".inst 0x2a1f03eb,0xaa1f03e8,0xd2e0200d,0x1400003f,0x2a1f03ee,0xeb13019f,0xb941086a,0x9a933188,0xeb13019f,0xcb08018b\n"
-    ".inst 0xf900886b,0x54000068,0xf940946f,0xb4001c6f,0xb9410c6f,0x4b0f0150,0xeb10011f,0x5a9035ef,0xb0801ef,0xb9010c6f\n"
+    ".inst 0xf900886b,0x54000068,0xf940946f,0xb4001e8f,0xb9410c6f,0x4b0f0150,0xeb10011f,0x5a9035ef,0xb0801ef,0xb9010c6f\n"
     ".inst 0x510011ad,0x2a1f03ef,0x710009bf,0x540001c8,0x4b0c014c,0x1ace258c,0x3500016c,0x340000c9,0x39408069,0x3940846c\n"
     ".inst 0x7100053f,0x1a9f0189,0x12001d29,0x4b0b014a,0x1ac92549,0x7100013f,0x1a9f07ef,0x3945046c,0xaa1f03ed,0x2a1f03ea\n"
     ".inst 0x2a1f03e9,0x2a1f03eb,0x2a0f018c,0x1200018c,0x3905046c,0x14000014,0x2a1f03ea,0x4b080128,0x1aca2508,0x7100011f\n"
@@ -10975,26 +11022,27 @@ __asm__(
     ".inst 0xaa1f03e8,0x14000004,0x3943806b,0xaa1f03e8,0x1100056b,0x5280002c,0x3947046e,0x2a0b03eb,0x3600006e,0x5280002c\n"
     ".inst 0x14000003,0x7100097f,0x1a8c13ec,0x3907046c,0x5280004c,0x790003ff,0x390023ec,0xf80093ed,0x390047ea,0x39004be9\n"
     ".inst 0xb80133ff,0x39005fff,0xa901a3eb,0x794003e8,0x3cc083e0,0x3cc183e1,0xa9494ff4,0xa94857f6,0x79000008,0x3c808000\n"
-    ".inst 0xa9475ff8,0x3c818001,0xa94667fa,0xa9457bfd,0x910283ff,0xd65f03c0,0xf10082bf,0x540006c2,0xaa1f03e8,0x14000043\n"
-    ".inst 0xf100805f,0x540009c2,0xaa1f03e8,0x1400005b,0x3940c06b,0x2a1f03e9,0xb9010c7f,0x5100116b,0x7100097f,0x54ffd429\n"
-    ".inst 0x17ffffc5,0x927cea6a,0xf2400e7f,0x5280002b,0x9100414a,0xaa0003f7,0x9a8a026c,0xcb01028a,0x8b0c028d,0xeb13015f\n"
-    ".inst 0xcb0c0108,0xa900352b,0xf9000928,0x54001282,0xf100227f,0xaa1f03e8,0x540017c3,0xf100815f,0x54001783,0xf100827f\n"
-    ".inst 0x54001422,0xaa1f03e8,0x140000ad,0x71001d3f,0x540000c1,0x2a1f03e8,0x2a1f03e9,0x5280012a,0x3900c06a,0x1400000a\n"
-    ".inst 0xaa0003f4,0xaa0303e0,0x52800061,0xaa0303f5,0x94000000,0xaa1503e3,0xaa1403e0,0x2a1f03e8,0x2a1f03e9,0x5280002a\n"
-    ".inst 0x17fffc94,0x8b18012c,0x927d06aa,0x927beaa8,0x9100402b,0x9100418c,0x927beaad,0xad7f8560,0xf10081ad,0x9100816b\n"
-    ".inst 0xad3f8580,0x9100818c,0x54ffff61,0xeb0802bf,0x54ffe360,0xb4ffe14a,0xaa0803eb,0x927df2a8,0x8b0b012c,0xcb08016a\n"
-    ".inst 0x8b0b002b,0x8b0c030c,0xfc408560,0xb100214a,0xfc008580,0x54ffffa1,0xeb0802bf,0x54ffe1c0,0x17fffefd,0x8b1802eb\n"
-    ".inst 0x927d0449,0x927be848,0x9100428a,0x9100416b,0x927be84c,0xad7f8540,0xf100818c,0x9100814a,0xad3f8560,0x9100816b\n"
-    ".inst 0x54ffff61,0xeb08005f,0x54ffe480,0xb4ffe249,0xaa0803ea,0x927df048,0x8b0a02eb,0xcb080149,0x8b0a028a,0x8b0b030b\n"
-    ".inst 0xfc408540,0xb1002129,0xfc008560,0x54ffffa1,0xeb08005f,0x54ffe2e0,0x17ffff05,0xa9586077,0xaa0003f9,0xf940c875\n"
-    ".inst 0xaa0303fa,0xa918fc7f,0x8b1802e8,0x14000023,0xaa0003f6,0x91068060,0xaa0103f7,0xaa1503e1,0xaa0303f8,0x94000000\n"
-    ".inst 0x2a0003e8,0xaa1603e0,0xaa1703e1,0xa95adb09,0xaa1803e3,0xaa0903f7,0x35ffd7e8,0x17fffede,0xaa0003f6,0x91068060\n"
-    ".inst 0xcb150261,0xaa0303f7,0x94000000,0xaa1703e3,0x2a0003e8,0xaa1603e0,0x34ffdf48,0xa95ad877,0xcb150262,0x17fffed6\n"
-    ".inst 0xb9010c7f,0x510011ad,0x2a1f03ef,0x710009bf,0x54ffe489,0x17ffff30,0xaa0303fa,0xaa0003f9,0xaa0803e0,0xaa1403e1\n"
-    ".inst 0xaa1303e2\n"
+    ".inst 0xa9475ff8,0x3c818001,0xa94667fa,0xa9457bfd,0x910283ff,0xd65f03c0,0x7100113f,0x54000541,0x2a1f03e8,0x2a1f03e9\n"
+    ".inst 0x528000aa,0x1400002b,0xf10082bf,0x54000822,0xaa1f03e8,0x1400004e,0xf100805f,0x54000b22,0xaa1f03e8,0x14000066\n"
+    ".inst 0x3940c06b,0x2a1f03e9,0xb9010c7f,0x5100116b,0x7100097f,0x54ffd369,0x17ffffbf,0x927cea6a,0xf2400e7f,0x5280002b\n"
+    ".inst 0x9100414a,0xaa0003f7,0x9a8a026c,0xcb01028a,0x8b0c028d,0xeb13015f,0xcb0c0108,0xa900352b,0xf9000928,0x540013e2\n"
+    ".inst 0xf100227f,0xaa1f03e8,0x54001923,0xf100815f,0x540018e3,0xf100827f,0x54001582,0xaa1f03e8,0x140000b8,0x71001d3f\n"
+    ".inst 0x540000e1,0x2a1f03e8,0x2a1f03e9,0x5280012a,0x3900c06a,0x5280002a,0x17fffc8b,0xf9403461,0xaa0003f4,0x52806008\n"
+    ".inst 0x91016060,0xa90b7c7f,0xaa0303f5,0x79006068,0xf900547f,0x94000000,0xf94096a8,0xaa1503e3,0xf9008abf,0xb4000048\n"
+    ".inst 0xf900947f,0x2a1f03e8,0x2a1f03e9,0x7902807f,0x5280002a,0x3905087f,0xaa1403e0,0x17fffc76,0x8b18012c,0x927d06aa\n"
+    ".inst 0x927beaa8,0x9100402b,0x9100418c,0x927beaad,0xad7f8560,0xf10081ad,0x9100816b,0xad3f8580,0x9100818c,0x54ffff61\n"
+    ".inst 0xeb0802bf,0x54ffe140,0xb4ffdf2a,0xaa0803eb,0x927df2a8,0x8b0b012c,0xcb08016a,0x8b0b002b,0x8b0c030c,0xfc408560\n"
+    ".inst 0xb100214a,0xfc008580,0x54ffffa1,0xeb0802bf,0x54ffdfa0,0x17fffeec,0x8b1802eb,0x927d0449,0x927be848,0x9100428a\n"
+    ".inst 0x9100416b,0x927be84c,0xad7f8540,0xf100818c,0x9100814a,0xad3f8560,0x9100816b,0x54ffff61,0xeb08005f,0x54ffe260\n"
+    ".inst 0xb4ffe029,0xaa0803ea,0x927df048,0x8b0a02eb,0xcb080149,0x8b0a028a,0x8b0b030b,0xfc408540,0xb1002129,0xfc008560\n"
+    ".inst 0x54ffffa1,0xeb08005f,0x54ffe0c0,0x17fffef4,0xa9586077,0xaa0003f9,0xf940c875,0xaa0303fa,0xa918fc7f,0x8b1802e8\n"
+    ".inst 0x14000023,0xaa0003f6,0x91068060,0xaa0103f7,0xaa1503e1,0xaa0303f8,0x94000000,0x2a0003e8,0xaa1603e0,0xaa1703e1\n"
+    ".inst 0xa95adb09,0xaa1803e3,0xaa0903f7,0x35ffd5c8,0x17fffecd,0xaa0003f6,0x91068060,0xcb150261,0xaa0303f7,0x94000000\n"
+    ".inst 0xaa1703e3,0x2a0003e8,0xaa1603e0,0x34ffdd28,0xa95ad877,0xcb150262,0x17fffec5,0xb9010c7f,0x510011ad,0x2a1f03ef\n"
+    ".inst 0x710009bf,0x54ffe269,0x17ffff1f,0xaa0303fa,0xaa0003f9,0xaa0803e0,0xaa1403e1,0xaa1303e2\n"
     "bl memmove\n"
-    ".inst 0xaa1903e0,0xaa1a03e3,0xaa1f03e9,0x2a1f03e8,0xa9186077,0xf900c875,0x17fffc59,0xf9407468,0xaa0303f6,0xd10007a3\n"
-    ".inst 0xaa0003f7,0xaa1f03e4,0xaa0803e0,0x94000000,0xf9408ac8,0xaa1603e3,0xaa1703e0,0xb5ffbee8,0x17fffdf4,0xaa1403e0\n"
+    ".inst 0xaa1903e0,0xaa1a03e3,0xaa1f03e9,0x2a1f03e8,0xa9186077,0xf900c875,0x17fffc3b,0xf9407468,0xaa0303f6,0xd10007a3\n"
+    ".inst 0xaa0003f7,0xaa1f03e4,0xaa0803e0,0x94000000,0xf9408ac8,0xaa1603e3,0xaa1703e0,0xb5ffbcc8,0x17fffde3,0xaa1403e0\n"
     ".inst 0xaa1303e2,0xaa0303f8,0xaa0403f9\n"
     "bl memmove\n"
     ".inst 0xaa1903e4,0xaa1803e3,0x1400002d,0xf100813f,0x54000802,0xaa1f03ee,0x1400004f,0xf100815f,0x54000b82,0xaa1f03eb\n"
@@ -11003,43 +11051,43 @@ __asm__(
     ".inst 0x927dee68,0xcb080169,0x8b0b002a,0x8b0b028b,0xfc408540,0xb1002129,0xfc008560,0x54ffffa1,0xeb08027f,0x54000100\n"
     ".inst 0xcb080269,0x8b08002a,0x8b080288,0x3840154b,0xf1000529,0x3800150b,0x54ffffa1,0x38756a88,0xd10083a0,0xaa0403e1\n"
     ".inst 0xaa0303e2,0xaa1403e3,0xaa1303e4,0x4a160108,0x38356a88,0x94000000,0x528000a8,0x385e83a9,0xf85f03aa,0x390023e8\n"
-    ".inst 0x385e03a8,0xaa1703e0,0x790003ff,0xb80093ff,0xb9000fff,0xa90127e8,0xf90013ea,0x17fffefc,0x8b0c014e,0x927d052f\n"
+    ".inst 0x385e03a8,0xaa1703e0,0x790003ff,0xb80093ff,0xb9000fff,0xa90127e8,0xf90013ea,0x17fffeeb,0x8b0c014e,0x927d052f\n"
     ".inst 0x927be932,0xcb0d01d0,0x927be92e,0x8b080211,0x91004290,0x91004231,0xad7f8600,0xf1008252,0x91008210,0xad3f8620\n"
-    ".inst 0x91008231,0x54ffff61,0xeb0e013f,0x54ffc020,0xb4ffbecf,0xaa0e03f1,0x927df12e,0x8b0a022f,0x8b0c01ef,0xcb0d01f0\n"
-    ".inst 0xcb0e022f,0x8b110291,0x8b100110,0xfc408620,0xb10021ef,0xfc008600,0x54ffffa1,0xeb0e013f,0x54ffbe40,0x17fffde7\n"
+    ".inst 0x91008231,0x54ffff61,0xeb0e013f,0x54ffbe00,0xb4ffbcaf,0xaa0e03f1,0x927df12e,0x8b0a022f,0x8b0c01ef,0xcb0d01f0\n"
+    ".inst 0xcb0e022f,0x8b110291,0x8b100110,0xfc408620,0xb10021ef,0xfc008600,0x54ffffa1,0xeb0e013f,0x54ffbc20,0x17fffdd6\n"
     ".inst 0x8b14012e,0x927d054c,0x927be94b,0x9100410d,0x910041ce,0x927be94f,0xad7f85c0,0xf10081ef,0x910081ce,0xad3f85a0\n"
-    ".inst 0x910081ad,0x54ffff61,0xeb0b015f,0x54ffbea0,0xb4ffbd8c,0xaa0b03ed,0x927df14b,0x8b0901ae,0xcb0b01ac,0x8b0d010d\n"
-    ".inst 0x8b0e028e,0xfc4085c0,0xb100218c,0xfc0085a0,0x54ffffa1,0xeb0b015f,0x54ffbd00,0x17fffddf,0x8b17012c,0x927d066a\n"
+    ".inst 0x910081ad,0x54ffff61,0xeb0b015f,0x54ffbc80,0xb4ffbb6c,0xaa0b03ed,0x927df14b,0x8b0901ae,0xcb0b01ac,0x8b0d010d\n"
+    ".inst 0x8b0e028e,0xfc4085c0,0xb100218c,0xfc0085a0,0x54ffffa1,0xeb0b015f,0x54ffbae0,0x17fffdce,0x8b17012c,0x927d066a\n"
     ".inst 0x927bea68,0x9100428b,0x9100418c,0x927bea6d,0xad7f8560,0xf10081ad,0x9100816b,0xad3f8580,0x9100818c,0x54ffff61\n"
-    ".inst 0xeb08027f,0x54ffeba0,0xb4ffbdaa,0xaa0803ec,0x927df268,0xcb08018a,0x8b0c028b,0x8b0c012c,0xfc408560,0xb100214a\n"
-    ".inst 0xfc2c6ae0,0x9100218c,0x54ffff81,0xeb08027f,0x54ffea00,0x17fffde0,0xaa0003f7,0x91060060,0xaa1303e1,0xaa0303f5\n"
-    ".inst 0x94000000,0x340000a0,0xaa1503e3,0xa958d6a9,0xaa1703e0,0x17fffdc8,0xaa1f03e9,0x2a1f03e8,0xaa1703e0,0x17fffb9e\n"
+    ".inst 0xeb08027f,0x54ffeba0,0xb4ffbb8a,0xaa0803ec,0x927df268,0xcb08018a,0x8b0c028b,0x8b0c012c,0xfc408560,0xb100214a\n"
+    ".inst 0xfc2c6ae0,0x9100218c,0x54ffff81,0xeb08027f,0x54ffea00,0x17fffdcf,0xaa0003f7,0x91060060,0xaa1303e1,0xaa0303f5\n"
+    ".inst 0x94000000,0x340000a0,0xaa1503e3,0xa958d6a9,0xaa1703e0,0x17fffdb7,0xaa1f03e9,0x2a1f03e8,0xaa1703e0,0x17fffb80\n"
     ".reloc .Ltcp32+12,R_AARCH64_ADR_PREL_PG_HI21,.Ltcp33+0\n"
     ".reloc .Ltcp32+16,R_AARCH64_ADD_ABS_LO12_NC,.Ltcp33+0\n"
     ".reloc .Ltcp32+92,R_AARCH64_ADR_PREL_PG_HI21,.Ltcp0+464\n"
     ".reloc .Ltcp32+104,R_AARCH64_LDST128_ABS_LO12_NC,.Ltcp0+464\n"
-    ".reloc .Ltcp32+580,R_AARCH64_ADR_PREL_PG_HI21,.Ltcp95+0\n"
-    ".reloc .Ltcp32+584,R_AARCH64_ADD_ABS_LO12_NC,.Ltcp95+0\n"
-    ".reloc .Ltcp32+880,R_AARCH64_CALL26,.Ltcp38+0\n"
-    ".reloc .Ltcp32+1064,R_AARCH64_CALL26,.Ltcp37+0\n"
-    ".reloc .Ltcp32+1576,R_AARCH64_CALL26,.Ltcp48+0\n"
-    ".reloc .Ltcp32+1928,R_AARCH64_ADR_PREL_PG_HI21,.Ltcp95+0\n"
-    ".reloc .Ltcp32+1932,R_AARCH64_ADD_ABS_LO12_NC,.Ltcp95+0\n"
-    ".reloc .Ltcp32+1988,R_AARCH64_ADR_PREL_PG_HI21,.Ltcp95+0\n"
-    ".reloc .Ltcp32+1992,R_AARCH64_ADD_ABS_LO12_NC,.Ltcp95+0\n"
-    ".reloc .Ltcp32+2020,R_AARCH64_CALL26,.Ltcp34+0\n"
-    ".reloc .Ltcp32+2060,R_AARCH64_CALL26,.Ltcp34+0\n"
-    ".reloc .Ltcp32+3716,R_AARCH64_CALL26,.Ltcp37+0\n"
-    ".reloc .Ltcp32+4016,R_AARCH64_CALL26,.Ltcp34+0\n"
-    ".reloc .Ltcp32+4068,R_AARCH64_CALL26,.Ltcp34+0\n"
-    ".reloc .Ltcp32+4200,R_AARCH64_CALL26,.Ltcp36+0\n"
-    ".reloc .Ltcp32+4464,R_AARCH64_CALL26,.Ltcp48+0\n"
-    ".reloc .Ltcp32+4884,R_AARCH64_CALL26,.Ltcp34+0\n"
+    ".reloc .Ltcp32+580,R_AARCH64_ADR_PREL_PG_HI21,.Ltcp96+0\n"
+    ".reloc .Ltcp32+584,R_AARCH64_ADD_ABS_LO12_NC,.Ltcp96+0\n"
+    ".reloc .Ltcp32+892,R_AARCH64_CALL26,.Ltcp39+0\n"
+    ".reloc .Ltcp32+1096,R_AARCH64_CALL26,.Ltcp37+0\n"
+    ".reloc .Ltcp32+1636,R_AARCH64_CALL26,.Ltcp49+0\n"
+    ".reloc .Ltcp32+1980,R_AARCH64_ADR_PREL_PG_HI21,.Ltcp96+0\n"
+    ".reloc .Ltcp32+1984,R_AARCH64_ADD_ABS_LO12_NC,.Ltcp96+0\n"
+    ".reloc .Ltcp32+2040,R_AARCH64_ADR_PREL_PG_HI21,.Ltcp96+0\n"
+    ".reloc .Ltcp32+2044,R_AARCH64_ADD_ABS_LO12_NC,.Ltcp96+0\n"
+    ".reloc .Ltcp32+2072,R_AARCH64_CALL26,.Ltcp34+0\n"
+    ".reloc .Ltcp32+2112,R_AARCH64_CALL26,.Ltcp34+0\n"
+    ".reloc .Ltcp32+3812,R_AARCH64_CALL26,.Ltcp37+0\n"
+    ".reloc .Ltcp32+4136,R_AARCH64_CALL26,.Ltcp34+0\n"
+    ".reloc .Ltcp32+4188,R_AARCH64_CALL26,.Ltcp34+0\n"
+    ".reloc .Ltcp32+4320,R_AARCH64_CALL26,.Ltcp36+0\n"
+    ".reloc .Ltcp32+4584,R_AARCH64_CALL26,.Ltcp49+0\n"
+    ".reloc .Ltcp32+5004,R_AARCH64_CALL26,.Ltcp34+0\n"
     ".section .rodata.tcp.33,\"a\",%progbits\n"
     ".balign 1\n"
     ".Ltcp33:\n"
-    ".quad 0x83aba62565519c00\n"
-    ".long 0x12af4bc6\n"
+    ".quad 0x83aea92565519f00\n"
+    ".long 0x12b24bc9\n"
     ".byte 0x32\n"
     ".section .text.tcp.34,\"ax\",%progbits\n"
     ".balign 4\n"
@@ -11090,18 +11138,51 @@ __asm__(
     ".section .text.tcp.37,\"ax\",%progbits\n"
     ".balign 4\n"
     ".Ltcp37:\n"
-    ".type \"tcp_conn::endpoint::Endpoint::end_by::<#4d7786d65df9050b>\",%function\n"
-    ".size \"tcp_conn::endpoint::Endpoint::end_by::<#4d7786d65df9050b>\",220\n"
-    "\"tcp_conn::endpoint::Endpoint::end_by::<#4d7786d65df9050b>\":\n"
-    ".inst 0xf9403408,0x3900c01f,0x3900c401,0xa90b7c1f,0xf900541f,0xb4000108,0xf9403809,0xf940300a,0x8b080129,0xeb0a013f\n"
-    ".inst 0x9a8a33ea,0xcb0a0129,0xa906a41f,0xa948b40a,0xaa1f03eb,0xf9404c09,0xa9097c1f,0xb40003ad,0xe040d00,0x9100214c\n"
-    ".inst 0xfc6b7941,0xb85fc18e,0x2ea02c21,0x6b0801df,0x9100056e,0xfc2b7941,0x540000e9,0xeb0e01bf,0x9100218c,0xaa0e03eb\n"
-    ".inst 0x54fffec1,0xaa0d03eb,0x1400000e,0xeb0d01df,0x54000182,0xaa2b03ee,0x8b0d01cd,0xfd400181,0xb940058e,0x2ea02c21\n"
-    ".inst 0x6b0801df,0xfc008581,0xfc2b7941,0x9a8b956b,0xf10005ad,0x54ffff01,0xf9409408,0xa908ac0a,0xf9004c09,0xf900881f\n"
-    ".inst 0xb4000048,0xf900941f,0x7902801f,0x3905081f,0xd65f03c0\n"
+    ".type \"tcp_sendq::queue::SendQueue::release::<#4d7786d65df9050b>\",%function\n"
+    ".size \"tcp_sendq::queue::SendQueue::release::<#4d7786d65df9050b>\",408\n"
+    "\"tcp_sendq::queue::SendQueue::release::<#4d7786d65df9050b>\":\n"
+    ".inst 0xf9400809,0xcb010128,0xeb09011f,0x54000102,0xf9400c09,0xf940040a,0x8b010129,0xeb0a013f,0x9a8a33ea,0xcb0a0129\n"
+    ".inst 0xa9012408,0xa9be7bfd,0xb9402c08,0xa9014ff4,0x910003fd,0xb010113,0x52b00008,0x6b08027f,0x54000349,0xaa0003e9\n"
+    ".inst 0xaa1f03ed,0xf8438d2f,0xaa0903e8,0xaa0903eb,0xf85f8d0a,0xf8408d6c,0xf900013f,0xf900017f,0xb40005af,0xe040e60\n"
+    ".inst 0x9100214e,0xfc6d7941,0xb85fc1d0,0x2ea02c21,0x6b13021f,0x910005b0,0xfc2d7941,0x540002e9,0xeb1001ff,0x910021ce\n"
+    ".inst 0xaa1003ed,0x54fffec1,0xaa0f03ed,0x1400001e,0xf9401c09,0xb40000c9,0xf8430008,0xf100053f,0x54000401,0xaa1f03ea\n"
+    ".inst 0x14000028,0xaa0003e8,0xaa1f03ed,0xf8430d0a,0xaa0803e9,0xaa0803eb,0xf8008d3f,0xf8410d6c,0xf900017f,0x1400000e\n"
+    ".inst 0xeb0f021f,0x54000182,0xaa2d03f0,0x8b0f020f,0xfd4001c1,0xb94005d0,0x2ea02c21,0x6b13021f,0xfc0085c1,0xfc2d7941\n"
+    ".inst 0x9a8d95ad,0xf10005ef,0x54ffff01,0xf900010a,0xf900012d,0xf900016c,0xb9002c1f,0xa9414ff4,0xa8c27bfd,0xd65f03c0\n"
+    ".inst 0xaa1f03ea,0xd341fd2b,0x8b0a016c,0xcb0b0129,0x8b0c0d0d,0xb94005ad,0x6b1301bf,0x9a8c814a,0xf100053f,0x54ffff08\n"
+    ".inst 0x8b0a0d08,0xaa0003f4,0x9100c000,0xaa1f03e1,0xb9400508,0x6b13011f,0x9a8a8542,0x94000000,0xb9002e93,0xa9414ff4\n"
+    ".inst 0xa8c27bfd,0xd65f03c0\n"
+    ".reloc .Ltcp37+388,R_AARCH64_CALL26,.Ltcp38+0\n"
     ".section .text.tcp.38,\"ax\",%progbits\n"
     ".balign 4\n"
     ".Ltcp38:\n"
+    ".type \"tcp_sendq::marks::Marks::remove_range::<#4d7786d65df9050b>\",%function\n"
+    ".size \"tcp_sendq::marks::Marks::remove_range::<#4d7786d65df9050b>\",812\n"
+    "\"tcp_sendq::marks::Marks::remove_range::<#4d7786d65df9050b>\":\n"
+    ".inst 0xeb010048,0x54000041,0xd65f03c0,0xaa0003ec,0xf100051f,0xf8408d8b,0x540005c1,0xf9400008,0xf9400809,0xd37df02d\n"
+    ".inst 0xd100056a,0xb100043f,0xa9007d9f,0xcb01014c,0x54000c40,0xf104059f,0x54000f03,0x8b0d010f,0xcb01016c,0xaa1f03ee\n"
+    ".inst 0x912001f0,0xd1040592,0x910041f1,0x14000009,0x91040021,0x910005ce,0xd10401b2,0xcb01014c,0x91200231,0x912001ef\n"
+    ".inst 0xf104019f,0x54000cc9,0xb100043f,0xaa1203ed,0x54000140,0x5280200c,0xaa1103f2,0x3cdf8240,0x3cc08241,0xf100118c\n"
+    ".inst 0xad3f8640,0x91008252,0x54ffff61,0x17ffffed,0xd375d1cc,0x5280ff12,0xf86c6a0c,0xf83269ec,0xd1002252,0xb100225f\n"
+    ".inst 0x54ffffa1,0x17ffffe5,0xf9400009,0xeb01004d,0xcb080168,0xcb02016a,0x54000442,0xb4000bea,0xf100115f,0x540002a3\n"
+    ".inst 0xf27ee9bf,0x54000260,0xcb020d2d,0x8b01016e,0x8b0b0d2f,0x927ef54b,0x927ef550,0x8b0e0dae,0x9240054d,0xd10041ef\n"
+    ".inst 0xd10041ce,0xad7f81e1,0xd1001210,0xd10081ef,0xad3f81c1,0xd10081ce,0xb5ffff70,0xeb0b015f,0xaa0d03ea,0x54000920\n"
+    ".inst 0x8b010d2b,0x8b020d2d,0xd1002169,0xd10021ab,0xaa0a03ed,0xf86a796e,0xf100054a,0xf82d792e,0x54ffff81,0x1400003f\n"
+    ".inst 0xeb02017f,0x540007a0,0xf100115f,0x54000623,0xcb02002d,0xf27ee9bf,0x540005c0,0x8b010d2e,0x8b020d2f,0x927ef54d\n"
+    ".inst 0x927ef550,0x910041ce,0x910041ef,0xad7f85e0,0xf1001210,0x910081ef,0xad3f85c0,0x910081ce,0x54ffff61,0xeb0d015f\n"
+    ".inst 0x54000421,0x14000029,0xb4000b0b,0xd37df16e,0xf100119f,0x54000903,0xcb010fef,0xf10081ff,0xaa1f03ef,0x540008a3\n"
+    ".inst 0xd100a1d0,0x927ef58f,0x927ef591,0xcb0d020d,0x8b100110,0x8b0d010d,0xacff01a1,0xd1001231,0xacbf0201,0xb5ffffb1\n"
+    ".inst 0xeb0f019f,0x54000721,0x14000044,0xb100043f,0x540005a0,0xd37df02d,0xeb01015f,0x540007e0,0xf100119f,0x54000242\n"
+    ".inst 0xaa1f03eb,0x1400001c,0xaa1f03ed,0x8b0201ae,0x8b0101aa,0x8b0a0d2a,0x8b0e0d29,0xcb0b01cb,0xf840852d,0xb100056b\n"
+    ".inst 0xf800854d,0x54ffffa3,0xf9400189,0xeb08013f,0x54ffed09,0xf9000188,0xd65f03c0,0x8b0801ae,0x927e198b,0x927e198f\n"
+    ".inst 0x910041ce,0x3cdf81c0,0x3cc081c1,0xf10011ef,0xad3f85c0,0x910081ce,0x54ffff61,0xeb0b019f,0x54000400,0x8b0b0dad\n"
+    ".inst 0xcb0b018b,0x8b0801ad,0x910021ac,0xf940018d,0xf100056b,0xf81f818d,0x9100218c,0x54ffff81,0x14000016,0xb40002ab\n"
+    ".inst 0x8b0b0d0c,0xf85f818b,0xd100418c,0xf10005ad,0xf81f858b,0x54ffffc1,0x1400000e,0xaa1f03ef,0x8b0101ec,0xd10041cd\n"
+    ".inst 0xcb0c0dae,0xcb0f0dad,0xcb0b018b,0x9100056b,0x8b0e010c,0x8b0d010d,0xf85f858e,0xb100056b,0xf81f85ae,0x54ffffa3\n"
+    ".inst 0xa9002808,0xf9000809,0xd65f03c0\n"
+    ".section .text.tcp.39,\"ax\",%progbits\n"
+    ".balign 4\n"
+    ".Ltcp39:\n"
     ".type \"tcp_replay::party::Party::emit::<#244039bd4e0652a3>\",%function\n"
     ".size \"tcp_replay::party::Party::emit::<#244039bd4e0652a3>\",3572\n"
     "\"tcp_replay::party::Party::emit::<#244039bd4e0652a3>\":\n"
@@ -11199,35 +11280,35 @@ __asm__(
     ".inst 0xb9403688,0xb940029c,0xd100a3a0,0xd10303a1,0x9103c3e4,0x52800062,0xaa1f03e3,0xb9000fe8,0x94000000,0xaa0003fb\n"
     ".inst 0xb9400fe1,0xf9400fe5,0x9103c3e2,0x2a1c03e0,0xaa1b03e3,0xaa1a03e4,0xaa1703e6,0xaa1803e7,0x94000000,0x5ac00808\n"
     ".inst 0xf9400fea,0xaa1703eb,0x53107d08,0x790203e8,0x17fffcd1\n"
-    ".reloc .Ltcp38+136,R_AARCH64_CALL26,.Ltcp39+0\n"
-    ".reloc .Ltcp38+256,R_AARCH64_CALL26,.Ltcp41+0\n"
-    ".reloc .Ltcp38+280,R_AARCH64_CALL26,.Ltcp43+0\n"
-    ".reloc .Ltcp38+288,R_AARCH64_ADR_PREL_PG_HI21,.Ltcp95+0\n"
-    ".reloc .Ltcp38+292,R_AARCH64_ADD_ABS_LO12_NC,.Ltcp95+0\n"
-    ".reloc .Ltcp38+744,R_AARCH64_CALL26,.Ltcp46+0\n"
-    ".reloc .Ltcp38+920,R_AARCH64_CALL26,.Ltcp45+0\n"
-    ".reloc .Ltcp38+1044,R_AARCH64_CALL26,.Ltcp40+0\n"
-    ".reloc .Ltcp38+1564,R_AARCH64_CALL26,.Ltcp34+0\n"
-    ".reloc .Ltcp38+1908,R_AARCH64_ADR_PREL_PG_HI21,.Ltcp95+0\n"
-    ".reloc .Ltcp38+1912,R_AARCH64_ADD_ABS_LO12_NC,.Ltcp95+0\n"
-    ".reloc .Ltcp38+2024,R_AARCH64_CALL26,.Ltcp34+0\n"
-    ".reloc .Ltcp38+2320,R_AARCH64_CALL26,.Ltcp46+0\n"
-    ".reloc .Ltcp38+2804,R_AARCH64_ADR_PREL_PG_HI21,.Ltcp95+0\n"
-    ".reloc .Ltcp38+2808,R_AARCH64_ADD_ABS_LO12_NC,.Ltcp95+0\n"
-    ".reloc .Ltcp38+2824,R_AARCH64_ADR_PREL_PG_HI21,.Ltcp95+0\n"
-    ".reloc .Ltcp38+2828,R_AARCH64_ADD_ABS_LO12_NC,.Ltcp95+0\n"
-    ".reloc .Ltcp38+2928,R_AARCH64_CALL26,.Ltcp47+0\n"
-    ".reloc .Ltcp38+3264,R_AARCH64_ADR_PREL_PG_HI21,.Ltcp95+0\n"
-    ".reloc .Ltcp38+3268,R_AARCH64_ADD_ABS_LO12_NC,.Ltcp95+0\n"
-    ".reloc .Ltcp38+3424,R_AARCH64_ADR_PREL_PG_HI21,.Ltcp95+0\n"
-    ".reloc .Ltcp38+3428,R_AARCH64_ADD_ABS_LO12_NC,.Ltcp95+0\n"
-    ".reloc .Ltcp38+3456,R_AARCH64_ADR_PREL_PG_HI21,.Ltcp95+0\n"
-    ".reloc .Ltcp38+3460,R_AARCH64_ADD_ABS_LO12_NC,.Ltcp95+0\n"
-    ".reloc .Ltcp38+3504,R_AARCH64_CALL26,.Ltcp42+0\n"
-    ".reloc .Ltcp38+3544,R_AARCH64_CALL26,.Ltcp47+0\n"
-    ".section .text.tcp.39,\"ax\",%progbits\n"
+    ".reloc .Ltcp39+136,R_AARCH64_CALL26,.Ltcp40+0\n"
+    ".reloc .Ltcp39+256,R_AARCH64_CALL26,.Ltcp42+0\n"
+    ".reloc .Ltcp39+280,R_AARCH64_CALL26,.Ltcp44+0\n"
+    ".reloc .Ltcp39+288,R_AARCH64_ADR_PREL_PG_HI21,.Ltcp96+0\n"
+    ".reloc .Ltcp39+292,R_AARCH64_ADD_ABS_LO12_NC,.Ltcp96+0\n"
+    ".reloc .Ltcp39+744,R_AARCH64_CALL26,.Ltcp47+0\n"
+    ".reloc .Ltcp39+920,R_AARCH64_CALL26,.Ltcp46+0\n"
+    ".reloc .Ltcp39+1044,R_AARCH64_CALL26,.Ltcp41+0\n"
+    ".reloc .Ltcp39+1564,R_AARCH64_CALL26,.Ltcp34+0\n"
+    ".reloc .Ltcp39+1908,R_AARCH64_ADR_PREL_PG_HI21,.Ltcp96+0\n"
+    ".reloc .Ltcp39+1912,R_AARCH64_ADD_ABS_LO12_NC,.Ltcp96+0\n"
+    ".reloc .Ltcp39+2024,R_AARCH64_CALL26,.Ltcp34+0\n"
+    ".reloc .Ltcp39+2320,R_AARCH64_CALL26,.Ltcp47+0\n"
+    ".reloc .Ltcp39+2804,R_AARCH64_ADR_PREL_PG_HI21,.Ltcp96+0\n"
+    ".reloc .Ltcp39+2808,R_AARCH64_ADD_ABS_LO12_NC,.Ltcp96+0\n"
+    ".reloc .Ltcp39+2824,R_AARCH64_ADR_PREL_PG_HI21,.Ltcp96+0\n"
+    ".reloc .Ltcp39+2828,R_AARCH64_ADD_ABS_LO12_NC,.Ltcp96+0\n"
+    ".reloc .Ltcp39+2928,R_AARCH64_CALL26,.Ltcp48+0\n"
+    ".reloc .Ltcp39+3264,R_AARCH64_ADR_PREL_PG_HI21,.Ltcp96+0\n"
+    ".reloc .Ltcp39+3268,R_AARCH64_ADD_ABS_LO12_NC,.Ltcp96+0\n"
+    ".reloc .Ltcp39+3424,R_AARCH64_ADR_PREL_PG_HI21,.Ltcp96+0\n"
+    ".reloc .Ltcp39+3428,R_AARCH64_ADD_ABS_LO12_NC,.Ltcp96+0\n"
+    ".reloc .Ltcp39+3456,R_AARCH64_ADR_PREL_PG_HI21,.Ltcp96+0\n"
+    ".reloc .Ltcp39+3460,R_AARCH64_ADD_ABS_LO12_NC,.Ltcp96+0\n"
+    ".reloc .Ltcp39+3504,R_AARCH64_CALL26,.Ltcp43+0\n"
+    ".reloc .Ltcp39+3544,R_AARCH64_CALL26,.Ltcp48+0\n"
+    ".section .text.tcp.40,\"ax\",%progbits\n"
     ".balign 4\n"
-    ".Ltcp39:\n"
+    ".Ltcp40:\n"
     ".type \"tcp_replay::growth::emit_alone::<#b999dbadf68999a9>\",%function\n"
     ".size \"tcp_replay::growth::emit_alone::<#b999dbadf68999a9>\",816\n"
     "\"tcp_replay::growth::emit_alone::<#b999dbadf68999a9>\":\n"
@@ -11255,11 +11336,11 @@ __asm__(
     "bl memcpy\n"
     ".inst 0x52800028,0x790002df,0xf90006c8,0x29027ed5,0xa901ced4,0xa902ded3,0x911843ff,0xa9434ff4,0xa94257f6,0xa9415ffc\n"
     ".inst 0xa8c47bfd,0xd65f03c0\n"
-    ".reloc .Ltcp39+376,R_AARCH64_CALL26,.Ltcp45+0\n"
-    ".reloc .Ltcp39+452,R_AARCH64_CALL26,.Ltcp40+0\n"
-    ".section .text.tcp.40,\"ax\",%progbits\n"
+    ".reloc .Ltcp40+376,R_AARCH64_CALL26,.Ltcp46+0\n"
+    ".reloc .Ltcp40+452,R_AARCH64_CALL26,.Ltcp41+0\n"
+    ".section .text.tcp.41,\"ax\",%progbits\n"
     ".balign 4\n"
-    ".Ltcp40:\n"
+    ".Ltcp41:\n"
     ".type \"std_alloc::vec::Vec::grow_amortized::<#d48bdf10996749c1>\",%function\n"
     ".size \"std_alloc::vec::Vec::grow_amortized::<#d48bdf10996749c1>\",428\n"
     "\"std_alloc::vec::Vec::grow_amortized::<#d48bdf10996749c1>\":\n"
@@ -11276,9 +11357,9 @@ __asm__(
     ".inst 0xf900090a,0x17ffffd7,0xaa0003f6,0xaa1303e0\n"
     "bl memmove\n"
     ".inst 0xaa1603e0,0x17ffffd2\n"
-    ".section .text.tcp.41,\"ax\",%progbits\n"
+    ".section .text.tcp.42,\"ax\",%progbits\n"
     ".balign 4\n"
-    ".Ltcp41:\n"
+    ".Ltcp42:\n"
     ".type \"tcp_conn::endpoint::Endpoint::write_reset::<#4d7786d65df9050b>\",%function\n"
     ".size \"tcp_conn::endpoint::Endpoint::write_reset::<#4d7786d65df9050b>\",220\n"
     "\"tcp_conn::endpoint::Endpoint::write_reset::<#4d7786d65df9050b>\":\n"
@@ -11288,9 +11369,9 @@ __asm__(
     ".inst 0x33187c08,0x52800280,0xb494108,0x53087d69,0x6e703800,0xb4b6108,0x12181d29,0xb090108,0xb4a4108,0x1e260009\n"
     ".inst 0xb090108,0x52900029,0x11404108,0x72b00009,0x11006508,0x9ba97d09,0xd36ffd29,0x4b094129,0x2b090108,0x2a2803e8\n"
     ".inst 0x5ac00908,0x53107d08,0x1a8803e8,0x79002068,0xd65f03c0\n"
-    ".section .text.tcp.42,\"ax\",%progbits\n"
+    ".section .text.tcp.43,\"ax\",%progbits\n"
     ".balign 4\n"
-    ".Ltcp42:\n"
+    ".Ltcp43:\n"
     ".type \"tcp_wire::encoding::write_unsummed\",%function\n"
     ".size \"tcp_wire::encoding::write_unsummed\",908\n"
     "\"tcp_wire::encoding::write_unsummed\":\n"
@@ -11319,9 +11400,9 @@ __asm__(
     ".inst 0x79000669,0xb94006a9,0x5ac00929,0xb9000669,0xb9400aa9,0x5ac00929,0xb9000a69,0x394032a9,0xb0a0129,0x39003269\n"
     ".inst 0x394036a9,0x39003669,0x79401ea9,0x7900227f,0x5ac00929,0x53107d29,0x79001e69,0x794022a9,0xa94557f6,0x5ac00929\n"
     ".inst 0x53107d29,0x79002669,0xa9464ff4,0x9101c3ff,0xd65f03c0\n"
-    ".section .text.tcp.43,\"ax\",%progbits\n"
+    ".section .text.tcp.44,\"ax\",%progbits\n"
     ".balign 4\n"
-    ".Ltcp43:\n"
+    ".Ltcp44:\n"
     ".type \"tcp_conn::endpoint::Endpoint::write_syn::<#4d7786d65df9050b>\",%function\n"
     ".size \"tcp_conn::endpoint::Endpoint::write_syn::<#4d7786d65df9050b>\",920\n"
     "\"tcp_conn::endpoint::Endpoint::write_syn::<#4d7786d65df9050b>\":\n"
@@ -11350,11 +11431,11 @@ __asm__(
     ".inst 0x5ac00aaa,0xb090108,0x2a172309,0xb4a4108,0x4b090108,0x52900029,0x11404108,0x72b00009,0x11001508,0xb000108\n"
     ".inst 0xaa1403e0,0x9ba97d09,0xd36ffd29,0x4b094129,0x2b090108,0x2a2803e8,0x5ac00908,0x53107d08,0x1a8803e8,0x79002268\n"
     ".inst 0x9109c3ff,0xa9444ff4,0xf9400bfc,0xa94357f6,0xa9425ff8,0xa8c57bfd,0xd65f03c0\n"
-    ".reloc .Ltcp43+480,R_AARCH64_CALL26,.Ltcp42+0\n"
-    ".reloc .Ltcp43+684,R_AARCH64_CALL26,.Ltcp9+0\n"
-    ".section .text.tcp.44,\"ax\",%progbits\n"
+    ".reloc .Ltcp44+480,R_AARCH64_CALL26,.Ltcp43+0\n"
+    ".reloc .Ltcp44+684,R_AARCH64_CALL26,.Ltcp9+0\n"
+    ".section .text.tcp.45,\"ax\",%progbits\n"
     ".balign 4\n"
-    ".Ltcp44:\n"
+    ".Ltcp45:\n"
     ".type \"tcp_sendq::ring::copy_over_end\",%function\n"
     ".size \"tcp_sendq::ring::copy_over_end\",588\n"
     "\"tcp_sendq::ring::copy_over_end\":\n"
@@ -11376,9 +11457,9 @@ __asm__(
     ".inst 0x927beb08,0x9100416a,0x9100418b,0x927beb0c,0xad7f8560,0xf100818c,0x9100816b,0xad3f8540,0x9100814a,0x54ffff61\n"
     ".inst 0xeb08031f,0x54fff7e0,0xb4fff689,0xaa0803e9,0x927df308,0x8b16012a,0x8b17012b,0xcb080129,0xcb1a014a,0x8b0b026b\n"
     ".inst 0x8b0a02aa,0xfc408540,0xb1002129,0xfc008560,0x54ffffa1,0xeb08031f,0x54fff600,0x17ffffa5\n"
-    ".section .text.tcp.45,\"ax\",%progbits\n"
+    ".section .text.tcp.46,\"ax\",%progbits\n"
     ".balign 4\n"
-    ".Ltcp45:\n"
+    ".Ltcp46:\n"
     ".type \"tcp_conn::endpoint::Endpoint::write_blocks::<#4d7786d65df9050b>\",%function\n"
     ".size \"tcp_conn::endpoint::Endpoint::write_blocks::<#4d7786d65df9050b>\",1688\n"
     "\"tcp_conn::endpoint::Endpoint::write_blocks::<#4d7786d65df9050b>\":\n"
@@ -11426,32 +11507,33 @@ __asm__(
     ".inst 0x910041ef,0x910041ce,0x927be8b0,0xad7f85c0,0xf1008210,0x910081ce,0xad3f85e0,0x910081ef,0x54ffff61,0xeb0900bf\n"
     ".inst 0x54ffeda0,0xb4ffea8a,0xeb0d017f,0xaa0903ea,0x8b0b012e,0x9a8d316f,0x927df0a9,0xcb0f01ce,0x8b0a018f,0xcb09014a\n"
     ".inst 0x8b0e010e,0x8b0f026f,0xfc4085c0,0xb100214a,0xfc0085e0,0x54ffffa1,0xeb0900bf,0x54ffeb80,0x17ffff43\n"
-    ".reloc .Ltcp45+1044,R_AARCH64_CALL26,.Ltcp42+0\n"
-    ".reloc .Ltcp45+1248,R_AARCH64_CALL26,.Ltcp9+0\n"
-    ".reloc .Ltcp45+1528,R_AARCH64_CALL26,.Ltcp44+0\n"
-    ".section .text.tcp.46,\"ax\",%progbits\n"
-    ".balign 4\n"
-    ".Ltcp46:\n"
-    ".type \"tcp_halves::sender::Sender::due::<#4d7786d65df9050b>\",%function\n"
-    ".size \"tcp_halves::sender::Sender::due::<#4d7786d65df9050b>\",524\n"
-    "\"tcp_halves::sender::Sender::due::<#4d7786d65df9050b>\":\n"
-    ".inst 0x3941a028,0xf9400029,0x36000588,0xf9403828,0xf940082a,0xa944b42c,0xeb08013f,0x9a88812e,0x91000548,0xeb0801ca\n"
-    ".inst 0xaa0d03ef,0x9a8a33ea,0xb400026d,0xf10005bf,0xaa1f03eb,0x54000180,0xaa1f03eb,0xaa0d03ef,0xd341fdf0,0x8b0b0211\n"
-    ".inst 0xcb1001ef,0x8b110d92,0xb9400652,0xeb12015f,0x9a91316b,0xf10005ff,0x54ffff08,0x8b0b0d8f,0xb94005ef,0xeb0f015f\n"
-    ".inst 0x9a8b356f,0xf940142b,0xeb0d01ff,0x540000c2,0x8b0f0d8f,0xb94001f0,0xeb10015f,0x54000043,0xb94005ea,0xeb0a017f\n"
-    ".inst 0x54000529,0xb400066d,0xf10005bf,0x540006c1,0xaa1f03ee,0x1400003f,0xf9400828,0xf940142b,0x91000508,0xb940802c\n"
-    ".inst 0xf940042a,0x92403c4d,0x8b0c0129,0x2a0303ec,0xeb0a0129,0x9a8933e9,0x9a8c8129,0xeb08014c,0x9a8c33ec,0xeb0c016c\n"
-    ".inst 0x9a8c33ec,0xeb0c013f,0x9a8c3129,0xeb0d013f,0x9a8d3129,0xb40000c9,0x52800028,0xa901240a,0x4e080d00,0x3d800000\n"
-    ".inst 0xd65f03c0,0x8b0b0108,0x52800049,0xeb08015f,0x1a9f17e8,0x6a080088,0x9a9f1129,0xa9002408,0x9a9f1148,0xa9017c08\n"
-    ".inst 0xd65f03c0,0x8b08016c,0xeb0c01df,0x54fffbc8,0xf9403c2a,0xeb0a019f,0x54fffb62,0x52800068,0x5280002a,0xa9017c0c\n"
-    ".inst 0xa900200a,0xd65f03c0,0xaa0d03ee,0xeb0d01bf,0xaa0b03ed,0x54000283,0x14000015,0xaa1f03ee,0xaa0d03ef,0xd341fdf0\n"
-    ".inst 0x8b0e0211,0xcb1001ef,0xd37df232,0xb8726992,0xeb12015f,0x9a9131ce,0xf10005ff,0x54ffff08,0xd37df1cf,0xb86f698f\n"
-    ".inst 0xeb0f015f,0x9a8e35ce,0xeb0d01df,0xaa0b03ed,0x54000062,0xd37df1cd,0xb86d698d,0xf9403c2e,0x8b08014c,0xeb0c01ce\n"
-    ".inst 0x54fff729,0xcb0a01a9,0x92403c4a,0xeb0901df,0x9a8931c9,0xeb0a013f,0x9a8a3129,0x5280002a,0xa901240c,0xa9007c0a\n"
-    ".inst 0xd65f03c0\n"
+    ".reloc .Ltcp46+1044,R_AARCH64_CALL26,.Ltcp43+0\n"
+    ".reloc .Ltcp46+1248,R_AARCH64_CALL26,.Ltcp9+0\n"
+    ".reloc .Ltcp46+1528,R_AARCH64_CALL26,.Ltcp45+0\n"
     ".section .text.tcp.47,\"ax\",%progbits\n"
     ".balign 4\n"
     ".Ltcp47:\n"
+    ".type \"tcp_halves::sender::Sender::due::<#4d7786d65df9050b>\",%function\n"
+    ".size \"tcp_halves::sender::Sender::due::<#4d7786d65df9050b>\",572\n"
+    "\"tcp_halves::sender::Sender::due::<#4d7786d65df9050b>\":\n"
+    ".inst 0x3941a028,0xf940002a,0x36000288,0xf9403828,0xf9400829,0xeb08015f,0x9a88814f,0x91000528,0xf9401429,0xeb0801eb\n"
+    ".inst 0x9a8b33ec,0xeb0c013f,0x54000969,0xa944b42e,0xb940442b,0x8b0b018c,0xaa0d03f0,0xb40006ed,0xf10005bf,0x540004c1\n"
+    ".inst 0xaa1f03f0,0x1400002f,0xf9400828,0xf9401429,0x91000508,0xb940802c,0xf940042b,0x92403c4d,0x8b0c014a,0x2a0303ec\n"
+    ".inst 0xeb0b014a,0x9a8a33ea,0x9a8c814a,0xeb08016c,0x9a8c33ec,0xeb0c012c,0x9a8c33ec,0xeb0c015f,0x9a8c314a,0xeb0d015f\n"
+    ".inst 0x9a8d314a,0xb40000ca,0x52800028,0xa901280b,0x4e080d00,0x3d800000,0xd65f03c0,0x8b090108,0x52800049,0xeb08017f\n"
+    ".inst 0x1a9f17e8,0x6a080088,0x9a9f1129,0xa9002408,0x9a9f1168,0xa9017c08,0xd65f03c0,0xaa1f03f0,0xaa0d03f1,0xd341fe32\n"
+    ".inst 0x8b100245,0xcb120231,0x8b050dc6,0xb94004c6,0xeb06019f,0x9a853210,0xf100063f,0x54ffff08,0x8b100dd1,0xb9400631\n"
+    ".inst 0xeb11019f,0x9a903610,0xeb0d021f,0x540000c2,0x8b100dd0,0xb9400211,0xeb11019f,0x54000043,0xb940060c,0xcb0b0190\n"
+    ".inst 0xeb10013f,0x540000c9,0xb400020d,0xf10005bf,0x540002e1,0xaa1f03ef,0x14000020,0x8b08012e,0xeb0e01ff,0x54fff808\n"
+    ".inst 0xf9403c2b,0xeb0b01df,0x54fff7a2,0x52800068,0x5280002a,0xa9017c0e,0xa900200a,0xd65f03c0,0xaa0d03ef,0xeb0d01bf\n"
+    ".inst 0x54000303,0xaa1f03f1,0xf9403c32,0x8b08020e,0xeb0e0250,0x54fff609,0x14000018,0xaa1f03ef,0xaa0d03f1,0xd341fe32\n"
+    ".inst 0x8b0f0245,0xcb120231,0xd37df0a6,0xb86669c6,0xeb06019f,0x9a8531ef,0xf100063f,0x54ffff08,0xd37df1f1,0xb87169d1\n"
+    ".inst 0xeb11019f,0x9a8f35ef,0xeb0d01ff,0x54fffd42,0xd37df1f1,0xb87169d1,0xf9403c32,0x8b08020e,0xeb0e0250,0x54fff309\n"
+    ".inst 0x8b0b0129,0xeb0d01ff,0x92403c4a,0x9a893229,0xcb0c0129,0xeb09021f,0x9a893209,0xeb0a013f,0x9a8a3129,0x5280002a\n"
+    ".inst 0xa901240e,0xa9007c0a,0xd65f03c0\n"
+    ".section .text.tcp.48,\"ax\",%progbits\n"
+    ".balign 4\n"
+    ".Ltcp48:\n"
     ".type \"tcp_numbers::parts::checksum_in_parts\",%function\n"
     ".size \"tcp_numbers::parts::checksum_in_parts\",1572\n"
     "\"tcp_numbers::parts::checksum_in_parts\":\n"
@@ -11495,14 +11577,14 @@ __asm__(
     ".inst 0x33187ee9,0xb566129,0xb4a4129,0xb15028a,0xb13014a,0xa9454ff4,0xb0b0129,0xb18014a,0xb4c4129,0xb080148\n"
     ".inst 0xa94457f6,0xb080128,0x52900029,0x11001908,0x72b00009,0x9ba97d09,0xa9435ff8,0xd36ffd29,0x4b094129,0x2b090108\n"
     ".inst 0x5a8803e0,0xa8c67bfd,0xd65f03c0\n"
-    ".reloc .Ltcp47+232,R_AARCH64_CALL26,.Ltcp9+0\n"
-    ".reloc .Ltcp47+692,R_AARCH64_CALL26,.Ltcp9+0\n"
-    ".reloc .Ltcp47+712,R_AARCH64_CALL26,.Ltcp9+0\n"
-    ".reloc .Ltcp47+980,R_AARCH64_CALL26,.Ltcp9+0\n"
-    ".reloc .Ltcp47+1348,R_AARCH64_CALL26,.Ltcp9+0\n"
-    ".section .text.tcp.48,\"ax\",%progbits\n"
+    ".reloc .Ltcp48+232,R_AARCH64_CALL26,.Ltcp9+0\n"
+    ".reloc .Ltcp48+692,R_AARCH64_CALL26,.Ltcp9+0\n"
+    ".reloc .Ltcp48+712,R_AARCH64_CALL26,.Ltcp9+0\n"
+    ".reloc .Ltcp48+980,R_AARCH64_CALL26,.Ltcp9+0\n"
+    ".reloc .Ltcp48+1348,R_AARCH64_CALL26,.Ltcp9+0\n"
+    ".section .text.tcp.49,\"ax\",%progbits\n"
     ".balign 4\n"
-    ".Ltcp48:\n"
+    ".Ltcp49:\n"
     ".type \"tcp_replay::party::Party::take_in::<#244039bd4e0652a3>\",%function\n"
     ".size \"tcp_replay::party::Party::take_in::<#244039bd4e0652a3>\",1996\n"
     "\"tcp_replay::party::Party::take_in::<#244039bd4e0652a3>\":\n"
@@ -11556,51 +11638,48 @@ __asm__(
     ".inst 0x17ffff96,0x528001ea,0x910043e3,0xaa0103e0,0x2a0a03e1,0x2a1303e2,0x94000000,0xaa1f03ed,0xaa1f03e8,0x5280004e\n"
     ".inst 0xaa1403e0,0x17fffea4,0xaa0103f3,0x7100023f,0xaa0903e0,0x9a8a4201,0x94000000,0x910043e1,0xaa1303e0,0x94000000\n"
     ".inst 0xaa1303e0,0x94000000,0x910043e1,0xaa1303e0,0x94000000,0x910043e1,0xaa1303e0,0x94000000,0x17ffff7f\n"
-    ".reloc .Ltcp48+308,R_AARCH64_CALL26,.Ltcp9+0\n"
-    ".reloc .Ltcp48+432,R_AARCH64_ADR_PREL_PG_HI21,.Ltcp0+480\n"
-    ".reloc .Ltcp48+440,R_AARCH64_LDST128_ABS_LO12_NC,.Ltcp0+480\n"
-    ".reloc .Ltcp48+800,R_AARCH64_ADR_PREL_PG_HI21,.Ltcp0+496\n"
-    ".reloc .Ltcp48+804,R_AARCH64_LDST128_ABS_LO12_NC,.Ltcp0+496\n"
-    ".reloc .Ltcp48+1024,R_AARCH64_CALL26,.Ltcp61+0\n"
-    ".reloc .Ltcp48+1472,R_AARCH64_CALL26,.Ltcp61+0\n"
-    ".reloc .Ltcp48+1508,R_AARCH64_CALL26,.Ltcp49+0\n"
-    ".reloc .Ltcp48+1532,R_AARCH64_CALL26,.Ltcp61+0\n"
-    ".reloc .Ltcp48+1536,R_AARCH64_ADR_PREL_PG_HI21,.Ltcp177+0\n"
-    ".reloc .Ltcp48+1540,R_AARCH64_ADD_ABS_LO12_NC,.Ltcp177+0\n"
-    ".reloc .Ltcp48+1768,R_AARCH64_CALL26,.Ltcp50+0\n"
-    ".reloc .Ltcp48+1780,R_AARCH64_CALL26,.Ltcp51+0\n"
-    ".reloc .Ltcp48+1788,R_AARCH64_CALL26,.Ltcp55+0\n"
-    ".reloc .Ltcp48+1904,R_AARCH64_CALL26,.Ltcp61+0\n"
-    ".reloc .Ltcp48+1944,R_AARCH64_CALL26,.Ltcp50+0\n"
-    ".reloc .Ltcp48+1956,R_AARCH64_CALL26,.Ltcp51+0\n"
-    ".reloc .Ltcp48+1964,R_AARCH64_CALL26,.Ltcp55+0\n"
-    ".reloc .Ltcp48+1976,R_AARCH64_CALL26,.Ltcp56+0\n"
-    ".reloc .Ltcp48+1988,R_AARCH64_CALL26,.Ltcp60+0\n"
-    ".section .text.tcp.49,\"ax\",%progbits\n"
+    ".reloc .Ltcp49+308,R_AARCH64_CALL26,.Ltcp9+0\n"
+    ".reloc .Ltcp49+432,R_AARCH64_ADR_PREL_PG_HI21,.Ltcp0+480\n"
+    ".reloc .Ltcp49+440,R_AARCH64_LDST128_ABS_LO12_NC,.Ltcp0+480\n"
+    ".reloc .Ltcp49+800,R_AARCH64_ADR_PREL_PG_HI21,.Ltcp0+496\n"
+    ".reloc .Ltcp49+804,R_AARCH64_LDST128_ABS_LO12_NC,.Ltcp0+496\n"
+    ".reloc .Ltcp49+1024,R_AARCH64_CALL26,.Ltcp62+0\n"
+    ".reloc .Ltcp49+1472,R_AARCH64_CALL26,.Ltcp62+0\n"
+    ".reloc .Ltcp49+1508,R_AARCH64_CALL26,.Ltcp50+0\n"
+    ".reloc .Ltcp49+1532,R_AARCH64_CALL26,.Ltcp62+0\n"
+    ".reloc .Ltcp49+1536,R_AARCH64_ADR_PREL_PG_HI21,.Ltcp178+0\n"
+    ".reloc .Ltcp49+1540,R_AARCH64_ADD_ABS_LO12_NC,.Ltcp178+0\n"
+    ".reloc .Ltcp49+1768,R_AARCH64_CALL26,.Ltcp51+0\n"
+    ".reloc .Ltcp49+1780,R_AARCH64_CALL26,.Ltcp52+0\n"
+    ".reloc .Ltcp49+1788,R_AARCH64_CALL26,.Ltcp56+0\n"
+    ".reloc .Ltcp49+1904,R_AARCH64_CALL26,.Ltcp62+0\n"
+    ".reloc .Ltcp49+1944,R_AARCH64_CALL26,.Ltcp51+0\n"
+    ".reloc .Ltcp49+1956,R_AARCH64_CALL26,.Ltcp52+0\n"
+    ".reloc .Ltcp49+1964,R_AARCH64_CALL26,.Ltcp56+0\n"
+    ".reloc .Ltcp49+1976,R_AARCH64_CALL26,.Ltcp57+0\n"
+    ".reloc .Ltcp49+1988,R_AARCH64_CALL26,.Ltcp61+0\n"
+    ".section .text.tcp.50,\"ax\",%progbits\n"
     ".balign 4\n"
-    ".Ltcp49:\n"
+    ".Ltcp50:\n"
     ".type \"tcp_conn::endpoint::Endpoint::judge_syn_sent::<#4d7786d65df9050b>\",%function\n"
     ".size \"tcp_conn::endpoint::Endpoint::judge_syn_sent::<#4d7786d65df9050b>\",116\n"
     "\"tcp_conn::endpoint::Endpoint::judge_syn_sent::<#4d7786d65df9050b>\":\n"
     ".inst 0x12001c48,0x362001a2,0xa9442c0a,0xd2c0002c,0xb9400809,0xb0a0129,0x4b090029,0x8b09014a,0xeb0c014c,0x9a8c33ec\n"
     ".inst 0x7100013f,0x9a8a4189,0xeb0b013f,0x54000181,0x52800249,0x5280010a,0x6a28013f,0x52800089,0x1a890149,0x721c011f\n"
     ".inst 0x528000ea,0x1a9f154a,0x721e011f,0x1a8a0120,0xd65f03c0,0x721e011f,0x528000c8,0x1a9f0500,0xd65f03c0\n"
-    ".section .text.tcp.50,\"ax\",%progbits\n"
-    ".balign 4\n"
-    ".Ltcp50:\n"
-    ".type \"tcp_halves::sender::Sender::take_ack::<#4d7786d65df9050b>\",%function\n"
-    ".size \"tcp_halves::sender::Sender::take_ack::<#4d7786d65df9050b>\",248\n"
-    "\"tcp_halves::sender::Sender::take_ack::<#4d7786d65df9050b>\":\n"
-    ".inst 0xf9400008,0xeb01011f,0x54000762,0xf9400408,0xeb08003f,0x54000708,0xf940080a,0xf940140b,0xf9000001,0x91000548\n"
-    ".inst 0xeb080028,0x9a8833e8,0xeb08017f,0x9a883168,0xcb080169,0x8b0a010a,0xeb0b013f,0xf900080a,0x54000102,0xf940180a\n"
-    ".inst 0xf940100b,0x8b08014a,0xeb0b015f,0x9a8b33eb,0xcb0b014a,0xa902a809,0xa944b409,0xaa1f03eb,0xf9402c0a,0xa9057c1f\n"
-    ".inst 0xb40003ad,0xe040d00,0x9100212c,0xfc6b7921,0xb85fc18e,0x2ea02c21,0x6b0801df,0x9100056e,0xfc2b7921,0x540000e9\n"
-    ".inst 0xeb0e01bf,0x9100218c,0xaa0e03eb,0x54fffec1,0xaa0d03eb,0x1400000e,0xeb0d01df,0x54000182,0xaa2b03ee,0x8b0d01cd\n"
-    ".inst 0xfd400181,0xb940058e,0x2ea02c21,0x6b0801df,0xfc008581,0xfc2b7921,0x9a8b956b,0xf10005ad,0x54ffff01,0xa904ac09\n"
-    ".inst 0xf9002c0a,0xd65f03c0\n"
     ".section .text.tcp.51,\"ax\",%progbits\n"
     ".balign 4\n"
     ".Ltcp51:\n"
+    ".type \"tcp_halves::sender::Sender::take_ack::<#4d7786d65df9050b>\",%function\n"
+    ".size \"tcp_halves::sender::Sender::take_ack::<#4d7786d65df9050b>\",84\n"
+    "\"tcp_halves::sender::Sender::take_ack::<#4d7786d65df9050b>\":\n"
+    ".inst 0xf9400008,0xeb01011f,0x54000082,0xf9400408,0xeb08003f,0x54000049,0xd65f03c0,0xf9400809,0xf940140a,0xf9000001\n"
+    ".inst 0x91000528,0xeb080028,0x9a8833e8,0xeb08015f,0x9a883148,0xaa0003ea,0x91006000,0x8b090109,0xaa0803e1,0xf9000949\n"
+    ".inst 0x14000000\n"
+    ".reloc .Ltcp51+80,R_AARCH64_JUMP26,.Ltcp37+0\n"
+    ".section .text.tcp.52,\"ax\",%progbits\n"
+    ".balign 4\n"
+    ".Ltcp52:\n"
     ".type \"tcp_conn::endpoint::Endpoint::take_window_and_blocks::<#4d7786d65df9050b>\",%function\n"
     ".size \"tcp_conn::endpoint::Endpoint::take_window_and_blocks::<#4d7786d65df9050b>\",196\n"
     "\"tcp_conn::endpoint::Endpoint::take_window_and_blocks::<#4d7786d65df9050b>\":\n"
@@ -11609,45 +11688,36 @@ __asm__(
     ".inst 0x531f7d6b,0x6b0a012d,0x3940f40a,0x79401c2c,0x3a4119a4,0x5400010d,0x1400000c,0x2a1f03eb,0x6b0a012d,0x3940f40a\n"
     ".inst 0x79401c2c,0x3a4119a4,0x540000cc,0x350000ab,0x3940f808,0x7100051f,0x54000100,0x1400000b,0x1aca218a,0xb900c808\n"
     ".inst 0x2918240a,0x3940f808,0x7100051f,0x540000a1,0xf9401022,0xb4000062,0xf9400c21,0x14000000,0xd65f03c0\n"
-    ".reloc .Ltcp51+188,R_AARCH64_JUMP26,.Ltcp52+0\n"
-    ".section .text.tcp.52,\"ax\",%progbits\n"
-    ".balign 4\n"
-    ".Ltcp52:\n"
-    ".type \"tcp_conn::endpoint::Endpoint::take_blocks::<#4d7786d65df9050b>\",%function\n"
-    ".size \"tcp_conn::endpoint::Endpoint::take_blocks::<#4d7786d65df9050b>\",920\n"
-    "\"tcp_conn::endpoint::Endpoint::take_blocks::<#4d7786d65df9050b>\":\n"
-    ".inst 0xd104c3ff,0x6f00e400,0xa90d7bfd,0x910343fd,0xa90e6ffc,0xaa0003fc,0xa9105ff8,0xb9400817,0x910143e0,0xa93e8ba1\n"
-    ".inst 0xd10063a1,0xa90f67fa,0xa91157f6,0xa9124ff4,0xf90043ff,0xad0303e0,0x3d8017e0,0x94000000,0x394143e8,0x7100051f\n"
-    ".inst 0x54001941,0xb9000ff7,0x14000007,0x910143e0,0xd10063a1,0x94000000,0x394143e8,0x7100051f,0x54001841,0x394163e8\n"
-    ".inst 0x7100111f,0x54ffff01,0x910143e8,0xad408500,0xf8430118,0xf81e03b8,0xad3e07a0,0xb4fffe58,0xd10103b9,0x14000008\n"
-    ".inst 0x91022380,0xaa1603e1,0x2a1403e2,0x2a1503e3,0x94000000,0xd1000718,0xb4fffd38,0xf9402389,0xfc408721,0xf9402b8a\n"
-    ".inst 0xb0902e8,0xe040d00,0xd2c00028,0x9100054a,0x4e080d02,0x2ea08420,0x4e080d21,0x2ea01021,0xea0a800,0x6ee22c22\n"
-    ".inst 0xf20a400,0x6e611c40,0x4e183c08,0x9e66000b,0xeb0a016c,0x9a8c33f4,0xf940378c,0xeb0a010a,0x9a8a33ea,0xeb0a019f\n"
-    ".inst 0x9a8a3195,0xeb08017f,0xfa4b3122,0x54fffc82,0xf9402789,0xeb15029f,0xfa493102,0x54fffc08,0xa948ef9a,0xaa1b03f6\n"
-    ".inst 0xb400029b,0xf100077f,0x54000061,0xaa1f03e8,0x1400000c,0xaa1f03e8,0xaa1b03e9,0xd341fd2a,0x8b08014b,0xcb0a0129\n"
-    ".inst 0x8b0b0f4c,0xb940058c,0x6b14019f,0x9a883168,0xf100053f,0x54ffff08,0x8b080f49,0xb9400529,0x6b14013f,0x9a882516\n"
-    ".inst 0xf9404388,0xeb1b02df,0x54000da2,0xa90167e8,0xd37df368,0xd37df2d1,0xf90013f8,0xaa1f03e0,0xd1002109,0x8b110352\n"
-    ".inst 0x8b080348,0xf9001be9,0xcb160369,0x91200241,0xd1040538,0xd1004117,0xf90017e1,0x1400000d,0xd360ff28,0x6b14033f\n"
-    ".inst 0x91000400,0x1a943334,0xd1000718,0xd10022f7,0x6b15011f,0xa908ef9a,0x1a958115,0xeb16037f,0xf9004f82,0x540009c9\n"
-    ".inst 0xb9400248,0x6b15011f,0x54000988,0xf9404f82,0xd100077b,0xa9097f9f,0xcb16036e,0xf9400259,0xaa1103e9,0xf10405df\n"
-    ".inst 0xaa1603e8,0x54000503,0xf9401be8,0xaa1f03eb,0xaa1803ef,0x8b11034c,0x9100424d,0xcb000d0a,0xaa1603e8,0x14000009\n"
-    ".inst 0x91040108,0x9100056b,0x912001ad,0xcb08036e,0x9120018c,0xd104012f,0xf10401df,0x540002a9,0xb100051f,0xaa0f03e9\n"
-    ".inst 0x54000140,0x5280200e,0xaa0d03ef,0x3cdf81e0,0x3cc081e1,0xf10011ce,0xad3f85e0,0x910081ef,0x54ffff61,0x17ffffed\n"
-    ".inst 0xd375d16e,0x5280ff0f,0xf86e682e,0xf82f698e,0xd10021ef,0xb10021ff,0x54ffffa1,0x17ffffe5,0xb100051f,0x540002c0\n"
-    ".inst 0xd37df109,0xeb08037f,0x54fff800,0xa90403e2,0xd37df1c2,0x8b090340,0x91002001,0xaa1603f3,0xaa1103f6,0xf9001ff4\n"
-    ".inst 0xaa1503f4,0xaa1203f5\n"
-    "bl memmove\n"
-    ".inst 0xa94403e2,0xaa1503f2,0xf94017e1,0xaa1403f5,0xf9401ff4,0xaa1603f1,0xaa1303f6,0x17ffffae,0xf86a6b48,0xaa1703ea\n"
-    ".inst 0xf1000529,0xf81f8548,0x54ffffc1,0x17ffffa8,0xaa1603fb,0xa941e3f9,0xb9400ff7,0xf9400be8,0xeb1b011f,0x54ffeb29\n"
-    ".inst 0xf9404f88,0xeb08037f,0x54ffea23,0xeb1b011f,0x54ffe9e1,0x91022380,0x94000000,0x35ffe980,0x17ffff50,0xa9524ff4\n"
-    ".inst 0xa95157f6,0xa9505ff8,0xa94f67fa,0xa94e6ffc,0xa94d7bfd,0x9104c3ff,0xd65f03c0\n"
-    ".reloc .Ltcp52+68,R_AARCH64_CALL26,.Ltcp10+0\n"
-    ".reloc .Ltcp52+100,R_AARCH64_CALL26,.Ltcp10+0\n"
-    ".reloc .Ltcp52+176,R_AARCH64_CALL26,.Ltcp54+0\n"
-    ".reloc .Ltcp52+876,R_AARCH64_CALL26,.Ltcp53+0\n"
+    ".reloc .Ltcp52+188,R_AARCH64_JUMP26,.Ltcp53+0\n"
     ".section .text.tcp.53,\"ax\",%progbits\n"
     ".balign 4\n"
     ".Ltcp53:\n"
+    ".type \"tcp_conn::endpoint::Endpoint::take_blocks::<#4d7786d65df9050b>\",%function\n"
+    ".size \"tcp_conn::endpoint::Endpoint::take_blocks::<#4d7786d65df9050b>\",636\n"
+    "\"tcp_conn::endpoint::Endpoint::take_blocks::<#4d7786d65df9050b>\":\n"
+    ".inst 0xd10343ff,0x6f00e400,0xa9087bfd,0x910203fd,0xa90c4ff4,0xb9400814,0xaa0003f3,0xa90b57f6,0x910003e0,0x910003f5\n"
+    ".inst 0xa93f0ba1,0xd10043a1,0xa90967fa,0xa90a5ff8,0xf9001bff,0xad0083e0,0x3d8003e0,0x14000003,0x910003e0,0xd10043a1\n"
+    ".inst 0x94000000,0x394003e8,0x7100051f,0x54001021,0x394023e8,0x7100111f,0x54ffff01,0xad4086a0,0xf84302b6,0xf90033f6\n"
+    ".inst 0xad0207e0,0xb4fffe76,0x910103f7,0x14000010,0x8b010d69,0x8b080d6a,0x91022260,0x91000421,0xb940012b,0xb85fc14a\n"
+    ".inst 0x6b02017f,0x1a82316b,0x6b03015f,0xaa0803e2,0x1a83814a,0x2900292b,0x94000000,0xd10006d6,0xb4fffc56,0xf940226a\n"
+    ".inst 0xfc4086e1,0xf940366d,0xb0a0288,0xe040d00,0xd2c00028,0x4e080d02,0xf9402a68,0x9100050b,0x2ea08420,0x4e080d41\n"
+    ".inst 0x2ea01021,0xea0a800,0x6ee22c22,0xf20a400,0x6e611c40,0x4e183c09,0x9e66000c,0xeb0b0188,0x9a8833e8,0xeb0b012b\n"
+    ".inst 0x9a8b33eb,0xeb0b01bf,0x9a8b31ab,0xeb09019f,0xfa4c3142,0x54fffc82,0xf940266a,0xeb0b011f,0xfa4a3122,0x54fffc08\n"
+    ".inst 0x2950326a,0xf9404a69,0xb080182,0xb0b0183,0xb40001c9,0xf940466b,0xf100053f,0x540001a1,0xb9400568,0x6b02011f\n"
+    ".inst 0x1a9f27e1,0xd37df3e8,0xb8686968,0x6b03011f,0x9a9f87e8,0xeb08003f,0x54fff843,0x14000023,0xaa0903e1,0x14000021\n"
+    ".inst 0xaa1f03e8,0xaa0903ec,0xd341fd8d,0x8b0801ae,0xcb0d018c,0x8b0e0d6f,0xb94005ef,0x6b0201ff,0x9a8831c8,0xf100059f\n"
+    ".inst 0x54ffff08,0x8b080d6d,0xaa1f03ec,0xaa0903ee,0xb94005ad,0xd341fdcf,0x8b0c01f0,0xcb0f01ce,0xd37df211,0xb8716971\n"
+    ".inst 0x6b03023f,0x9a90818c,0xf10005df,0x54ffff08,0x6b0201bf,0x9a882501,0xd37df188,0xb8686968,0x6b03011f,0x9a8c8588\n"
+    ".inst 0xeb08003f,0x54fff3e3,0xeb0a013f,0x54fff542,0xf9404e68,0xeb08013f,0x54000063,0xeb09011f,0x54000080,0x91022260\n"
+    ".inst 0x94000000,0x17ffffa2,0x91022260,0x2a0303f8,0x2a0203fa,0xaa0103f9,0x94000000,0xaa1903e1,0x2a1a03e2,0x2a1803e3\n"
+    ".inst 0x34fff320,0x17fffff4,0xa94c4ff4,0xa94b57f6,0xa94a5ff8,0xa94967fa,0xa9487bfd,0x910343ff,0xd65f03c0\n"
+    ".reloc .Ltcp53+80,R_AARCH64_CALL26,.Ltcp10+0\n"
+    ".reloc .Ltcp53+184,R_AARCH64_CALL26,.Ltcp38+0\n"
+    ".reloc .Ltcp53+560,R_AARCH64_CALL26,.Ltcp55+0\n"
+    ".reloc .Ltcp53+584,R_AARCH64_CALL26,.Ltcp54+0\n"
+    ".section .text.tcp.54,\"ax\",%progbits\n"
+    ".balign 4\n"
+    ".Ltcp54:\n"
     ".type \"std_alloc::vec::Vec::grow_amortized::<#4a791bdeba1adbb6>\",%function\n"
     ".size \"std_alloc::vec::Vec::grow_amortized::<#4a791bdeba1adbb6>\",492\n"
     "\"std_alloc::vec::Vec::grow_amortized::<#4a791bdeba1adbb6>\":\n"
@@ -11665,9 +11735,9 @@ __asm__(
     ".inst 0xf9000909,0x17ffffc9,0xaa0003f6,0xaa1303e0\n"
     "bl memmove\n"
     ".inst 0xaa1603e0,0x17ffffc4,0xeb09011f,0x54fff840,0xf869782a,0xf8297a6a,0x91000529,0x17fffffb\n"
-    ".section .text.tcp.54,\"ax\",%progbits\n"
+    ".section .text.tcp.55,\"ax\",%progbits\n"
     ".balign 4\n"
-    ".Ltcp54:\n"
+    ".Ltcp55:\n"
     ".type \"std_alloc::vec::Vec::put_at::<#4a791bdeba1adbb6>\",%function\n"
     ".size \"std_alloc::vec::Vec::put_at::<#4a791bdeba1adbb6>\",472\n"
     "\"std_alloc::vec::Vec::put_at::<#4a791bdeba1adbb6>\":\n"
@@ -11683,11 +11753,11 @@ __asm__(
     ".inst 0xad7f85a2,0xd10011ce,0x3c8081a1,0x3c9f81a2,0xd10081ad,0xb5ffff6e,0xeb0b019f,0x54000180,0xcb0b0d0c,0xcb0a012a\n"
     ".inst 0x8b090d8c,0xcb0b0149,0xd103fd29,0xaa0c03ea,0xf85f8d4b,0xf1000529,0xf900018b,0xaa0a03ec,0x54ffff81,0x90000009\n"
     ".inst 0x3dc00121,0x2a0203e9,0xaa038129,0x4ee18400,0xf8217909,0xf9000008,0x3c808000,0xd65f03c0\n"
-    ".reloc .Ltcp54+436,R_AARCH64_ADR_PREL_PG_HI21,.Ltcp0+512\n"
-    ".reloc .Ltcp54+440,R_AARCH64_LDST128_ABS_LO12_NC,.Ltcp0+512\n"
-    ".section .text.tcp.55,\"ax\",%progbits\n"
+    ".reloc .Ltcp55+436,R_AARCH64_ADR_PREL_PG_HI21,.Ltcp0+512\n"
+    ".reloc .Ltcp55+440,R_AARCH64_LDST128_ABS_LO12_NC,.Ltcp0+512\n"
+    ".section .text.tcp.56,\"ax\",%progbits\n"
     ".balign 4\n"
-    ".Ltcp55:\n"
+    ".Ltcp56:\n"
     ".type \"tcp_conn::endpoint::Endpoint::take_own_fin::<#4d7786d65df9050b>\",%function\n"
     ".size \"tcp_conn::endpoint::Endpoint::take_own_fin::<#4d7786d65df9050b>\",136\n"
     "\"tcp_conn::endpoint::Endpoint::take_own_fin::<#4d7786d65df9050b>\":\n"
@@ -11695,9 +11765,9 @@ __asm__(
     ".inst 0x7100151f,0x5400006c,0x54000262,0xd65f03c0,0x7100211f,0x540000ec,0x51001908,0x7100091f,0x54ffff63,0x52800148\n"
     ".inst 0x3900c008,0xd65f03c0,0x7100291f,0x54fffec0,0x52802008,0x7902801f,0x79006008,0x3905081f,0xa90b7c1f,0xf900541f\n"
     ".inst 0xd65f03c0,0x528000c8,0x3900c008,0xd65f03c0\n"
-    ".section .text.tcp.56,\"ax\",%progbits\n"
+    ".section .text.tcp.57,\"ax\",%progbits\n"
     ".balign 4\n"
-    ".Ltcp56:\n"
+    ".Ltcp57:\n"
     ".type \"tcp_conn::endpoint::Endpoint::take_its_text::<#4d7786d65df9050b>\",%function\n"
     ".size \"tcp_conn::endpoint::Endpoint::take_its_text::<#4d7786d65df9050b>\",1204\n"
     "\"tcp_conn::endpoint::Endpoint::take_its_text::<#4d7786d65df9050b>\":\n"
@@ -11734,15 +11804,15 @@ __asm__(
     ".inst 0x39050409,0xa8c57bfd,0xd65f03c0,0x90000002,0x91000042,0x9103a2e0,0xaa1f03e3,0x94000000,0xaa1703e0,0xa95232e8\n"
     ".inst 0xaa1f03ea,0xf9409ae9,0xa912feff,0xb5ffe64c,0x17ffffc2,0x91048000,0x94000000,0x340000e0,0xa952d73a,0xaa1903e0\n"
     ".inst 0xf9409333,0xa912ff3f,0xb5fffa5a,0x17ffffd6,0x2a1f03f6,0xaa1903e0,0x17ffffda\n"
-    ".reloc .Ltcp56+256,R_AARCH64_CALL26,.Ltcp57+0\n"
-    ".reloc .Ltcp56+712,R_AARCH64_CALL26,.Ltcp57+0\n"
-    ".reloc .Ltcp56+1108,R_AARCH64_ADR_PREL_PG_HI21,.Ltcp95+0\n"
-    ".reloc .Ltcp56+1112,R_AARCH64_ADD_ABS_LO12_NC,.Ltcp95+0\n"
-    ".reloc .Ltcp56+1124,R_AARCH64_CALL26,.Ltcp58+0\n"
-    ".reloc .Ltcp56+1160,R_AARCH64_CALL26,.Ltcp59+0\n"
-    ".section .text.tcp.57,\"ax\",%progbits\n"
+    ".reloc .Ltcp57+256,R_AARCH64_CALL26,.Ltcp58+0\n"
+    ".reloc .Ltcp57+712,R_AARCH64_CALL26,.Ltcp58+0\n"
+    ".reloc .Ltcp57+1108,R_AARCH64_ADR_PREL_PG_HI21,.Ltcp96+0\n"
+    ".reloc .Ltcp57+1112,R_AARCH64_ADD_ABS_LO12_NC,.Ltcp96+0\n"
+    ".reloc .Ltcp57+1124,R_AARCH64_CALL26,.Ltcp59+0\n"
+    ".reloc .Ltcp57+1160,R_AARCH64_CALL26,.Ltcp60+0\n"
+    ".section .text.tcp.58,\"ax\",%progbits\n"
     ".balign 4\n"
-    ".Ltcp57:\n"
+    ".Ltcp58:\n"
     ".type \"tcp_reasm::lay::lay::<#4d7786d65df9050b>\",%function\n"
     ".size \"tcp_reasm::lay::lay::<#4d7786d65df9050b>\",2940\n"
     "\"tcp_reasm::lay::lay::<#4d7786d65df9050b>\":\n"
@@ -11826,15 +11896,15 @@ __asm__(
     ".inst 0xcb15012a,0xcb080169,0x8b0b000b,0x8b0a034a,0xfc408540,0xb1002129,0xfc008560,0x54ffffa1,0xeb0802ff,0x54ffeb20\n"
     ".inst 0x17ffff4a,0x8b150281,0xaa1603e0,0xaa1a03e2,0xaa0603f9,0x94000000,0x17ffff32,0xaa1603e0,0xaa1f03e1,0xaa1803e2\n"
     ".inst 0xaa1703e3,0xa94a4ff4,0xa94957f6,0xa9485ff8,0xa94767fa,0xa9466ffc,0xa9457bfd,0x9102c3ff,0x14000000\n"
-    ".reloc .Ltcp57+1124,R_AARCH64_CALL26,.Ltcp58+0\n"
-    ".reloc .Ltcp57+1560,R_AARCH64_CALL26,.Ltcp58+0\n"
-    ".reloc .Ltcp57+1580,R_AARCH64_CALL26,.Ltcp58+0\n"
-    ".reloc .Ltcp57+1596,R_AARCH64_CALL26,.Ltcp58+0\n"
-    ".reloc .Ltcp57+2884,R_AARCH64_CALL26,.Ltcp58+0\n"
-    ".reloc .Ltcp57+2936,R_AARCH64_JUMP26,.Ltcp58+0\n"
-    ".section .text.tcp.58,\"ax\",%progbits\n"
+    ".reloc .Ltcp58+1124,R_AARCH64_CALL26,.Ltcp59+0\n"
+    ".reloc .Ltcp58+1560,R_AARCH64_CALL26,.Ltcp59+0\n"
+    ".reloc .Ltcp58+1580,R_AARCH64_CALL26,.Ltcp59+0\n"
+    ".reloc .Ltcp58+1596,R_AARCH64_CALL26,.Ltcp59+0\n"
+    ".reloc .Ltcp58+2884,R_AARCH64_CALL26,.Ltcp59+0\n"
+    ".reloc .Ltcp58+2936,R_AARCH64_JUMP26,.Ltcp59+0\n"
+    ".section .text.tcp.59,\"ax\",%progbits\n"
     ".balign 4\n"
-    ".Ltcp58:\n"
+    ".Ltcp59:\n"
     ".type \"tcp_reasm::ring::grow::<#4d7786d65df9050b>\",%function\n"
     ".size \"tcp_reasm::ring::grow::<#4d7786d65df9050b>\",556\n"
     "\"tcp_reasm::ring::grow::<#4d7786d65df9050b>\":\n"
@@ -11856,11 +11926,11 @@ __asm__(
     ".inst 0x8b140116,0xf9400278,0xeb16011f,0x54fff343,0x17ffffa1,0xaa1803e3,0xaa1603e2,0xf9400a74,0xcb080289,0xeb09031f\n"
     ".inst 0x54fff549,0xaa1303e0,0xaa0303e1,0xaa0203f5,0xaa0303f6,0x94000000,0x34fff800,0xa940d268,0xaa1603e3,0xaa1503e2\n"
     ".inst 0x17ffffa0\n"
-    ".reloc .Ltcp58+448,R_AARCH64_CALL26,.Ltcp34+0\n"
-    ".reloc .Ltcp58+532,R_AARCH64_CALL26,.Ltcp34+0\n"
-    ".section .text.tcp.59,\"ax\",%progbits\n"
+    ".reloc .Ltcp59+448,R_AARCH64_CALL26,.Ltcp34+0\n"
+    ".reloc .Ltcp59+532,R_AARCH64_CALL26,.Ltcp34+0\n"
+    ".section .text.tcp.60,\"ax\",%progbits\n"
     ".balign 4\n"
-    ".Ltcp59:\n"
+    ".Ltcp60:\n"
     ".type \"std_alloc::vec::Vec::grow_amortized::<#223e4d609cd45952>\",%function\n"
     ".size \"std_alloc::vec::Vec::grow_amortized::<#223e4d609cd45952>\",492\n"
     "\"std_alloc::vec::Vec::grow_amortized::<#223e4d609cd45952>\":\n"
@@ -11878,9 +11948,9 @@ __asm__(
     ".inst 0xf9000909,0x17ffffc9,0xaa0003f6,0xaa1303e0\n"
     "bl memmove\n"
     ".inst 0xaa1603e0,0x17ffffc4,0xeb09011f,0x54fff840,0xf869782a,0xf8297a6a,0x91000529,0x17fffffb\n"
-    ".section .text.tcp.60,\"ax\",%progbits\n"
+    ".section .text.tcp.61,\"ax\",%progbits\n"
     ".balign 4\n"
-    ".Ltcp60:\n"
+    ".Ltcp61:\n"
     ".type \"tcp_conn::endpoint::Endpoint::take_fin::<#4d7786d65df9050b>\",%function\n"
     ".size \"tcp_conn::endpoint::Endpoint::take_fin::<#4d7786d65df9050b>\",132\n"
     "\"tcp_conn::endpoint::Endpoint::take_fin::<#4d7786d65df9050b>\":\n"
@@ -11888,33 +11958,35 @@ __asm__(
     ".inst 0xb940302a,0xb0a0129,0x6b0b013f,0x54000261,0xb941080a,0xb941100b,0x6b0b015f,0x540001e0,0x11000529,0xf940940a\n"
     ".inst 0xb900d409,0x52800029,0x39038009,0xb400004a,0xf900941f,0x531d7108,0x528100e9,0x72a00149,0x51008108,0x927d1108\n"
     ".inst 0x1ac82528,0x3900c008,0xd65f03c0\n"
-    ".section .text.tcp.61,\"ax\",%progbits\n"
+    ".section .text.tcp.62,\"ax\",%progbits\n"
     ".balign 4\n"
-    ".Ltcp61:\n"
+    ".Ltcp62:\n"
     ".type \"tcp_conn::endpoint::Endpoint::follow_other::<#4d7786d65df9050b>\",%function\n"
-    ".size \"tcp_conn::endpoint::Endpoint::follow_other::<#4d7786d65df9050b>\",280\n"
+    ".size \"tcp_conn::endpoint::Endpoint::follow_other::<#4d7786d65df9050b>\",356\n"
     "\"tcp_conn::endpoint::Endpoint::follow_other::<#4d7786d65df9050b>\":\n"
     ".inst 0x92401c28,0x90000009,0x91000129,0x1000008a,0x3868692b,0x8b0b094a,0xd61f0140,0xd65f03c0,0x39451008,0x7100051f\n"
     ".inst 0x54ffffa0,0xb9400868,0x79400069,0x5280002a,0xb9014802,0xb9015008,0x91055008,0xb901440a,0x79029809,0xf900011f\n"
-    ".inst 0xd65f03c0,0x52800041,0x14000000,0x39403469,0x372003e9,0xb940046a,0x5301052b,0x12000129,0xb940306c,0x2a1f03e8\n"
-    ".inst 0xb090149,0xb0b0129,0xb0c012a,0x52800029,0x14000018,0x2a0203e1,0xaa0303e2,0x14000000,0xaa0303e1,0x14000000\n"
-    ".inst 0x39451008,0x7100051f,0x54000140,0xb9400868,0x79400069,0x5280002a,0xb9014802,0xb9015008,0x91055008,0xb901440a\n"
-    ".inst 0x79029809,0xf900011f,0x52800028,0x39050408,0xd65f03c0,0xb9400868,0x2a1f03e9,0x2a1f03ea,0x3945100b,0x7100057f\n"
-    ".inst 0x54fff960,0x7940006b,0x5280002c,0xb9014802,0xb901440c,0x7902980b,0xb9015008,0xb9015409,0xb901580a,0xd65f03c0\n"
-    ".reloc .Ltcp61+4,R_AARCH64_ADR_PREL_PG_HI21,.Ltcp62+0\n"
-    ".reloc .Ltcp61+8,R_AARCH64_ADD_ABS_LO12_NC,.Ltcp62+0\n"
-    ".reloc .Ltcp61+88,R_AARCH64_JUMP26,.Ltcp37+0\n"
-    ".reloc .Ltcp61+148,R_AARCH64_JUMP26,.Ltcp63+0\n"
-    ".reloc .Ltcp61+156,R_AARCH64_JUMP26,.Ltcp65+0\n"
-    ".section .rodata.tcp.62,\"a\",%progbits\n"
+    ".inst 0xd65f03c0,0xa9be7bfd,0x52804008,0xf9403401,0xf9000bf3,0xa90b7c1f,0xaa0003f3,0x910003fd,0x79006008,0xf900541f\n"
+    ".inst 0x91016000,0x94000000,0xaa1303e8,0xf9409669,0xf9008a7f,0xf9400bf3,0xa8c27bfd,0xb4000049,0xf900951f,0x7902811f\n"
+    ".inst 0x3905091f,0xd65f03c0,0x39403469,0x372003e9,0xb940046a,0x5301052b,0x12000129,0xb940306c,0x2a1f03e8,0xb090149\n"
+    ".inst 0xb0b0129,0xb0c012a,0x52800029,0x14000018,0x2a0203e1,0xaa0303e2,0x14000000,0xaa0303e1,0x14000000,0x39451008\n"
+    ".inst 0x7100051f,0x54000140,0xb9400868,0x79400069,0x5280002a,0xb9014802,0xb9015008,0x91055008,0xb901440a,0x79029809\n"
+    ".inst 0xf900011f,0x52800028,0x39050408,0xd65f03c0,0xb9400868,0x2a1f03e9,0x2a1f03ea,0x3945100b,0x7100057f,0x54fff700\n"
+    ".inst 0x7940006b,0x5280002c,0xb9014802,0xb901440c,0x7902980b,0xb9015008,0xb9015409,0xb901580a,0xd65f03c0\n"
+    ".reloc .Ltcp62+4,R_AARCH64_ADR_PREL_PG_HI21,.Ltcp63+0\n"
+    ".reloc .Ltcp62+8,R_AARCH64_ADD_ABS_LO12_NC,.Ltcp63+0\n"
+    ".reloc .Ltcp62+124,R_AARCH64_CALL26,.Ltcp37+0\n"
+    ".reloc .Ltcp62+224,R_AARCH64_JUMP26,.Ltcp64+0\n"
+    ".reloc .Ltcp62+232,R_AARCH64_JUMP26,.Ltcp66+0\n"
+    ".section .rodata.tcp.63,\"a\",%progbits\n"
     ".balign 1\n"
-    ".Ltcp62:\n"
-    ".octa 0x12d002d2d0e2d1f0e011c0001100000\n"
-    ".short 0x21\n"
-    ".byte 0x0\n"
-    ".section .text.tcp.63,\"ax\",%progbits\n"
-    ".balign 4\n"
     ".Ltcp63:\n"
+    ".octa 0x1400040400e40320e012f0001230000\n"
+    ".short 0x34\n"
+    ".byte 0x0\n"
+    ".section .text.tcp.64,\"ax\",%progbits\n"
+    ".balign 4\n"
+    ".Ltcp64:\n"
     ".type \"tcp_conn::endpoint::Endpoint::peer_opens::<#4d7786d65df9050b>\",%function\n"
     ".size \"tcp_conn::endpoint::Endpoint::peer_opens::<#4d7786d65df9050b>\",140\n"
     "\"tcp_conn::endpoint::Endpoint::peer_opens::<#4d7786d65df9050b>\":\n"
@@ -11922,12 +11994,12 @@ __asm__(
     ".inst 0x910043fd,0x79007008,0x910023e0,0xf9400c42,0xf9401263,0x79001bff,0xb9000bff,0x94000000,0x9000000a,0xb9400be8\n"
     ".inst 0x79401be9,0x3dc00140,0xa9417bfd,0xb803a288,0x79007e89,0x52800029,0x3d801280,0xb9400668,0x39034289,0x39050289\n"
     ".inst 0x11000508,0xb900d688,0xa9424ff4,0x9100c3ff,0xd65f03c0\n"
-    ".reloc .Ltcp63+68,R_AARCH64_CALL26,.Ltcp64+0\n"
-    ".reloc .Ltcp63+72,R_AARCH64_ADR_PREL_PG_HI21,.Ltcp0+528\n"
-    ".reloc .Ltcp63+84,R_AARCH64_LDST128_ABS_LO12_NC,.Ltcp0+528\n"
-    ".section .text.tcp.64,\"ax\",%progbits\n"
+    ".reloc .Ltcp64+68,R_AARCH64_CALL26,.Ltcp65+0\n"
+    ".reloc .Ltcp64+72,R_AARCH64_ADR_PREL_PG_HI21,.Ltcp0+528\n"
+    ".reloc .Ltcp64+84,R_AARCH64_LDST128_ABS_LO12_NC,.Ltcp0+528\n"
+    ".section .text.tcp.65,\"ax\",%progbits\n"
     ".balign 4\n"
-    ".Ltcp64:\n"
+    ".Ltcp65:\n"
     ".type \"tcp_halves::options::link_of\",%function\n"
     ".size \"tcp_halves::options::link_of\",356\n"
     "\"tcp_halves::options::link_of\":\n"
@@ -11940,11 +12012,11 @@ __asm__(
     ".inst 0x7101011f,0x1a898108,0x72001f1f,0x52804309,0x1a88012a,0x72001eff,0x12001ec9,0x1a9f07e8,0x7100393f,0x1a8b3129\n"
     ".inst 0x3940828b,0x39408a8c,0x7900026a,0x3900167f,0xf94033f9,0x7100057f,0xa15018a,0x1a9f17eb,0x3900126a,0x6a080168\n"
     ".inst 0xa94857f6,0x1a9f1129,0x39000a68,0x39000e69,0xa9494ff4,0xa9475ff8,0xa9457bfd,0x910283ff,0xd65f03c0\n"
-    ".reloc .Ltcp64+64,R_AARCH64_CALL26,.Ltcp10+0\n"
-    ".reloc .Ltcp64+128,R_AARCH64_CALL26,.Ltcp10+0\n"
-    ".section .text.tcp.65,\"ax\",%progbits\n"
+    ".reloc .Ltcp65+64,R_AARCH64_CALL26,.Ltcp10+0\n"
+    ".reloc .Ltcp65+128,R_AARCH64_CALL26,.Ltcp10+0\n"
+    ".section .text.tcp.66,\"ax\",%progbits\n"
     ".balign 4\n"
-    ".Ltcp65:\n"
+    ".Ltcp66:\n"
     ".type \"tcp_conn::endpoint::Endpoint::peer_accepts::<#4d7786d65df9050b>\",%function\n"
     ".size \"tcp_conn::endpoint::Endpoint::peer_accepts::<#4d7786d65df9050b>\",140\n"
     "\"tcp_conn::endpoint::Endpoint::peer_accepts::<#4d7786d65df9050b>\":\n"
@@ -11952,10 +12024,10 @@ __asm__(
     ".inst 0x910043fd,0x79001bff,0xb9000bff,0x94000000,0x79401be8,0xb9400be9,0xa9417bfd,0x79007e88,0xf9402688,0xb803a289\n"
     ".inst 0x79401e69,0xfc404260,0xf9002288,0xb900c289,0x52800029,0xfc0c4280,0xb9400668,0x39034289,0x52802009,0x79028289\n"
     ".inst 0x11000508,0xb900d688,0xa9424ff4,0x9100c3ff,0xd65f03c0\n"
-    ".reloc .Ltcp65+52,R_AARCH64_CALL26,.Ltcp64+0\n"
-    ".section .text.tcp.66,\"ax\",%progbits\n"
+    ".reloc .Ltcp66+52,R_AARCH64_CALL26,.Ltcp65+0\n"
+    ".section .text.tcp.67,\"ax\",%progbits\n"
     ".balign 4\n"
-    ".Ltcp66:\n"
+    ".Ltcp67:\n"
     ".type \"kit_text::numbers::push_number_word::<#fc995fe602e3aacb>\",%function\n"
     ".size \"kit_text::numbers::push_number_word::<#fc995fe602e3aacb>\",560\n"
     "\"kit_text::numbers::push_number_word::<#fc995fe602e3aacb>\":\n"
@@ -11975,12 +12047,12 @@ __asm__(
     ".inst 0x2a1f03e0,0xa9005e76,0xf9000a75,0xa94b4ff4,0xf9404bf7,0xa94a57f6,0xa9487bfd,0x910303ff,0xd65f03c0,0xaa1303e0\n"
     ".inst 0xaa0203e1,0xaa0203f6,0x94000000,0x34000080,0xa940d668,0xaa1603e2,0x17ffffea,0x52800020,0xa94b4ff4,0xf9404bf7\n"
     ".inst 0xa94a57f6,0xa9487bfd,0x910303ff,0xd65f03c0\n"
-    ".reloc .Ltcp66+40,R_AARCH64_ADR_PREL_PG_HI21,.Ltcp98+0\n"
-    ".reloc .Ltcp66+44,R_AARCH64_ADD_ABS_LO12_NC,.Ltcp98+0\n"
-    ".reloc .Ltcp66+512,R_AARCH64_CALL26,.Ltcp77+0\n"
-    ".section .text.tcp.67,\"ax\",%progbits\n"
+    ".reloc .Ltcp67+40,R_AARCH64_ADR_PREL_PG_HI21,.Ltcp99+0\n"
+    ".reloc .Ltcp67+44,R_AARCH64_ADD_ABS_LO12_NC,.Ltcp99+0\n"
+    ".reloc .Ltcp67+512,R_AARCH64_CALL26,.Ltcp78+0\n"
+    ".section .text.tcp.68,\"ax\",%progbits\n"
     ".balign 4\n"
-    ".Ltcp67:\n"
+    ".Ltcp68:\n"
     ".type \"kit_report::events::push_event::<#fc995fe602e3aacb>\",%function\n"
     ".size \"kit_report::events::push_event::<#fc995fe602e3aacb>\",1588\n"
     "\"kit_report::events::push_event::<#fc995fe602e3aacb>\":\n"
@@ -12027,69 +12099,69 @@ __asm__(
     ".inst 0x90000001,0x91000021,0x910083e0,0x52800022,0x94000000,0x12001c08,0x3707f068,0x17ffff7d,0x910083e0,0x52800021\n"
     ".inst 0x94000000,0x34ffefc0,0xa942a3e9,0x17ffff72,0x90000001,0x91000021,0x910083e0,0x52800022,0x94000000,0x72001c1f\n"
     ".inst 0x54ffeea1,0x17ffffb7,0x910083e0,0x52800021,0x94000000,0x34ffee00,0xa942a3e9,0x17ffffac\n"
-    ".reloc .Ltcp67+8,R_AARCH64_ADR_PREL_PG_HI21,.Ltcp68+0\n"
-    ".reloc .Ltcp67+12,R_AARCH64_ADD_ABS_LO12_NC,.Ltcp68+0\n"
-    ".reloc .Ltcp67+64,R_AARCH64_ADR_PREL_PG_HI21,.Ltcp131+0\n"
-    ".reloc .Ltcp67+68,R_AARCH64_ADD_ABS_LO12_NC,.Ltcp131+0\n"
-    ".reloc .Ltcp67+80,R_AARCH64_ADR_PREL_PG_HI21,.Ltcp132+0\n"
-    ".reloc .Ltcp67+84,R_AARCH64_ADD_ABS_LO12_NC,.Ltcp132+0\n"
-    ".reloc .Ltcp67+92,R_AARCH64_ADR_PREL_PG_HI21,.Ltcp140+0\n"
-    ".reloc .Ltcp67+96,R_AARCH64_ADD_ABS_LO12_NC,.Ltcp140+0\n"
-    ".reloc .Ltcp67+108,R_AARCH64_ADR_PREL_PG_HI21,.Ltcp134+0\n"
-    ".reloc .Ltcp67+112,R_AARCH64_ADD_ABS_LO12_NC,.Ltcp134+0\n"
-    ".reloc .Ltcp67+124,R_AARCH64_ADR_PREL_PG_HI21,.Ltcp141+0\n"
-    ".reloc .Ltcp67+128,R_AARCH64_ADD_ABS_LO12_NC,.Ltcp141+0\n"
-    ".reloc .Ltcp67+144,R_AARCH64_ADR_PREL_PG_HI21,.Ltcp138+0\n"
-    ".reloc .Ltcp67+148,R_AARCH64_ADD_ABS_LO12_NC,.Ltcp138+0\n"
-    ".reloc .Ltcp67+160,R_AARCH64_ADR_PREL_PG_HI21,.Ltcp92+24\n"
-    ".reloc .Ltcp67+164,R_AARCH64_ADD_ABS_LO12_NC,.Ltcp92+24\n"
-    ".reloc .Ltcp67+172,R_AARCH64_ADR_PREL_PG_HI21,.Ltcp133+0\n"
-    ".reloc .Ltcp67+176,R_AARCH64_ADD_ABS_LO12_NC,.Ltcp133+0\n"
-    ".reloc .Ltcp67+188,R_AARCH64_ADR_PREL_PG_HI21,.Ltcp137+0\n"
-    ".reloc .Ltcp67+192,R_AARCH64_ADD_ABS_LO12_NC,.Ltcp137+0\n"
-    ".reloc .Ltcp67+204,R_AARCH64_ADR_PREL_PG_HI21,.Ltcp135+0\n"
-    ".reloc .Ltcp67+208,R_AARCH64_ADD_ABS_LO12_NC,.Ltcp135+0\n"
-    ".reloc .Ltcp67+220,R_AARCH64_ADR_PREL_PG_HI21,.Ltcp136+0\n"
-    ".reloc .Ltcp67+224,R_AARCH64_ADD_ABS_LO12_NC,.Ltcp136+0\n"
-    ".reloc .Ltcp67+236,R_AARCH64_ADR_PREL_PG_HI21,.Ltcp139+0\n"
-    ".reloc .Ltcp67+240,R_AARCH64_ADD_ABS_LO12_NC,.Ltcp139+0\n"
-    ".reloc .Ltcp67+252,R_AARCH64_ADR_PREL_PG_HI21,.Ltcp92+28\n"
-    ".reloc .Ltcp67+256,R_AARCH64_ADD_ABS_LO12_NC,.Ltcp92+28\n"
-    ".reloc .Ltcp67+632,R_AARCH64_ADR_PREL_PG_HI21,.Ltcp178+0\n"
-    ".reloc .Ltcp67+636,R_AARCH64_ADD_ABS_LO12_NC,.Ltcp178+0\n"
-    ".reloc .Ltcp67+664,R_AARCH64_ADR_PREL_PG_HI21,.Ltcp179+0\n"
-    ".reloc .Ltcp67+668,R_AARCH64_ADD_ABS_LO12_NC,.Ltcp179+0\n"
-    ".reloc .Ltcp67+748,R_AARCH64_ADR_PREL_PG_HI21,.Ltcp97+0\n"
-    ".reloc .Ltcp67+752,R_AARCH64_ADD_ABS_LO12_NC,.Ltcp97+0\n"
-    ".reloc .Ltcp67+776,R_AARCH64_JUMP26,.Ltcp69+0\n"
-    ".reloc .Ltcp67+784,R_AARCH64_ADR_PREL_PG_HI21,.Ltcp97+0\n"
-    ".reloc .Ltcp67+788,R_AARCH64_ADD_ABS_LO12_NC,.Ltcp97+0\n"
-    ".reloc .Ltcp67+900,R_AARCH64_CALL26,.Ltcp72+0\n"
-    ".reloc .Ltcp67+988,R_AARCH64_CALL26,.Ltcp72+0\n"
-    ".reloc .Ltcp67+1084,R_AARCH64_CALL26,.Ltcp77+0\n"
-    ".reloc .Ltcp67+1116,R_AARCH64_CALL26,.Ltcp77+0\n"
-    ".reloc .Ltcp67+1156,R_AARCH64_CALL26,.Ltcp77+0\n"
-    ".reloc .Ltcp67+1276,R_AARCH64_CALL26,.Ltcp73+0\n"
-    ".reloc .Ltcp67+1316,R_AARCH64_CALL26,.Ltcp77+0\n"
-    ".reloc .Ltcp67+1344,R_AARCH64_CALL26,.Ltcp77+0\n"
-    ".reloc .Ltcp67+1388,R_AARCH64_CALL26,.Ltcp77+0\n"
-    ".reloc .Ltcp67+1476,R_AARCH64_ADR_PREL_PG_HI21,.Ltcp97+0\n"
-    ".reloc .Ltcp67+1480,R_AARCH64_ADD_ABS_LO12_NC,.Ltcp97+0\n"
-    ".reloc .Ltcp67+1492,R_AARCH64_CALL26,.Ltcp70+0\n"
-    ".reloc .Ltcp67+1516,R_AARCH64_CALL26,.Ltcp77+0\n"
-    ".reloc .Ltcp67+1532,R_AARCH64_ADR_PREL_PG_HI21,.Ltcp97+0\n"
-    ".reloc .Ltcp67+1536,R_AARCH64_ADD_ABS_LO12_NC,.Ltcp97+0\n"
-    ".reloc .Ltcp67+1548,R_AARCH64_CALL26,.Ltcp70+0\n"
-    ".reloc .Ltcp67+1572,R_AARCH64_CALL26,.Ltcp77+0\n"
-    ".section .rodata.tcp.68,\"a\",%progbits\n"
+    ".reloc .Ltcp68+8,R_AARCH64_ADR_PREL_PG_HI21,.Ltcp69+0\n"
+    ".reloc .Ltcp68+12,R_AARCH64_ADD_ABS_LO12_NC,.Ltcp69+0\n"
+    ".reloc .Ltcp68+64,R_AARCH64_ADR_PREL_PG_HI21,.Ltcp132+0\n"
+    ".reloc .Ltcp68+68,R_AARCH64_ADD_ABS_LO12_NC,.Ltcp132+0\n"
+    ".reloc .Ltcp68+80,R_AARCH64_ADR_PREL_PG_HI21,.Ltcp133+0\n"
+    ".reloc .Ltcp68+84,R_AARCH64_ADD_ABS_LO12_NC,.Ltcp133+0\n"
+    ".reloc .Ltcp68+92,R_AARCH64_ADR_PREL_PG_HI21,.Ltcp141+0\n"
+    ".reloc .Ltcp68+96,R_AARCH64_ADD_ABS_LO12_NC,.Ltcp141+0\n"
+    ".reloc .Ltcp68+108,R_AARCH64_ADR_PREL_PG_HI21,.Ltcp135+0\n"
+    ".reloc .Ltcp68+112,R_AARCH64_ADD_ABS_LO12_NC,.Ltcp135+0\n"
+    ".reloc .Ltcp68+124,R_AARCH64_ADR_PREL_PG_HI21,.Ltcp142+0\n"
+    ".reloc .Ltcp68+128,R_AARCH64_ADD_ABS_LO12_NC,.Ltcp142+0\n"
+    ".reloc .Ltcp68+144,R_AARCH64_ADR_PREL_PG_HI21,.Ltcp139+0\n"
+    ".reloc .Ltcp68+148,R_AARCH64_ADD_ABS_LO12_NC,.Ltcp139+0\n"
+    ".reloc .Ltcp68+160,R_AARCH64_ADR_PREL_PG_HI21,.Ltcp93+24\n"
+    ".reloc .Ltcp68+164,R_AARCH64_ADD_ABS_LO12_NC,.Ltcp93+24\n"
+    ".reloc .Ltcp68+172,R_AARCH64_ADR_PREL_PG_HI21,.Ltcp134+0\n"
+    ".reloc .Ltcp68+176,R_AARCH64_ADD_ABS_LO12_NC,.Ltcp134+0\n"
+    ".reloc .Ltcp68+188,R_AARCH64_ADR_PREL_PG_HI21,.Ltcp138+0\n"
+    ".reloc .Ltcp68+192,R_AARCH64_ADD_ABS_LO12_NC,.Ltcp138+0\n"
+    ".reloc .Ltcp68+204,R_AARCH64_ADR_PREL_PG_HI21,.Ltcp136+0\n"
+    ".reloc .Ltcp68+208,R_AARCH64_ADD_ABS_LO12_NC,.Ltcp136+0\n"
+    ".reloc .Ltcp68+220,R_AARCH64_ADR_PREL_PG_HI21,.Ltcp137+0\n"
+    ".reloc .Ltcp68+224,R_AARCH64_ADD_ABS_LO12_NC,.Ltcp137+0\n"
+    ".reloc .Ltcp68+236,R_AARCH64_ADR_PREL_PG_HI21,.Ltcp140+0\n"
+    ".reloc .Ltcp68+240,R_AARCH64_ADD_ABS_LO12_NC,.Ltcp140+0\n"
+    ".reloc .Ltcp68+252,R_AARCH64_ADR_PREL_PG_HI21,.Ltcp93+28\n"
+    ".reloc .Ltcp68+256,R_AARCH64_ADD_ABS_LO12_NC,.Ltcp93+28\n"
+    ".reloc .Ltcp68+632,R_AARCH64_ADR_PREL_PG_HI21,.Ltcp179+0\n"
+    ".reloc .Ltcp68+636,R_AARCH64_ADD_ABS_LO12_NC,.Ltcp179+0\n"
+    ".reloc .Ltcp68+664,R_AARCH64_ADR_PREL_PG_HI21,.Ltcp180+0\n"
+    ".reloc .Ltcp68+668,R_AARCH64_ADD_ABS_LO12_NC,.Ltcp180+0\n"
+    ".reloc .Ltcp68+748,R_AARCH64_ADR_PREL_PG_HI21,.Ltcp98+0\n"
+    ".reloc .Ltcp68+752,R_AARCH64_ADD_ABS_LO12_NC,.Ltcp98+0\n"
+    ".reloc .Ltcp68+776,R_AARCH64_JUMP26,.Ltcp70+0\n"
+    ".reloc .Ltcp68+784,R_AARCH64_ADR_PREL_PG_HI21,.Ltcp98+0\n"
+    ".reloc .Ltcp68+788,R_AARCH64_ADD_ABS_LO12_NC,.Ltcp98+0\n"
+    ".reloc .Ltcp68+900,R_AARCH64_CALL26,.Ltcp73+0\n"
+    ".reloc .Ltcp68+988,R_AARCH64_CALL26,.Ltcp73+0\n"
+    ".reloc .Ltcp68+1084,R_AARCH64_CALL26,.Ltcp78+0\n"
+    ".reloc .Ltcp68+1116,R_AARCH64_CALL26,.Ltcp78+0\n"
+    ".reloc .Ltcp68+1156,R_AARCH64_CALL26,.Ltcp78+0\n"
+    ".reloc .Ltcp68+1276,R_AARCH64_CALL26,.Ltcp74+0\n"
+    ".reloc .Ltcp68+1316,R_AARCH64_CALL26,.Ltcp78+0\n"
+    ".reloc .Ltcp68+1344,R_AARCH64_CALL26,.Ltcp78+0\n"
+    ".reloc .Ltcp68+1388,R_AARCH64_CALL26,.Ltcp78+0\n"
+    ".reloc .Ltcp68+1476,R_AARCH64_ADR_PREL_PG_HI21,.Ltcp98+0\n"
+    ".reloc .Ltcp68+1480,R_AARCH64_ADD_ABS_LO12_NC,.Ltcp98+0\n"
+    ".reloc .Ltcp68+1492,R_AARCH64_CALL26,.Ltcp71+0\n"
+    ".reloc .Ltcp68+1516,R_AARCH64_CALL26,.Ltcp78+0\n"
+    ".reloc .Ltcp68+1532,R_AARCH64_ADR_PREL_PG_HI21,.Ltcp98+0\n"
+    ".reloc .Ltcp68+1536,R_AARCH64_ADD_ABS_LO12_NC,.Ltcp98+0\n"
+    ".reloc .Ltcp68+1548,R_AARCH64_CALL26,.Ltcp71+0\n"
+    ".reloc .Ltcp68+1572,R_AARCH64_CALL26,.Ltcp78+0\n"
+    ".section .rodata.tcp.69,\"a\",%progbits\n"
     ".balign 1\n"
-    ".Ltcp68:\n"
+    ".Ltcp69:\n"
     ".quad 0x1b231f071714002e\n"
     ".long 0x3270f2b\n"
     ".byte 0xb\n"
-    ".section .text.tcp.69,\"ax\",%progbits\n"
+    ".section .text.tcp.70,\"ax\",%progbits\n"
     ".balign 4\n"
-    ".Ltcp69:\n"
+    ".Ltcp70:\n"
     ".type \"kit_text::numbers::push_word_number::<#fc995fe602e3aacb>\",%function\n"
     ".size \"kit_text::numbers::push_word_number::<#fc995fe602e3aacb>\",488\n"
     "\"kit_text::numbers::push_word_number::<#fc995fe602e3aacb>\":\n"
@@ -12108,12 +12180,12 @@ __asm__(
     ".inst 0x2a1f03e0,0xa9006277,0xf9000a76,0xa94b4ff4,0xa94a57f6,0xa9495ff8,0xa9487bfd,0x910303ff,0xd65f03c0,0xaa1303e0\n"
     ".inst 0xaa0203e1,0xaa0203f7,0x94000000,0x34000080,0xa940da68,0xaa1703e2,0x17ffffeb,0x52800020,0xa94b4ff4,0xa94a57f6\n"
     ".inst 0xa9495ff8,0xa9487bfd,0x910303ff,0xd65f03c0\n"
-    ".reloc .Ltcp69+32,R_AARCH64_ADR_PREL_PG_HI21,.Ltcp98+0\n"
-    ".reloc .Ltcp69+36,R_AARCH64_ADD_ABS_LO12_NC,.Ltcp98+0\n"
-    ".reloc .Ltcp69+440,R_AARCH64_CALL26,.Ltcp77+0\n"
-    ".section .text.tcp.70,\"ax\",%progbits\n"
+    ".reloc .Ltcp70+32,R_AARCH64_ADR_PREL_PG_HI21,.Ltcp99+0\n"
+    ".reloc .Ltcp70+36,R_AARCH64_ADD_ABS_LO12_NC,.Ltcp99+0\n"
+    ".reloc .Ltcp70+440,R_AARCH64_CALL26,.Ltcp78+0\n"
+    ".section .text.tcp.71,\"ax\",%progbits\n"
     ".balign 4\n"
-    ".Ltcp70:\n"
+    ".Ltcp71:\n"
     ".type \"core::fmt::formatter::Formatter::write_indented::<#66b2f40cbd927778>\",%function\n"
     ".size \"core::fmt::formatter::Formatter::write_indented::<#66b2f40cbd927778>\",352\n"
     "\"core::fmt::formatter::Formatter::write_indented::<#66b2f40cbd927778>\":\n"
@@ -12126,17 +12198,17 @@ __asm__(
     ".inst 0x91000021,0xaa1303e0,0x52800082,0x94000000,0x12001c08,0x370001e8,0xf10006f7,0x54ffff01,0x8b160281,0xaa1303e0\n"
     ".inst 0xaa1503e2,0x3901027f,0xa9444ff4,0xa94357f6,0xf9400bf9,0xa9425ff8,0xa8c57bfd,0x14000000,0x2a1f03f7,0x14000002\n"
     ".inst 0x52800037,0x2a1703e0,0xa9444ff4,0xa94357f6,0xf9400bf9,0xa9425ff8,0xa8c57bfd,0xd65f03c0\n"
-    ".reloc .Ltcp70+72,R_AARCH64_CALL26,.Ltcp71+0\n"
-    ".reloc .Ltcp70+156,R_AARCH64_ADR_PREL_PG_HI21,.Ltcp92+8\n"
-    ".reloc .Ltcp70+160,R_AARCH64_ADD_ABS_LO12_NC,.Ltcp92+8\n"
-    ".reloc .Ltcp70+172,R_AARCH64_CALL26,.Ltcp71+0\n"
-    ".reloc .Ltcp70+236,R_AARCH64_ADR_PREL_PG_HI21,.Ltcp92+8\n"
-    ".reloc .Ltcp70+240,R_AARCH64_ADD_ABS_LO12_NC,.Ltcp92+8\n"
-    ".reloc .Ltcp70+252,R_AARCH64_CALL26,.Ltcp71+0\n"
-    ".reloc .Ltcp70+308,R_AARCH64_JUMP26,.Ltcp71+0\n"
-    ".section .text.tcp.71,\"ax\",%progbits\n"
+    ".reloc .Ltcp71+72,R_AARCH64_CALL26,.Ltcp72+0\n"
+    ".reloc .Ltcp71+156,R_AARCH64_ADR_PREL_PG_HI21,.Ltcp93+8\n"
+    ".reloc .Ltcp71+160,R_AARCH64_ADD_ABS_LO12_NC,.Ltcp93+8\n"
+    ".reloc .Ltcp71+172,R_AARCH64_CALL26,.Ltcp72+0\n"
+    ".reloc .Ltcp71+236,R_AARCH64_ADR_PREL_PG_HI21,.Ltcp93+8\n"
+    ".reloc .Ltcp71+240,R_AARCH64_ADD_ABS_LO12_NC,.Ltcp93+8\n"
+    ".reloc .Ltcp71+252,R_AARCH64_CALL26,.Ltcp72+0\n"
+    ".reloc .Ltcp71+308,R_AARCH64_JUMP26,.Ltcp72+0\n"
+    ".section .text.tcp.72,\"ax\",%progbits\n"
     ".balign 4\n"
-    ".Ltcp71:\n"
+    ".Ltcp72:\n"
     ".type \"core::fmt::formatter::Formatter::write_raw::<#66b2f40cbd927778>\",%function\n"
     ".size \"core::fmt::formatter::Formatter::write_raw::<#66b2f40cbd927778>\",612\n"
     "\"core::fmt::formatter::Formatter::write_raw::<#66b2f40cbd927778>\":\n"
@@ -12157,10 +12229,10 @@ __asm__(
     ".inst 0x8b0b012c,0xcb08016a,0x8b0b002b,0x8b0c028c,0xfc408560,0xb100214a,0xfc008580,0x54ffffa1,0xeb08005f,0x54fffb40\n"
     ".inst 0x17ffffca,0xaa0103f4,0xaa0203e1,0xaa0003f3,0xaa0203f5,0x94000000,0x340000c0,0xaa1303e0,0xa940ce69,0xaa1503e2\n"
     ".inst 0xaa1403e1,0x17ffffb1,0x52800028,0x17ffffcf\n"
-    ".reloc .Ltcp71+576,R_AARCH64_CALL26,.Ltcp77+0\n"
-    ".section .text.tcp.72,\"ax\",%progbits\n"
+    ".reloc .Ltcp72+576,R_AARCH64_CALL26,.Ltcp78+0\n"
+    ".section .text.tcp.73,\"ax\",%progbits\n"
     ".balign 4\n"
-    ".Ltcp72:\n"
+    ".Ltcp73:\n"
     ".type \"core::fmt::formatter::Formatter::write_piece::<#2411bf40c49e81b6>\",%function\n"
     ".size \"core::fmt::formatter::Formatter::write_piece::<#2411bf40c49e81b6>\",468\n"
     "\"core::fmt::formatter::Formatter::write_piece::<#2411bf40c49e81b6>\":\n"
@@ -12178,11 +12250,11 @@ __asm__(
     ".inst 0x12001c00,0xa9444ff4,0xa94357f6,0xa9427bfd,0x910143ff,0xd65f03c0,0xaa0103f5,0xaa1303e0,0xaa0203e1,0xaa0203f6\n"
     ".inst 0x94000000,0x340000a0,0xa940d268,0xaa1503e1,0xaa1603e2,0x17ffffe3,0x52800020,0xa9444ff4,0xa94357f6,0xa9427bfd\n"
     ".inst 0x910143ff,0xd65f03c0\n"
-    ".reloc .Ltcp72+376,R_AARCH64_CALL26,.Ltcp70+0\n"
-    ".reloc .Ltcp72+420,R_AARCH64_CALL26,.Ltcp77+0\n"
-    ".section .text.tcp.73,\"ax\",%progbits\n"
+    ".reloc .Ltcp73+376,R_AARCH64_CALL26,.Ltcp71+0\n"
+    ".reloc .Ltcp73+420,R_AARCH64_CALL26,.Ltcp78+0\n"
+    ".section .text.tcp.74,\"ax\",%progbits\n"
     ".balign 4\n"
-    ".Ltcp73:\n"
+    ".Ltcp74:\n"
     ".type \"core::fmt::formatter::Formatter::write_piece::<#fa26af870f156c24>\",%function\n"
     ".size \"core::fmt::formatter::Formatter::write_piece::<#fa26af870f156c24>\",400\n"
     "\"core::fmt::formatter::Formatter::write_piece::<#fa26af870f156c24>\":\n"
@@ -12198,11 +12270,11 @@ __asm__(
     ".inst 0x12001c00,0xa9444ff4,0xa94357f6,0xa9427bfd,0x910143ff,0xd65f03c0,0xaa0103f5,0xaa1303e0,0xaa0203e1,0xaa0203f6\n"
     ".inst 0x94000000,0x340000a0,0xa940d268,0xaa1503e1,0xaa1603e2,0x17ffffe3,0x52800020,0xa9444ff4,0xa94357f6,0xa9427bfd\n"
     ".inst 0x910143ff,0xd65f03c0\n"
-    ".reloc .Ltcp73+308,R_AARCH64_CALL26,.Ltcp70+0\n"
-    ".reloc .Ltcp73+352,R_AARCH64_CALL26,.Ltcp77+0\n"
-    ".section .text.tcp.74,\"ax\",%progbits\n"
+    ".reloc .Ltcp74+308,R_AARCH64_CALL26,.Ltcp71+0\n"
+    ".reloc .Ltcp74+352,R_AARCH64_CALL26,.Ltcp78+0\n"
+    ".section .text.tcp.75,\"ax\",%progbits\n"
     ".balign 4\n"
-    ".Ltcp74:\n"
+    ".Ltcp75:\n"
     ".type \"kit_text::options::push_block::<#fc995fe602e3aacb>\",%function\n"
     ".size \"kit_text::options::push_block::<#fc995fe602e3aacb>\",816\n"
     "\"kit_text::options::push_block::<#fc995fe602e3aacb>\":\n"
@@ -12228,12 +12300,12 @@ __asm__(
     ".inst 0x2a1f03e0,0xa9005e76,0xf9000a75,0xa94b4ff4,0xf9404bf7,0xa94a57f6,0xa9487bfd,0x910303ff,0xd65f03c0,0xaa1303e0\n"
     ".inst 0xaa0203e1,0xaa0203f6,0x94000000,0x34000080,0xa940d668,0xaa1603e2,0x17ffffea,0x52800020,0xa94b4ff4,0xf9404bf7\n"
     ".inst 0xa94a57f6,0xa9487bfd,0x910303ff,0xd65f03c0\n"
-    ".reloc .Ltcp74+56,R_AARCH64_ADR_PREL_PG_HI21,.Ltcp98+0\n"
-    ".reloc .Ltcp74+60,R_AARCH64_ADD_ABS_LO12_NC,.Ltcp98+0\n"
-    ".reloc .Ltcp74+768,R_AARCH64_CALL26,.Ltcp77+0\n"
-    ".section .text.tcp.75,\"ax\",%progbits\n"
+    ".reloc .Ltcp75+56,R_AARCH64_ADR_PREL_PG_HI21,.Ltcp99+0\n"
+    ".reloc .Ltcp75+60,R_AARCH64_ADD_ABS_LO12_NC,.Ltcp99+0\n"
+    ".reloc .Ltcp75+768,R_AARCH64_CALL26,.Ltcp78+0\n"
+    ".section .text.tcp.76,\"ax\",%progbits\n"
     ".balign 4\n"
-    ".Ltcp75:\n"
+    ".Ltcp76:\n"
     ".type \"kit_text::faults::push_fault::<#fc995fe602e3aacb>\",%function\n"
     ".size \"kit_text::faults::push_fault::<#fc995fe602e3aacb>\",356\n"
     "\"kit_text::faults::push_fault::<#fc995fe602e3aacb>\":\n"
@@ -12246,15 +12318,15 @@ __asm__(
     ".inst 0x540002ec,0xa9494ff4,0xa9487bfd,0x910283ff,0xd65f03c0,0x2a1f03e0,0xa9494ff4,0xa9487bfd,0x910283ff,0xd65f03c0\n"
     ".inst 0x9100c3e0,0x52800141,0x94000000,0x36000060,0xa943a3e9,0x17ffffca,0xad4187e0,0xad0087e0,0xad000660,0xf9400668\n"
     ".inst 0xb5fffc54,0xeb14011f,0x54000049,0xf9000674,0x52800020,0xa9494ff4,0xa9487bfd,0x910283ff,0xd65f03c0\n"
-    ".reloc .Ltcp75+88,R_AARCH64_ADR_PREL_PG_HI21,.Ltcp118+0\n"
-    ".reloc .Ltcp75+92,R_AARCH64_ADD_ABS_LO12_NC,.Ltcp118+0\n"
-    ".reloc .Ltcp75+116,R_AARCH64_ADR_PREL_PG_HI21,.Ltcp1+312\n"
-    ".reloc .Ltcp75+120,R_AARCH64_LDST64_ABS_LO12_NC,.Ltcp1+312\n"
-    ".reloc .Ltcp75+168,R_AARCH64_CALL26,.Ltcp73+0\n"
-    ".reloc .Ltcp75+288,R_AARCH64_CALL26,.Ltcp77+0\n"
-    ".section .text.tcp.76,\"ax\",%progbits\n"
+    ".reloc .Ltcp76+88,R_AARCH64_ADR_PREL_PG_HI21,.Ltcp119+0\n"
+    ".reloc .Ltcp76+92,R_AARCH64_ADD_ABS_LO12_NC,.Ltcp119+0\n"
+    ".reloc .Ltcp76+116,R_AARCH64_ADR_PREL_PG_HI21,.Ltcp1+312\n"
+    ".reloc .Ltcp76+120,R_AARCH64_LDST64_ABS_LO12_NC,.Ltcp1+312\n"
+    ".reloc .Ltcp76+168,R_AARCH64_CALL26,.Ltcp74+0\n"
+    ".reloc .Ltcp76+288,R_AARCH64_CALL26,.Ltcp78+0\n"
+    ".section .text.tcp.77,\"ax\",%progbits\n"
     ".balign 4\n"
-    ".Ltcp76:\n"
+    ".Ltcp77:\n"
     ".type \"kit_report::answers::push_refused::<#fc995fe602e3aacb>\",%function\n"
     ".size \"kit_report::answers::push_refused::<#fc995fe602e3aacb>\",308\n"
     "\"kit_report::answers::push_refused::<#fc995fe602e3aacb>\":\n"
@@ -12266,11 +12338,11 @@ __asm__(
     ".inst 0xa9487bfd,0x910283ff,0xd65f03c0,0x2a1f03e0,0xa9494ff4,0xa9487bfd,0x910283ff,0xd65f03c0,0x9100c3e0,0x52800101\n"
     ".inst 0x94000000,0x36000060,0xa943a3e9,0x17ffffd5,0xad4187e0,0xad0087e0,0xad000660,0xf9400668,0xb5fffc54,0xeb14011f\n"
     ".inst 0x54000049,0xf9000674,0x52800020,0xa9494ff4,0xa9487bfd,0x910283ff,0xd65f03c0\n"
-    ".reloc .Ltcp76+120,R_AARCH64_CALL26,.Ltcp73+0\n"
-    ".reloc .Ltcp76+240,R_AARCH64_CALL26,.Ltcp77+0\n"
-    ".section .text.tcp.77,\"ax\",%progbits\n"
+    ".reloc .Ltcp77+120,R_AARCH64_CALL26,.Ltcp74+0\n"
+    ".reloc .Ltcp77+240,R_AARCH64_CALL26,.Ltcp78+0\n"
+    ".section .text.tcp.78,\"ax\",%progbits\n"
     ".balign 4\n"
-    ".Ltcp77:\n"
+    ".Ltcp78:\n"
     ".type \"std_alloc::vec::Vec::grow_amortized::<#774cccd130ef0a54>\",%function\n"
     ".size \"std_alloc::vec::Vec::grow_amortized::<#774cccd130ef0a54>\",496\n"
     "\"std_alloc::vec::Vec::grow_amortized::<#774cccd130ef0a54>\":\n"
@@ -12288,18 +12360,18 @@ __asm__(
     ".inst 0xaa1603e0,0x17ffffcd,0x927d0449,0x927be848,0x9100402a,0x9100426b,0x927be84c,0xad7f8540,0xf100818c,0x9100814a\n"
     ".inst 0xad3f8560,0x9100816b,0x54ffff61,0xeb08005f,0x54fff800,0xb4000149,0xaa0803e9,0x927df048,0xfc696820,0xfc296a60\n"
     ".inst 0x91002129,0xeb09011f,0x54ffff81,0xeb08005f,0x54fff6c0,0x38686829,0x38286a69,0x91000508,0x17fffffb\n"
-    ".section .text.tcp.78,\"ax\",%progbits\n"
+    ".section .text.tcp.79,\"ax\",%progbits\n"
     ".balign 4\n"
-    ".Ltcp78:\n"
+    ".Ltcp79:\n"
     ".type \"kit_report::outcomes::is_refused\",%function\n"
     ".size \"kit_report::outcomes::is_refused\",84\n"
     "\"kit_report::outcomes::is_refused\":\n"
     ".inst 0x39400008,0x34000068,0x52800020,0xd65f03c0,0x39402008,0x7100091f,0x540001ac,0x39402409,0x3940400a,0x7100013f\n"
     ".inst 0x1a9f07e9,0x7100015f,0x1a9f07ea,0x1a9f07eb,0x7100051f,0x1a8b014a,0x7100011f,0x1a8a0120,0xd65f03c0,0x2a1f03e0\n"
     ".inst 0xd65f03c0\n"
-    ".section .text.tcp.79,\"ax\",%progbits\n"
+    ".section .text.tcp.80,\"ax\",%progbits\n"
     ".balign 4\n"
-    ".Ltcp79:\n"
+    ".Ltcp80:\n"
     ".type \"core::fmt::formatter::Formatter::write_piece::<#ab7f6a11be6e0e81>\",%function\n"
     ".size \"core::fmt::formatter::Formatter::write_piece::<#ab7f6a11be6e0e81>\",464\n"
     "\"core::fmt::formatter::Formatter::write_piece::<#ab7f6a11be6e0e81>\":\n"
@@ -12317,11 +12389,11 @@ __asm__(
     ".inst 0x12001c00,0xa9444ff4,0xa94357f6,0xa9427bfd,0x910143ff,0xd65f03c0,0xaa0103f5,0xaa1303e0,0xaa0203e1,0xaa0203f6\n"
     ".inst 0x94000000,0x340000a0,0xa940d268,0xaa1503e1,0xaa1603e2,0x17ffffe3,0x52800020,0xa9444ff4,0xa94357f6,0xa9427bfd\n"
     ".inst 0x910143ff,0xd65f03c0\n"
-    ".reloc .Ltcp79+372,R_AARCH64_CALL26,.Ltcp70+0\n"
-    ".reloc .Ltcp79+416,R_AARCH64_CALL26,.Ltcp77+0\n"
-    ".section .text.tcp.80,\"ax\",%progbits\n"
+    ".reloc .Ltcp80+372,R_AARCH64_CALL26,.Ltcp71+0\n"
+    ".reloc .Ltcp80+416,R_AARCH64_CALL26,.Ltcp78+0\n"
+    ".section .text.tcp.81,\"ax\",%progbits\n"
     ".balign 4\n"
-    ".Ltcp80:\n"
+    ".Ltcp81:\n"
     ".type \"std_alloc::string::String::write_fmt::<#43545b4072f2aa1d>\",%function\n"
     ".size \"std_alloc::string::String::write_fmt::<#43545b4072f2aa1d>\",576\n"
     "\"std_alloc::string::String::write_fmt::<#43545b4072f2aa1d>\":\n"
@@ -12341,11 +12413,11 @@ __asm__(
     ".inst 0x3101051f,0x540002ac,0xa94a4ff4,0xa94957f6,0xa9485ff8,0xa9477bfd,0x9102c3ff,0xd65f03c0,0x2a1f03e0,0xa94a4ff4\n"
     ".inst 0xa94957f6,0xa9485ff8,0xa9477bfd,0x9102c3ff,0xd65f03c0,0xad4107e0,0xad0007e0,0xad000660,0xf9400668,0xb5fffc95\n"
     ".inst 0xeb15011f,0x54000049,0xf9000675,0x52800020,0xa94a4ff4,0xa94957f6,0xa9485ff8,0xa9477bfd,0x9102c3ff,0xd65f03c0\n"
-    ".reloc .Ltcp80+328,R_AARCH64_CALL26,.Ltcp77+0\n"
-    ".reloc .Ltcp80+388,R_AARCH64_CALL26,.Ltcp79+0\n"
-    ".section .text.tcp.81,\"ax\",%progbits\n"
+    ".reloc .Ltcp81+328,R_AARCH64_CALL26,.Ltcp78+0\n"
+    ".reloc .Ltcp81+388,R_AARCH64_CALL26,.Ltcp80+0\n"
+    ".section .text.tcp.82,\"ax\",%progbits\n"
     ".balign 4\n"
-    ".Ltcp81:\n"
+    ".Ltcp82:\n"
     ".type \"std_alloc::string::String::write_fmt::<#8ef6768b53a45598>\",%function\n"
     ".size \"std_alloc::string::String::write_fmt::<#8ef6768b53a45598>\",936\n"
     "\"std_alloc::string::String::write_fmt::<#8ef6768b53a45598>\":\n"
@@ -12376,14 +12448,14 @@ __asm__(
     "bl memmove\n"
     ".inst 0xa902dbf7,0x2a1f03e0,0xad4107e0,0xad0007e0,0xad000660,0xa94b4ff4,0xa94a57f6,0xa9495ff8,0xa94867fa,0xa9477bfd\n"
     ".inst 0x910303ff,0xd65f03c0\n"
-    ".reloc .Ltcp81+200,R_AARCH64_CALL26,.Ltcp79+0\n"
-    ".reloc .Ltcp81+360,R_AARCH64_CALL26,.Ltcp77+0\n"
-    ".reloc .Ltcp81+420,R_AARCH64_CALL26,.Ltcp79+0\n"
-    ".reloc .Ltcp81+688,R_AARCH64_CALL26,.Ltcp70+0\n"
-    ".reloc .Ltcp81+840,R_AARCH64_CALL26,.Ltcp77+0\n"
-    ".section .text.tcp.82,\"ax\",%progbits\n"
+    ".reloc .Ltcp82+200,R_AARCH64_CALL26,.Ltcp80+0\n"
+    ".reloc .Ltcp82+360,R_AARCH64_CALL26,.Ltcp78+0\n"
+    ".reloc .Ltcp82+420,R_AARCH64_CALL26,.Ltcp80+0\n"
+    ".reloc .Ltcp82+688,R_AARCH64_CALL26,.Ltcp71+0\n"
+    ".reloc .Ltcp82+840,R_AARCH64_CALL26,.Ltcp78+0\n"
+    ".section .text.tcp.83,\"ax\",%progbits\n"
     ".balign 4\n"
-    ".Ltcp82:\n"
+    ".Ltcp83:\n"
     ".type \"tcp_web::exports::put_fault::<#96589b6357422c20>\",%function\n"
     ".size \"tcp_web::exports::put_fault::<#96589b6357422c20>\",1556\n"
     "\"tcp_web::exports::put_fault::<#96589b6357422c20>\":\n"
@@ -12429,39 +12501,39 @@ __asm__(
     ".inst 0x3707d408,0x17ffff3d,0x910003e0,0x52800021,0x94000000,0x34ffd360,0xa940a3e9,0x17ffff32,0xd10063a8,0x910003e0\n"
     ".inst 0x52800042,0x91005901,0x94000000,0x12001c08,0x3707d248,0x17ffff4a,0x910003e0,0x52800041,0x94000000,0x34ffd1a0\n"
     ".inst 0xa940a3e9,0x17ffff3f\n"
-    ".reloc .Ltcp82+160,R_AARCH64_CALL26,.Ltcp85+0\n"
-    ".reloc .Ltcp82+172,R_AARCH64_ADR_PREL_PG_HI21,.Ltcp0+624\n"
-    ".reloc .Ltcp82+176,R_AARCH64_ADD_ABS_LO12_NC,.Ltcp0+624\n"
-    ".reloc .Ltcp82+204,R_AARCH64_ADR_PREL_PG_HI21,.Ltcp0+560\n"
-    ".reloc .Ltcp82+208,R_AARCH64_LDST128_ABS_LO12_NC,.Ltcp0+560\n"
-    ".reloc .Ltcp82+268,R_AARCH64_CALL26,.Ltcp85+0\n"
-    ".reloc .Ltcp82+280,R_AARCH64_ADR_PREL_PG_HI21,.Ltcp166+0\n"
-    ".reloc .Ltcp82+284,R_AARCH64_ADD_ABS_LO12_NC,.Ltcp166+0\n"
-    ".reloc .Ltcp82+312,R_AARCH64_ADR_PREL_PG_HI21,.Ltcp1+408\n"
-    ".reloc .Ltcp82+316,R_AARCH64_ADR_PREL_PG_HI21,.Ltcp1+416\n"
-    ".reloc .Ltcp82+324,R_AARCH64_LDST64_ABS_LO12_NC,.Ltcp1+408\n"
-    ".reloc .Ltcp82+328,R_AARCH64_LDST64_ABS_LO12_NC,.Ltcp1+416\n"
-    ".reloc .Ltcp82+548,R_AARCH64_ADR_PREL_PG_HI21,.Ltcp129+0\n"
-    ".reloc .Ltcp82+552,R_AARCH64_ADD_ABS_LO12_NC,.Ltcp129+0\n"
-    ".reloc .Ltcp82+560,R_AARCH64_ADR_PREL_PG_HI21,.Ltcp130+0\n"
-    ".reloc .Ltcp82+564,R_AARCH64_ADD_ABS_LO12_NC,.Ltcp130+0\n"
-    ".reloc .Ltcp82+1048,R_AARCH64_ADR_PREL_PG_HI21,.Ltcp94+0\n"
-    ".reloc .Ltcp82+1052,R_AARCH64_ADD_ABS_LO12_NC,.Ltcp94+0\n"
-    ".reloc .Ltcp82+1064,R_AARCH64_CALL26,.Ltcp83+0\n"
-    ".reloc .Ltcp82+1308,R_AARCH64_CALL26,.Ltcp85+0\n"
-    ".reloc .Ltcp82+1336,R_AARCH64_CALL26,.Ltcp83+0\n"
-    ".reloc .Ltcp82+1356,R_AARCH64_CALL26,.Ltcp83+0\n"
-    ".reloc .Ltcp82+1380,R_AARCH64_CALL26,.Ltcp85+0\n"
-    ".reloc .Ltcp82+1416,R_AARCH64_CALL26,.Ltcp85+0\n"
-    ".reloc .Ltcp82+1444,R_AARCH64_ADR_PREL_PG_HI21,.Ltcp97+0\n"
-    ".reloc .Ltcp82+1448,R_AARCH64_ADD_ABS_LO12_NC,.Ltcp97+0\n"
-    ".reloc .Ltcp82+1460,R_AARCH64_CALL26,.Ltcp83+0\n"
-    ".reloc .Ltcp82+1484,R_AARCH64_CALL26,.Ltcp85+0\n"
-    ".reloc .Ltcp82+1516,R_AARCH64_CALL26,.Ltcp83+0\n"
-    ".reloc .Ltcp82+1540,R_AARCH64_CALL26,.Ltcp85+0\n"
-    ".section .text.tcp.83,\"ax\",%progbits\n"
+    ".reloc .Ltcp83+160,R_AARCH64_CALL26,.Ltcp86+0\n"
+    ".reloc .Ltcp83+172,R_AARCH64_ADR_PREL_PG_HI21,.Ltcp0+624\n"
+    ".reloc .Ltcp83+176,R_AARCH64_ADD_ABS_LO12_NC,.Ltcp0+624\n"
+    ".reloc .Ltcp83+204,R_AARCH64_ADR_PREL_PG_HI21,.Ltcp0+560\n"
+    ".reloc .Ltcp83+208,R_AARCH64_LDST128_ABS_LO12_NC,.Ltcp0+560\n"
+    ".reloc .Ltcp83+268,R_AARCH64_CALL26,.Ltcp86+0\n"
+    ".reloc .Ltcp83+280,R_AARCH64_ADR_PREL_PG_HI21,.Ltcp167+0\n"
+    ".reloc .Ltcp83+284,R_AARCH64_ADD_ABS_LO12_NC,.Ltcp167+0\n"
+    ".reloc .Ltcp83+312,R_AARCH64_ADR_PREL_PG_HI21,.Ltcp1+408\n"
+    ".reloc .Ltcp83+316,R_AARCH64_ADR_PREL_PG_HI21,.Ltcp1+416\n"
+    ".reloc .Ltcp83+324,R_AARCH64_LDST64_ABS_LO12_NC,.Ltcp1+408\n"
+    ".reloc .Ltcp83+328,R_AARCH64_LDST64_ABS_LO12_NC,.Ltcp1+416\n"
+    ".reloc .Ltcp83+548,R_AARCH64_ADR_PREL_PG_HI21,.Ltcp130+0\n"
+    ".reloc .Ltcp83+552,R_AARCH64_ADD_ABS_LO12_NC,.Ltcp130+0\n"
+    ".reloc .Ltcp83+560,R_AARCH64_ADR_PREL_PG_HI21,.Ltcp131+0\n"
+    ".reloc .Ltcp83+564,R_AARCH64_ADD_ABS_LO12_NC,.Ltcp131+0\n"
+    ".reloc .Ltcp83+1048,R_AARCH64_ADR_PREL_PG_HI21,.Ltcp95+0\n"
+    ".reloc .Ltcp83+1052,R_AARCH64_ADD_ABS_LO12_NC,.Ltcp95+0\n"
+    ".reloc .Ltcp83+1064,R_AARCH64_CALL26,.Ltcp84+0\n"
+    ".reloc .Ltcp83+1308,R_AARCH64_CALL26,.Ltcp86+0\n"
+    ".reloc .Ltcp83+1336,R_AARCH64_CALL26,.Ltcp84+0\n"
+    ".reloc .Ltcp83+1356,R_AARCH64_CALL26,.Ltcp84+0\n"
+    ".reloc .Ltcp83+1380,R_AARCH64_CALL26,.Ltcp86+0\n"
+    ".reloc .Ltcp83+1416,R_AARCH64_CALL26,.Ltcp86+0\n"
+    ".reloc .Ltcp83+1444,R_AARCH64_ADR_PREL_PG_HI21,.Ltcp98+0\n"
+    ".reloc .Ltcp83+1448,R_AARCH64_ADD_ABS_LO12_NC,.Ltcp98+0\n"
+    ".reloc .Ltcp83+1460,R_AARCH64_CALL26,.Ltcp84+0\n"
+    ".reloc .Ltcp83+1484,R_AARCH64_CALL26,.Ltcp86+0\n"
+    ".reloc .Ltcp83+1516,R_AARCH64_CALL26,.Ltcp84+0\n"
+    ".reloc .Ltcp83+1540,R_AARCH64_CALL26,.Ltcp86+0\n"
+    ".section .text.tcp.84,\"ax\",%progbits\n"
     ".balign 4\n"
-    ".Ltcp83:\n"
+    ".Ltcp84:\n"
     ".type \"core::fmt::formatter::Formatter::write_indented::<#b0b7e8f0682f909d>\",%function\n"
     ".size \"core::fmt::formatter::Formatter::write_indented::<#b0b7e8f0682f909d>\",352\n"
     "\"core::fmt::formatter::Formatter::write_indented::<#b0b7e8f0682f909d>\":\n"
@@ -12474,17 +12546,17 @@ __asm__(
     ".inst 0x91000021,0xaa1303e0,0x52800082,0x94000000,0x12001c08,0x370001e8,0xf10006f7,0x54ffff01,0x8b160281,0xaa1303e0\n"
     ".inst 0xaa1503e2,0x3901027f,0xa9444ff4,0xa94357f6,0xf9400bf9,0xa9425ff8,0xa8c57bfd,0x14000000,0x2a1f03f7,0x14000002\n"
     ".inst 0x52800037,0x2a1703e0,0xa9444ff4,0xa94357f6,0xf9400bf9,0xa9425ff8,0xa8c57bfd,0xd65f03c0\n"
-    ".reloc .Ltcp83+72,R_AARCH64_CALL26,.Ltcp84+0\n"
-    ".reloc .Ltcp83+156,R_AARCH64_ADR_PREL_PG_HI21,.Ltcp92+8\n"
-    ".reloc .Ltcp83+160,R_AARCH64_ADD_ABS_LO12_NC,.Ltcp92+8\n"
-    ".reloc .Ltcp83+172,R_AARCH64_CALL26,.Ltcp84+0\n"
-    ".reloc .Ltcp83+236,R_AARCH64_ADR_PREL_PG_HI21,.Ltcp92+8\n"
-    ".reloc .Ltcp83+240,R_AARCH64_ADD_ABS_LO12_NC,.Ltcp92+8\n"
-    ".reloc .Ltcp83+252,R_AARCH64_CALL26,.Ltcp84+0\n"
-    ".reloc .Ltcp83+308,R_AARCH64_JUMP26,.Ltcp84+0\n"
-    ".section .text.tcp.84,\"ax\",%progbits\n"
+    ".reloc .Ltcp84+72,R_AARCH64_CALL26,.Ltcp85+0\n"
+    ".reloc .Ltcp84+156,R_AARCH64_ADR_PREL_PG_HI21,.Ltcp93+8\n"
+    ".reloc .Ltcp84+160,R_AARCH64_ADD_ABS_LO12_NC,.Ltcp93+8\n"
+    ".reloc .Ltcp84+172,R_AARCH64_CALL26,.Ltcp85+0\n"
+    ".reloc .Ltcp84+236,R_AARCH64_ADR_PREL_PG_HI21,.Ltcp93+8\n"
+    ".reloc .Ltcp84+240,R_AARCH64_ADD_ABS_LO12_NC,.Ltcp93+8\n"
+    ".reloc .Ltcp84+252,R_AARCH64_CALL26,.Ltcp85+0\n"
+    ".reloc .Ltcp84+308,R_AARCH64_JUMP26,.Ltcp85+0\n"
+    ".section .text.tcp.85,\"ax\",%progbits\n"
     ".balign 4\n"
-    ".Ltcp84:\n"
+    ".Ltcp85:\n"
     ".type \"core::fmt::formatter::Formatter::write_raw::<#b0b7e8f0682f909d>\",%function\n"
     ".size \"core::fmt::formatter::Formatter::write_raw::<#b0b7e8f0682f909d>\",612\n"
     "\"core::fmt::formatter::Formatter::write_raw::<#b0b7e8f0682f909d>\":\n"
@@ -12505,10 +12577,10 @@ __asm__(
     ".inst 0x8b0b012c,0xcb08016a,0x8b0b002b,0x8b0c028c,0xfc408560,0xb100214a,0xfc008580,0x54ffffa1,0xeb08005f,0x54fffb40\n"
     ".inst 0x17ffffca,0xaa0103f4,0xaa0203e1,0xaa0003f3,0xaa0203f5,0x94000000,0x340000c0,0xaa1303e0,0xa940ce69,0xaa1503e2\n"
     ".inst 0xaa1403e1,0x17ffffb1,0x52800028,0x17ffffcf\n"
-    ".reloc .Ltcp84+576,R_AARCH64_CALL26,.Ltcp85+0\n"
-    ".section .text.tcp.85,\"ax\",%progbits\n"
+    ".reloc .Ltcp85+576,R_AARCH64_CALL26,.Ltcp86+0\n"
+    ".section .text.tcp.86,\"ax\",%progbits\n"
     ".balign 4\n"
-    ".Ltcp85:\n"
+    ".Ltcp86:\n"
     ".type \"std_alloc::vec::Vec::grow_amortized::<#d75ad40d6e24f1b1>\",%function\n"
     ".size \"std_alloc::vec::Vec::grow_amortized::<#d75ad40d6e24f1b1>\",496\n"
     "\"std_alloc::vec::Vec::grow_amortized::<#d75ad40d6e24f1b1>\":\n"
@@ -12526,9 +12598,9 @@ __asm__(
     ".inst 0xaa1603e0,0x17ffffcd,0x927d0449,0x927be848,0x9100402a,0x9100426b,0x927be84c,0xad7f8540,0xf100818c,0x9100814a\n"
     ".inst 0xad3f8560,0x9100816b,0x54ffff61,0xeb08005f,0x54fff800,0xb4000149,0xaa0803e9,0x927df048,0xfc696820,0xfc296a60\n"
     ".inst 0x91002129,0xeb09011f,0x54ffff81,0xeb08005f,0x54fff6c0,0x38686829,0x38286a69,0x91000508,0x17fffffb\n"
-    ".section .text.tcp.86,\"ax\",%progbits\n"
+    ".section .text.tcp.87,\"ax\",%progbits\n"
     ".balign 4\n"
-    ".Ltcp86:\n"
+    ".Ltcp87:\n"
     ".type \"kit_report::report::push_end_line::<#fc995fe602e3aacb>\",%function\n"
     ".size \"kit_report::report::push_end_line::<#fc995fe602e3aacb>\",284\n"
     "\"kit_report::report::push_end_line::<#fc995fe602e3aacb>\":\n"
@@ -12540,16 +12612,16 @@ __asm__(
     ".inst 0x540001a0,0xf940026a,0x2a1f03e0,0x5280014b,0x3829694b,0x91000529,0xa900266a,0xf9000a68,0xa9474ff4,0xf94033f5\n"
     ".inst 0xa9457bfd,0x910203ff,0xd65f03c0,0xaa1303e0,0x52800021,0x94000000,0x2a0003e8,0x52800020,0x34fffce8,0xa940a269\n"
     ".inst 0x17ffffed\n"
-    ".reloc .Ltcp86+32,R_AARCH64_ADR_PREL_PG_HI21,.Ltcp92+44\n"
-    ".reloc .Ltcp86+36,R_AARCH64_ADD_ABS_LO12_NC,.Ltcp92+44\n"
-    ".reloc .Ltcp86+72,R_AARCH64_ADR_PREL_PG_HI21,.Ltcp97+0\n"
-    ".reloc .Ltcp86+76,R_AARCH64_ADD_ABS_LO12_NC,.Ltcp97+0\n"
-    ".reloc .Ltcp86+128,R_AARCH64_CALL26,.Ltcp87+0\n"
-    ".reloc .Ltcp86+156,R_AARCH64_CALL26,.Ltcp88+0\n"
-    ".reloc .Ltcp86+260,R_AARCH64_CALL26,.Ltcp77+0\n"
-    ".section .text.tcp.87,\"ax\",%progbits\n"
+    ".reloc .Ltcp87+32,R_AARCH64_ADR_PREL_PG_HI21,.Ltcp93+44\n"
+    ".reloc .Ltcp87+36,R_AARCH64_ADD_ABS_LO12_NC,.Ltcp93+44\n"
+    ".reloc .Ltcp87+72,R_AARCH64_ADR_PREL_PG_HI21,.Ltcp98+0\n"
+    ".reloc .Ltcp87+76,R_AARCH64_ADD_ABS_LO12_NC,.Ltcp98+0\n"
+    ".reloc .Ltcp87+128,R_AARCH64_CALL26,.Ltcp88+0\n"
+    ".reloc .Ltcp87+156,R_AARCH64_CALL26,.Ltcp89+0\n"
+    ".reloc .Ltcp87+260,R_AARCH64_CALL26,.Ltcp78+0\n"
+    ".section .text.tcp.88,\"ax\",%progbits\n"
     ".balign 4\n"
-    ".Ltcp87:\n"
+    ".Ltcp88:\n"
     ".type \"std_alloc::string::String::write_fmt::<#63f633939ab7fc33>\",%function\n"
     ".size \"std_alloc::string::String::write_fmt::<#63f633939ab7fc33>\",1820\n"
     "\"std_alloc::string::String::write_fmt::<#63f633939ab7fc33>\":\n"
@@ -12606,32 +12678,32 @@ __asm__(
     ".inst 0xf94007e9,0xb40001a9,0xeb08013f,0x54000160,0xeb09011f,0x54000183,0xeb09011f,0x52800020,0x54000149,0xf9400268\n"
     ".inst 0x38e96908,0x3101051f,0x5400008c,0x14000005,0xeb09011f,0x54000049,0xf9000669,0x52800020,0xa94e4ff4,0xa94d57f6\n"
     ".inst 0xa94c5ff8,0xa94b67fa,0xa94a6ffc,0xa9497bfd,0x9103c3ff,0xd65f03c0\n"
-    ".reloc .Ltcp87+240,R_AARCH64_ADR_PREL_PG_HI21,.Ltcp130+0\n"
-    ".reloc .Ltcp87+244,R_AARCH64_ADD_ABS_LO12_NC,.Ltcp130+0\n"
-    ".reloc .Ltcp87+268,R_AARCH64_ADR_PREL_PG_HI21,.Ltcp129+0\n"
-    ".reloc .Ltcp87+272,R_AARCH64_ADD_ABS_LO12_NC,.Ltcp129+0\n"
-    ".reloc .Ltcp87+608,R_AARCH64_CALL26,.Ltcp77+0\n"
-    ".reloc .Ltcp87+644,R_AARCH64_CALL26,.Ltcp70+0\n"
-    ".reloc .Ltcp87+668,R_AARCH64_CALL26,.Ltcp77+0\n"
-    ".reloc .Ltcp87+700,R_AARCH64_CALL26,.Ltcp70+0\n"
-    ".reloc .Ltcp87+836,R_AARCH64_CALL26,.Ltcp77+0\n"
-    ".reloc .Ltcp87+896,R_AARCH64_ADR_PREL_PG_HI21,.Ltcp180+0\n"
-    ".reloc .Ltcp87+900,R_AARCH64_ADD_ABS_LO12_NC,.Ltcp180+0\n"
-    ".reloc .Ltcp87+932,R_AARCH64_ADR_PREL_PG_HI21,.Ltcp181+0\n"
-    ".reloc .Ltcp87+936,R_AARCH64_ADD_ABS_LO12_NC,.Ltcp181+0\n"
-    ".reloc .Ltcp87+1012,R_AARCH64_CALL26,.Ltcp70+0\n"
-    ".reloc .Ltcp87+1044,R_AARCH64_CALL26,.Ltcp77+0\n"
-    ".reloc .Ltcp87+1264,R_AARCH64_CALL26,.Ltcp70+0\n"
-    ".reloc .Ltcp87+1400,R_AARCH64_CALL26,.Ltcp77+0\n"
-    ".reloc .Ltcp87+1460,R_AARCH64_ADR_PREL_PG_HI21,.Ltcp96+64\n"
-    ".reloc .Ltcp87+1464,R_AARCH64_ADD_ABS_LO12_NC,.Ltcp96+64\n"
-    ".reloc .Ltcp87+1500,R_AARCH64_ADR_PREL_PG_HI21,.Ltcp182+0\n"
-    ".reloc .Ltcp87+1504,R_AARCH64_ADD_ABS_LO12_NC,.Ltcp182+0\n"
-    ".reloc .Ltcp87+1580,R_AARCH64_CALL26,.Ltcp70+0\n"
-    ".reloc .Ltcp87+1628,R_AARCH64_CALL26,.Ltcp77+0\n"
-    ".section .text.tcp.88,\"ax\",%progbits\n"
+    ".reloc .Ltcp88+240,R_AARCH64_ADR_PREL_PG_HI21,.Ltcp131+0\n"
+    ".reloc .Ltcp88+244,R_AARCH64_ADD_ABS_LO12_NC,.Ltcp131+0\n"
+    ".reloc .Ltcp88+268,R_AARCH64_ADR_PREL_PG_HI21,.Ltcp130+0\n"
+    ".reloc .Ltcp88+272,R_AARCH64_ADD_ABS_LO12_NC,.Ltcp130+0\n"
+    ".reloc .Ltcp88+608,R_AARCH64_CALL26,.Ltcp78+0\n"
+    ".reloc .Ltcp88+644,R_AARCH64_CALL26,.Ltcp71+0\n"
+    ".reloc .Ltcp88+668,R_AARCH64_CALL26,.Ltcp78+0\n"
+    ".reloc .Ltcp88+700,R_AARCH64_CALL26,.Ltcp71+0\n"
+    ".reloc .Ltcp88+836,R_AARCH64_CALL26,.Ltcp78+0\n"
+    ".reloc .Ltcp88+896,R_AARCH64_ADR_PREL_PG_HI21,.Ltcp181+0\n"
+    ".reloc .Ltcp88+900,R_AARCH64_ADD_ABS_LO12_NC,.Ltcp181+0\n"
+    ".reloc .Ltcp88+932,R_AARCH64_ADR_PREL_PG_HI21,.Ltcp182+0\n"
+    ".reloc .Ltcp88+936,R_AARCH64_ADD_ABS_LO12_NC,.Ltcp182+0\n"
+    ".reloc .Ltcp88+1012,R_AARCH64_CALL26,.Ltcp71+0\n"
+    ".reloc .Ltcp88+1044,R_AARCH64_CALL26,.Ltcp78+0\n"
+    ".reloc .Ltcp88+1264,R_AARCH64_CALL26,.Ltcp71+0\n"
+    ".reloc .Ltcp88+1400,R_AARCH64_CALL26,.Ltcp78+0\n"
+    ".reloc .Ltcp88+1460,R_AARCH64_ADR_PREL_PG_HI21,.Ltcp97+64\n"
+    ".reloc .Ltcp88+1464,R_AARCH64_ADD_ABS_LO12_NC,.Ltcp97+64\n"
+    ".reloc .Ltcp88+1500,R_AARCH64_ADR_PREL_PG_HI21,.Ltcp183+0\n"
+    ".reloc .Ltcp88+1504,R_AARCH64_ADD_ABS_LO12_NC,.Ltcp183+0\n"
+    ".reloc .Ltcp88+1580,R_AARCH64_CALL26,.Ltcp71+0\n"
+    ".reloc .Ltcp88+1628,R_AARCH64_CALL26,.Ltcp78+0\n"
+    ".section .text.tcp.89,\"ax\",%progbits\n"
     ".balign 4\n"
-    ".Ltcp88:\n"
+    ".Ltcp89:\n"
     ".type \"kit_report::report::push_counts::<#fc995fe602e3aacb>\",%function\n"
     ".size \"kit_report::report::push_counts::<#fc995fe602e3aacb>\",1872\n"
     "\"kit_report::report::push_counts::<#fc995fe602e3aacb>\":\n"
@@ -12683,69 +12755,69 @@ __asm__(
     ".inst 0x34ffef00,0xa947e3e8,0xf9403bf7,0x8b150119,0x8b0802e0,0xcb140009,0xeb15013f,0x54fff883,0xaa1403e1,0xaa1503e2\n"
     "bl memcpy\n"
     ".inst 0xa90767f7,0x2a1f03e0,0xf90043f8,0xad4387e0,0xad0187e0,0xad000660,0x17ffff7c\n"
-    ".reloc .Ltcp88+36,R_AARCH64_ADR_PREL_PG_HI21,.Ltcp171+0\n"
-    ".reloc .Ltcp88+40,R_AARCH64_ADD_ABS_LO12_NC,.Ltcp171+0\n"
-    ".reloc .Ltcp88+56,R_AARCH64_ADR_PREL_PG_HI21,.Ltcp173+0\n"
-    ".reloc .Ltcp88+60,R_AARCH64_ADD_ABS_LO12_NC,.Ltcp173+0\n"
-    ".reloc .Ltcp88+80,R_AARCH64_ADR_PREL_PG_HI21,.Ltcp174+0\n"
-    ".reloc .Ltcp88+84,R_AARCH64_ADD_ABS_LO12_NC,.Ltcp174+0\n"
-    ".reloc .Ltcp88+116,R_AARCH64_ADR_PREL_PG_HI21,.Ltcp151+0\n"
-    ".reloc .Ltcp88+120,R_AARCH64_ADD_ABS_LO12_NC,.Ltcp151+0\n"
-    ".reloc .Ltcp88+128,R_AARCH64_ADR_PREL_PG_HI21,.Ltcp172+0\n"
-    ".reloc .Ltcp88+132,R_AARCH64_ADD_ABS_LO12_NC,.Ltcp172+0\n"
-    ".reloc .Ltcp88+184,R_AARCH64_ADR_PREL_PG_HI21,.Ltcp175+0\n"
-    ".reloc .Ltcp88+188,R_AARCH64_ADD_ABS_LO12_NC,.Ltcp175+0\n"
-    ".reloc .Ltcp88+200,R_AARCH64_ADR_PREL_PG_HI21,.Ltcp150+0\n"
-    ".reloc .Ltcp88+204,R_AARCH64_ADD_ABS_LO12_NC,.Ltcp150+0\n"
-    ".reloc .Ltcp88+216,R_AARCH64_ADR_PREL_PG_HI21,.Ltcp176+0\n"
-    ".reloc .Ltcp88+220,R_AARCH64_ADD_ABS_LO12_NC,.Ltcp176+0\n"
-    ".reloc .Ltcp88+348,R_AARCH64_ADR_PREL_PG_HI21,.Ltcp1+424\n"
-    ".reloc .Ltcp88+352,R_AARCH64_LDST64_ABS_LO12_NC,.Ltcp1+424\n"
-    ".reloc .Ltcp88+404,R_AARCH64_CALL26,.Ltcp72+0\n"
-    ".reloc .Ltcp88+492,R_AARCH64_ADR_PREL_PG_HI21,.Ltcp1+432\n"
-    ".reloc .Ltcp88+500,R_AARCH64_LDST64_ABS_LO12_NC,.Ltcp1+432\n"
-    ".reloc .Ltcp88+532,R_AARCH64_CALL26,.Ltcp77+0\n"
-    ".reloc .Ltcp88+548,R_AARCH64_ADR_PREL_PG_HI21,.Ltcp172+0\n"
-    ".reloc .Ltcp88+552,R_AARCH64_ADD_ABS_LO12_NC,.Ltcp172+0\n"
-    ".reloc .Ltcp88+564,R_AARCH64_CALL26,.Ltcp70+0\n"
-    ".reloc .Ltcp88+588,R_AARCH64_CALL26,.Ltcp77+0\n"
-    ".reloc .Ltcp88+660,R_AARCH64_CALL26,.Ltcp72+0\n"
-    ".reloc .Ltcp88+744,R_AARCH64_ADR_PREL_PG_HI21,.Ltcp1+440\n"
-    ".reloc .Ltcp88+748,R_AARCH64_LDST64_ABS_LO12_NC,.Ltcp1+440\n"
-    ".reloc .Ltcp88+768,R_AARCH64_ADR_PREL_PG_HI21,.Ltcp173+0\n"
-    ".reloc .Ltcp88+772,R_AARCH64_ADD_ABS_LO12_NC,.Ltcp173+0\n"
-    ".reloc .Ltcp88+784,R_AARCH64_CALL26,.Ltcp70+0\n"
-    ".reloc .Ltcp88+808,R_AARCH64_CALL26,.Ltcp77+0\n"
-    ".reloc .Ltcp88+876,R_AARCH64_CALL26,.Ltcp89+0\n"
-    ".reloc .Ltcp88+960,R_AARCH64_ADR_PREL_PG_HI21,.Ltcp1+448\n"
-    ".reloc .Ltcp88+964,R_AARCH64_LDST64_ABS_LO12_NC,.Ltcp1+448\n"
-    ".reloc .Ltcp88+984,R_AARCH64_ADR_PREL_PG_HI21,.Ltcp174+0\n"
-    ".reloc .Ltcp88+988,R_AARCH64_ADD_ABS_LO12_NC,.Ltcp174+0\n"
-    ".reloc .Ltcp88+1000,R_AARCH64_CALL26,.Ltcp70+0\n"
-    ".reloc .Ltcp88+1024,R_AARCH64_CALL26,.Ltcp77+0\n"
-    ".reloc .Ltcp88+1092,R_AARCH64_CALL26,.Ltcp89+0\n"
-    ".reloc .Ltcp88+1156,R_AARCH64_ADR_PREL_PG_HI21,.Ltcp175+0\n"
-    ".reloc .Ltcp88+1160,R_AARCH64_ADD_ABS_LO12_NC,.Ltcp175+0\n"
-    ".reloc .Ltcp88+1184,R_AARCH64_ADR_PREL_PG_HI21,.Ltcp1+456\n"
-    ".reloc .Ltcp88+1188,R_AARCH64_LDST64_ABS_LO12_NC,.Ltcp1+456\n"
-    ".reloc .Ltcp88+1244,R_AARCH64_CALL26,.Ltcp72+0\n"
-    ".reloc .Ltcp88+1424,R_AARCH64_ADR_PREL_PG_HI21,.Ltcp176+0\n"
-    ".reloc .Ltcp88+1428,R_AARCH64_ADD_ABS_LO12_NC,.Ltcp176+0\n"
-    ".reloc .Ltcp88+1452,R_AARCH64_ADR_PREL_PG_HI21,.Ltcp1+464\n"
-    ".reloc .Ltcp88+1460,R_AARCH64_LDST64_ABS_LO12_NC,.Ltcp1+464\n"
-    ".reloc .Ltcp88+1632,R_AARCH64_ADR_PREL_PG_HI21,.Ltcp175+0\n"
-    ".reloc .Ltcp88+1636,R_AARCH64_ADD_ABS_LO12_NC,.Ltcp175+0\n"
-    ".reloc .Ltcp88+1648,R_AARCH64_CALL26,.Ltcp70+0\n"
-    ".reloc .Ltcp88+1672,R_AARCH64_CALL26,.Ltcp77+0\n"
-    ".reloc .Ltcp88+1688,R_AARCH64_ADR_PREL_PG_HI21,.Ltcp176+0\n"
-    ".reloc .Ltcp88+1692,R_AARCH64_ADD_ABS_LO12_NC,.Ltcp176+0\n"
-    ".reloc .Ltcp88+1704,R_AARCH64_CALL26,.Ltcp70+0\n"
-    ".reloc .Ltcp88+1728,R_AARCH64_CALL26,.Ltcp77+0\n"
-    ".reloc .Ltcp88+1756,R_AARCH64_CALL26,.Ltcp70+0\n"
-    ".reloc .Ltcp88+1796,R_AARCH64_CALL26,.Ltcp77+0\n"
-    ".section .text.tcp.89,\"ax\",%progbits\n"
+    ".reloc .Ltcp89+36,R_AARCH64_ADR_PREL_PG_HI21,.Ltcp172+0\n"
+    ".reloc .Ltcp89+40,R_AARCH64_ADD_ABS_LO12_NC,.Ltcp172+0\n"
+    ".reloc .Ltcp89+56,R_AARCH64_ADR_PREL_PG_HI21,.Ltcp174+0\n"
+    ".reloc .Ltcp89+60,R_AARCH64_ADD_ABS_LO12_NC,.Ltcp174+0\n"
+    ".reloc .Ltcp89+80,R_AARCH64_ADR_PREL_PG_HI21,.Ltcp175+0\n"
+    ".reloc .Ltcp89+84,R_AARCH64_ADD_ABS_LO12_NC,.Ltcp175+0\n"
+    ".reloc .Ltcp89+116,R_AARCH64_ADR_PREL_PG_HI21,.Ltcp152+0\n"
+    ".reloc .Ltcp89+120,R_AARCH64_ADD_ABS_LO12_NC,.Ltcp152+0\n"
+    ".reloc .Ltcp89+128,R_AARCH64_ADR_PREL_PG_HI21,.Ltcp173+0\n"
+    ".reloc .Ltcp89+132,R_AARCH64_ADD_ABS_LO12_NC,.Ltcp173+0\n"
+    ".reloc .Ltcp89+184,R_AARCH64_ADR_PREL_PG_HI21,.Ltcp176+0\n"
+    ".reloc .Ltcp89+188,R_AARCH64_ADD_ABS_LO12_NC,.Ltcp176+0\n"
+    ".reloc .Ltcp89+200,R_AARCH64_ADR_PREL_PG_HI21,.Ltcp151+0\n"
+    ".reloc .Ltcp89+204,R_AARCH64_ADD_ABS_LO12_NC,.Ltcp151+0\n"
+    ".reloc .Ltcp89+216,R_AARCH64_ADR_PREL_PG_HI21,.Ltcp177+0\n"
+    ".reloc .Ltcp89+220,R_AARCH64_ADD_ABS_LO12_NC,.Ltcp177+0\n"
+    ".reloc .Ltcp89+348,R_AARCH64_ADR_PREL_PG_HI21,.Ltcp1+424\n"
+    ".reloc .Ltcp89+352,R_AARCH64_LDST64_ABS_LO12_NC,.Ltcp1+424\n"
+    ".reloc .Ltcp89+404,R_AARCH64_CALL26,.Ltcp73+0\n"
+    ".reloc .Ltcp89+492,R_AARCH64_ADR_PREL_PG_HI21,.Ltcp1+432\n"
+    ".reloc .Ltcp89+500,R_AARCH64_LDST64_ABS_LO12_NC,.Ltcp1+432\n"
+    ".reloc .Ltcp89+532,R_AARCH64_CALL26,.Ltcp78+0\n"
+    ".reloc .Ltcp89+548,R_AARCH64_ADR_PREL_PG_HI21,.Ltcp173+0\n"
+    ".reloc .Ltcp89+552,R_AARCH64_ADD_ABS_LO12_NC,.Ltcp173+0\n"
+    ".reloc .Ltcp89+564,R_AARCH64_CALL26,.Ltcp71+0\n"
+    ".reloc .Ltcp89+588,R_AARCH64_CALL26,.Ltcp78+0\n"
+    ".reloc .Ltcp89+660,R_AARCH64_CALL26,.Ltcp73+0\n"
+    ".reloc .Ltcp89+744,R_AARCH64_ADR_PREL_PG_HI21,.Ltcp1+440\n"
+    ".reloc .Ltcp89+748,R_AARCH64_LDST64_ABS_LO12_NC,.Ltcp1+440\n"
+    ".reloc .Ltcp89+768,R_AARCH64_ADR_PREL_PG_HI21,.Ltcp174+0\n"
+    ".reloc .Ltcp89+772,R_AARCH64_ADD_ABS_LO12_NC,.Ltcp174+0\n"
+    ".reloc .Ltcp89+784,R_AARCH64_CALL26,.Ltcp71+0\n"
+    ".reloc .Ltcp89+808,R_AARCH64_CALL26,.Ltcp78+0\n"
+    ".reloc .Ltcp89+876,R_AARCH64_CALL26,.Ltcp90+0\n"
+    ".reloc .Ltcp89+960,R_AARCH64_ADR_PREL_PG_HI21,.Ltcp1+448\n"
+    ".reloc .Ltcp89+964,R_AARCH64_LDST64_ABS_LO12_NC,.Ltcp1+448\n"
+    ".reloc .Ltcp89+984,R_AARCH64_ADR_PREL_PG_HI21,.Ltcp175+0\n"
+    ".reloc .Ltcp89+988,R_AARCH64_ADD_ABS_LO12_NC,.Ltcp175+0\n"
+    ".reloc .Ltcp89+1000,R_AARCH64_CALL26,.Ltcp71+0\n"
+    ".reloc .Ltcp89+1024,R_AARCH64_CALL26,.Ltcp78+0\n"
+    ".reloc .Ltcp89+1092,R_AARCH64_CALL26,.Ltcp90+0\n"
+    ".reloc .Ltcp89+1156,R_AARCH64_ADR_PREL_PG_HI21,.Ltcp176+0\n"
+    ".reloc .Ltcp89+1160,R_AARCH64_ADD_ABS_LO12_NC,.Ltcp176+0\n"
+    ".reloc .Ltcp89+1184,R_AARCH64_ADR_PREL_PG_HI21,.Ltcp1+456\n"
+    ".reloc .Ltcp89+1188,R_AARCH64_LDST64_ABS_LO12_NC,.Ltcp1+456\n"
+    ".reloc .Ltcp89+1244,R_AARCH64_CALL26,.Ltcp73+0\n"
+    ".reloc .Ltcp89+1424,R_AARCH64_ADR_PREL_PG_HI21,.Ltcp177+0\n"
+    ".reloc .Ltcp89+1428,R_AARCH64_ADD_ABS_LO12_NC,.Ltcp177+0\n"
+    ".reloc .Ltcp89+1452,R_AARCH64_ADR_PREL_PG_HI21,.Ltcp1+464\n"
+    ".reloc .Ltcp89+1460,R_AARCH64_LDST64_ABS_LO12_NC,.Ltcp1+464\n"
+    ".reloc .Ltcp89+1632,R_AARCH64_ADR_PREL_PG_HI21,.Ltcp176+0\n"
+    ".reloc .Ltcp89+1636,R_AARCH64_ADD_ABS_LO12_NC,.Ltcp176+0\n"
+    ".reloc .Ltcp89+1648,R_AARCH64_CALL26,.Ltcp71+0\n"
+    ".reloc .Ltcp89+1672,R_AARCH64_CALL26,.Ltcp78+0\n"
+    ".reloc .Ltcp89+1688,R_AARCH64_ADR_PREL_PG_HI21,.Ltcp177+0\n"
+    ".reloc .Ltcp89+1692,R_AARCH64_ADD_ABS_LO12_NC,.Ltcp177+0\n"
+    ".reloc .Ltcp89+1704,R_AARCH64_CALL26,.Ltcp71+0\n"
+    ".reloc .Ltcp89+1728,R_AARCH64_CALL26,.Ltcp78+0\n"
+    ".reloc .Ltcp89+1756,R_AARCH64_CALL26,.Ltcp71+0\n"
+    ".reloc .Ltcp89+1796,R_AARCH64_CALL26,.Ltcp78+0\n"
+    ".section .text.tcp.90,\"ax\",%progbits\n"
     ".balign 4\n"
-    ".Ltcp89:\n"
+    ".Ltcp90:\n"
     ".type \"core::fmt::formatter::Formatter::write_piece::<#9759a26100429c7f>\",%function\n"
     ".size \"core::fmt::formatter::Formatter::write_piece::<#9759a26100429c7f>\",464\n"
     "\"core::fmt::formatter::Formatter::write_piece::<#9759a26100429c7f>\":\n"
@@ -12763,11 +12835,11 @@ __asm__(
     ".inst 0x12001c00,0xa9444ff4,0xa94357f6,0xa9427bfd,0x910143ff,0xd65f03c0,0xaa0103f5,0xaa1303e0,0xaa0203e1,0xaa0203f6\n"
     ".inst 0x94000000,0x340000a0,0xa940d268,0xaa1503e1,0xaa1603e2,0x17ffffe3,0x52800020,0xa9444ff4,0xa94357f6,0xa9427bfd\n"
     ".inst 0x910143ff,0xd65f03c0\n"
-    ".reloc .Ltcp89+372,R_AARCH64_CALL26,.Ltcp70+0\n"
-    ".reloc .Ltcp89+416,R_AARCH64_CALL26,.Ltcp77+0\n"
-    ".section .text.tcp.90,\"ax\",%progbits\n"
+    ".reloc .Ltcp90+372,R_AARCH64_CALL26,.Ltcp71+0\n"
+    ".reloc .Ltcp90+416,R_AARCH64_CALL26,.Ltcp78+0\n"
+    ".section .text.tcp.91,\"ax\",%progbits\n"
     ".balign 4\n"
-    ".Ltcp90:\n"
+    ".Ltcp91:\n"
     ".globl tcp_web_list\n"
     ".hidden tcp_web_list\n"
     ".type tcp_web_list,%function\n"
@@ -12843,48 +12915,48 @@ __asm__(
     ".inst 0x9100816b,0x54ffff61,0xeb08005f,0x540001c0,0xb40001e9,0xaa0803ea,0x927df048,0x8b0a01cb,0xcb080149,0x8b0a002a\n"
     ".inst 0x8b0b01ab,0xfc408540,0xb1002129,0xfc008560,0x54ffffa1,0xeb08005f,0x54000061,0x2a1f03e0,0x17ffff5a,0x8b0801ca\n"
     ".inst 0xcb080049,0x8b080028,0x8b0a01aa,0x3840150b,0x2a1f03e0,0xf1000529,0x3800154b,0x54ffff81,0x17ffff50\n"
-    ".reloc .Ltcp90+260,R_AARCH64_CALL26,.Ltcp2+0\n"
-    ".reloc .Ltcp90+392,R_AARCH64_CALL26,.Ltcp3+0\n"
-    ".reloc .Ltcp90+492,R_AARCH64_CALL26,.Ltcp3+0\n"
-    ".reloc .Ltcp90+548,R_AARCH64_CALL26,.Ltcp6+0\n"
-    ".reloc .Ltcp90+580,R_AARCH64_CALL26,.Ltcp6+0\n"
-    ".reloc .Ltcp90+616,R_AARCH64_CALL26,.Ltcp8+0\n"
-    ".reloc .Ltcp90+640,R_AARCH64_ADR_PREL_PG_HI21,.Ltcp97+0\n"
-    ".reloc .Ltcp90+644,R_AARCH64_ADD_ABS_LO12_NC,.Ltcp97+0\n"
-    ".reloc .Ltcp90+704,R_AARCH64_CALL26,.Ltcp11+0\n"
-    ".reloc .Ltcp90+800,R_AARCH64_CALL26,.Ltcp14+0\n"
-    ".reloc .Ltcp90+868,R_AARCH64_CALL26,.Ltcp2+0\n"
-    ".reloc .Ltcp90+936,R_AARCH64_CALL26,.Ltcp3+0\n"
-    ".reloc .Ltcp90+948,R_AARCH64_ADR_PREL_PG_HI21,.Ltcp97+0\n"
-    ".reloc .Ltcp90+952,R_AARCH64_ADD_ABS_LO12_NC,.Ltcp97+0\n"
-    ".reloc .Ltcp90+964,R_AARCH64_CALL26,.Ltcp12+0\n"
-    ".reloc .Ltcp90+1004,R_AARCH64_CALL26,.Ltcp23+0\n"
-    ".reloc .Ltcp90+1032,R_AARCH64_CALL26,.Ltcp23+0\n"
-    ".reloc .Ltcp90+1048,R_AARCH64_ADR_PREL_PG_HI21,.Ltcp124+0\n"
-    ".reloc .Ltcp90+1052,R_AARCH64_ADD_ABS_LO12_NC,.Ltcp124+0\n"
-    ".reloc .Ltcp90+1076,R_AARCH64_ADR_PREL_PG_HI21,.Ltcp125+0\n"
-    ".reloc .Ltcp90+1080,R_AARCH64_ADD_ABS_LO12_NC,.Ltcp125+0\n"
-    ".reloc .Ltcp90+1104,R_AARCH64_ADR_PREL_PG_HI21,.Ltcp94+0\n"
-    ".reloc .Ltcp90+1108,R_AARCH64_ADD_ABS_LO12_NC,.Ltcp94+0\n"
-    ".reloc .Ltcp90+1192,R_AARCH64_ADR_PREL_PG_HI21,.Ltcp1+488\n"
-    ".reloc .Ltcp90+1196,R_AARCH64_LDST64_ABS_LO12_NC,.Ltcp1+488\n"
-    ".reloc .Ltcp90+1224,R_AARCH64_CALL26,.Ltcp11+0\n"
-    ".reloc .Ltcp90+1336,R_AARCH64_CALL26,.Ltcp11+0\n"
-    ".reloc .Ltcp90+1424,R_AARCH64_ADR_PREL_PG_HI21,.Ltcp1+496\n"
-    ".reloc .Ltcp90+1432,R_AARCH64_LDST64_ABS_LO12_NC,.Ltcp1+496\n"
-    ".reloc .Ltcp90+1464,R_AARCH64_CALL26,.Ltcp23+0\n"
-    ".reloc .Ltcp90+1756,R_AARCH64_ADR_PREL_PG_HI21,.Ltcp125+0\n"
-    ".reloc .Ltcp90+1760,R_AARCH64_ADD_ABS_LO12_NC,.Ltcp125+0\n"
-    ".reloc .Ltcp90+1772,R_AARCH64_CALL26,.Ltcp12+0\n"
-    ".reloc .Ltcp90+1796,R_AARCH64_CALL26,.Ltcp23+0\n"
-    ".reloc .Ltcp90+1864,R_AARCH64_CALL26,.Ltcp11+0\n"
-    ".reloc .Ltcp90+2148,R_AARCH64_ADR_PREL_PG_HI21,.Ltcp94+0\n"
-    ".reloc .Ltcp90+2152,R_AARCH64_ADD_ABS_LO12_NC,.Ltcp94+0\n"
-    ".reloc .Ltcp90+2164,R_AARCH64_CALL26,.Ltcp12+0\n"
-    ".reloc .Ltcp90+2200,R_AARCH64_CALL26,.Ltcp23+0\n"
-    ".section .text.tcp.91,\"ax\",%progbits\n"
+    ".reloc .Ltcp91+260,R_AARCH64_CALL26,.Ltcp2+0\n"
+    ".reloc .Ltcp91+392,R_AARCH64_CALL26,.Ltcp3+0\n"
+    ".reloc .Ltcp91+492,R_AARCH64_CALL26,.Ltcp3+0\n"
+    ".reloc .Ltcp91+548,R_AARCH64_CALL26,.Ltcp6+0\n"
+    ".reloc .Ltcp91+580,R_AARCH64_CALL26,.Ltcp6+0\n"
+    ".reloc .Ltcp91+616,R_AARCH64_CALL26,.Ltcp8+0\n"
+    ".reloc .Ltcp91+640,R_AARCH64_ADR_PREL_PG_HI21,.Ltcp98+0\n"
+    ".reloc .Ltcp91+644,R_AARCH64_ADD_ABS_LO12_NC,.Ltcp98+0\n"
+    ".reloc .Ltcp91+704,R_AARCH64_CALL26,.Ltcp11+0\n"
+    ".reloc .Ltcp91+800,R_AARCH64_CALL26,.Ltcp14+0\n"
+    ".reloc .Ltcp91+868,R_AARCH64_CALL26,.Ltcp2+0\n"
+    ".reloc .Ltcp91+936,R_AARCH64_CALL26,.Ltcp3+0\n"
+    ".reloc .Ltcp91+948,R_AARCH64_ADR_PREL_PG_HI21,.Ltcp98+0\n"
+    ".reloc .Ltcp91+952,R_AARCH64_ADD_ABS_LO12_NC,.Ltcp98+0\n"
+    ".reloc .Ltcp91+964,R_AARCH64_CALL26,.Ltcp12+0\n"
+    ".reloc .Ltcp91+1004,R_AARCH64_CALL26,.Ltcp23+0\n"
+    ".reloc .Ltcp91+1032,R_AARCH64_CALL26,.Ltcp23+0\n"
+    ".reloc .Ltcp91+1048,R_AARCH64_ADR_PREL_PG_HI21,.Ltcp125+0\n"
+    ".reloc .Ltcp91+1052,R_AARCH64_ADD_ABS_LO12_NC,.Ltcp125+0\n"
+    ".reloc .Ltcp91+1076,R_AARCH64_ADR_PREL_PG_HI21,.Ltcp126+0\n"
+    ".reloc .Ltcp91+1080,R_AARCH64_ADD_ABS_LO12_NC,.Ltcp126+0\n"
+    ".reloc .Ltcp91+1104,R_AARCH64_ADR_PREL_PG_HI21,.Ltcp95+0\n"
+    ".reloc .Ltcp91+1108,R_AARCH64_ADD_ABS_LO12_NC,.Ltcp95+0\n"
+    ".reloc .Ltcp91+1192,R_AARCH64_ADR_PREL_PG_HI21,.Ltcp1+488\n"
+    ".reloc .Ltcp91+1196,R_AARCH64_LDST64_ABS_LO12_NC,.Ltcp1+488\n"
+    ".reloc .Ltcp91+1224,R_AARCH64_CALL26,.Ltcp11+0\n"
+    ".reloc .Ltcp91+1336,R_AARCH64_CALL26,.Ltcp11+0\n"
+    ".reloc .Ltcp91+1424,R_AARCH64_ADR_PREL_PG_HI21,.Ltcp1+496\n"
+    ".reloc .Ltcp91+1432,R_AARCH64_LDST64_ABS_LO12_NC,.Ltcp1+496\n"
+    ".reloc .Ltcp91+1464,R_AARCH64_CALL26,.Ltcp23+0\n"
+    ".reloc .Ltcp91+1756,R_AARCH64_ADR_PREL_PG_HI21,.Ltcp126+0\n"
+    ".reloc .Ltcp91+1760,R_AARCH64_ADD_ABS_LO12_NC,.Ltcp126+0\n"
+    ".reloc .Ltcp91+1772,R_AARCH64_CALL26,.Ltcp12+0\n"
+    ".reloc .Ltcp91+1796,R_AARCH64_CALL26,.Ltcp23+0\n"
+    ".reloc .Ltcp91+1864,R_AARCH64_CALL26,.Ltcp11+0\n"
+    ".reloc .Ltcp91+2148,R_AARCH64_ADR_PREL_PG_HI21,.Ltcp95+0\n"
+    ".reloc .Ltcp91+2152,R_AARCH64_ADD_ABS_LO12_NC,.Ltcp95+0\n"
+    ".reloc .Ltcp91+2164,R_AARCH64_CALL26,.Ltcp12+0\n"
+    ".reloc .Ltcp91+2200,R_AARCH64_CALL26,.Ltcp23+0\n"
+    ".section .text.tcp.92,\"ax\",%progbits\n"
     ".balign 4\n"
-    ".Ltcp91:\n"
+    ".Ltcp92:\n"
     ".globl tcp_web_replay\n"
     ".hidden tcp_web_replay\n"
     ".type tcp_web_replay,%function\n"
@@ -12922,504 +12994,504 @@ __asm__(
     ".inst 0x9100416b,0x927be84c,0xad7f8540,0xf100818c,0x9100814a,0xad3f8560,0x9100816b,0x54ffff61,0xeb08005f,0x54fff900\n"
     ".inst 0xb4fffc29,0xaa0803ea,0x927df048,0x8b0a032b,0xcb080149,0x8b0a002a,0x8b0b026b,0xfc408540,0xb1002129,0xfc008560\n"
     ".inst 0x54ffffa1,0xeb08005f,0x54fff760,0x17ffffd4\n"
-    ".reloc .Ltcp91+128,R_AARCH64_CALL26,.Ltcp24+0\n"
-    ".reloc .Ltcp91+452,R_AARCH64_CALL26,.Ltcp30+0\n"
-    ".reloc .Ltcp91+512,R_AARCH64_CALL26,.Ltcp30+0\n"
-    ".reloc .Ltcp91+660,R_AARCH64_CALL26,.Ltcp31+0\n"
-    ".reloc .Ltcp91+720,R_AARCH64_CALL26,.Ltcp86+0\n"
-    ".reloc .Ltcp91+744,R_AARCH64_CALL26,.Ltcp86+0\n"
-    ".reloc .Ltcp91+808,R_AARCH64_CALL26,.Ltcp82+0\n"
-    ".section .rodata.tcp.92,\"a\",%progbits\n"
-    ".balign 1\n"
-    ".Ltcp92:\n"
-    ".octa 0x206f742020202020746e6577656d6163,0x74696d65646e6573736e75726566696c,0x20646e65656e6f6e6b63617376636572\n"
+    ".reloc .Ltcp92+128,R_AARCH64_CALL26,.Ltcp24+0\n"
+    ".reloc .Ltcp92+452,R_AARCH64_CALL26,.Ltcp30+0\n"
+    ".reloc .Ltcp92+512,R_AARCH64_CALL26,.Ltcp30+0\n"
+    ".reloc .Ltcp92+660,R_AARCH64_CALL26,.Ltcp31+0\n"
+    ".reloc .Ltcp92+720,R_AARCH64_CALL26,.Ltcp87+0\n"
+    ".reloc .Ltcp92+744,R_AARCH64_CALL26,.Ltcp87+0\n"
+    ".reloc .Ltcp92+808,R_AARCH64_CALL26,.Ltcp83+0\n"
     ".section .rodata.tcp.93,\"a\",%progbits\n"
     ".balign 1\n"
     ".Ltcp93:\n"
-    ".byte 0x2d\n"
+    ".octa 0x206f742020202020746e6577656d6163,0x74696d65646e6573736e75726566696c,0x20646e65656e6f6e6b63617376636572\n"
     ".section .rodata.tcp.94,\"a\",%progbits\n"
     ".balign 1\n"
     ".Ltcp94:\n"
-    ".byte 0xa\n"
+    ".byte 0x2d\n"
     ".section .rodata.tcp.95,\"a\",%progbits\n"
     ".balign 1\n"
     ".Ltcp95:\n"
+    ".byte 0xa\n"
     ".section .rodata.tcp.96,\"a\",%progbits\n"
-    ".balign 8\n"
+    ".balign 1\n"
     ".Ltcp96:\n"
+    ".section .rodata.tcp.97,\"a\",%progbits\n"
+    ".balign 8\n"
+    ".Ltcp97:\n"
     ".octa 0x34312065766f62612074666968732061,0x29332e32202c33323337204346522820,0x20657265687765736c652d7465736572\n"
     ".octa 0x646e6f636573202c342e372e30312e33,0x70000000000000009,0x70000000000000005\n"
-    ".section .rodata.tcp.97,\"a\",%progbits\n"
-    ".balign 1\n"
-    ".Ltcp97:\n"
-    ".byte 0x20\n"
     ".section .rodata.tcp.98,\"a\",%progbits\n"
     ".balign 1\n"
     ".Ltcp98:\n"
+    ".byte 0x20\n"
+    ".section .rodata.tcp.99,\"a\",%progbits\n"
+    ".balign 1\n"
+    ".Ltcp99:\n"
     ".octa 0x37303630353034303330323031303030,0x35313431333132313131303139303830,0x33323232313230323931383137313631\n"
     ".octa 0x31333033393238323732363235323432,0x39333833373336333533343333333233,0x37343634353434343334323431343034\n"
     ".octa 0x35353435333532353135303539343834,0x33363236313630363935383537353635,0x31373037393638363736363635363436\n"
     ".octa 0x39373837373736373537343733373237,0x37383638353834383338323831383038,0x35393439333932393139303939383838\n"
     ".quad 0x3939383937393639\n"
-    ".section .rodata.tcp.99,\"a\",%progbits\n"
-    ".balign 1\n"
-    ".Ltcp99:\n"
-    ".quad 0x6576726573657220\n"
-    ".short 0x2064\n"
     ".section .rodata.tcp.100,\"a\",%progbits\n"
     ".balign 1\n"
     ".Ltcp100:\n"
-    ".short 0x4341\n"
-    ".byte 0x4b\n"
+    ".quad 0x6576726573657220\n"
+    ".short 0x2064\n"
     ".section .rodata.tcp.101,\"a\",%progbits\n"
     ".balign 1\n"
     ".Ltcp101:\n"
-    ".long 0x2c4b4341\n"
-    ".short 0x5350\n"
-    ".byte 0x48\n"
+    ".short 0x4341\n"
+    ".byte 0x4b\n"
     ".section .rodata.tcp.102,\"a\",%progbits\n"
     ".balign 1\n"
     ".Ltcp102:\n"
-    ".short 0x5953\n"
-    ".byte 0x4e\n"
+    ".long 0x2c4b4341\n"
+    ".short 0x5350\n"
+    ".byte 0x48\n"
     ".section .rodata.tcp.103,\"a\",%progbits\n"
     ".balign 1\n"
     ".Ltcp103:\n"
-    ".long 0x2c4b4341\n"
     ".short 0x5953\n"
     ".byte 0x4e\n"
     ".section .rodata.tcp.104,\"a\",%progbits\n"
     ".balign 1\n"
     ".Ltcp104:\n"
     ".long 0x2c4b4341\n"
-    ".short 0x4946\n"
+    ".short 0x5953\n"
     ".byte 0x4e\n"
     ".section .rodata.tcp.105,\"a\",%progbits\n"
     ".balign 1\n"
     ".Ltcp105:\n"
     ".long 0x2c4b4341\n"
-    ".short 0x5352\n"
-    ".byte 0x54\n"
+    ".short 0x4946\n"
+    ".byte 0x4e\n"
     ".section .rodata.tcp.106,\"a\",%progbits\n"
     ".balign 1\n"
     ".Ltcp106:\n"
-    ".short 0x5743\n"
-    ".byte 0x52\n"
+    ".long 0x2c4b4341\n"
+    ".short 0x5352\n"
+    ".byte 0x54\n"
     ".section .rodata.tcp.107,\"a\",%progbits\n"
     ".balign 1\n"
     ".Ltcp107:\n"
-    ".short 0x4345\n"
-    ".byte 0x45\n"
+    ".short 0x5743\n"
+    ".byte 0x52\n"
     ".section .rodata.tcp.108,\"a\",%progbits\n"
     ".balign 1\n"
     ".Ltcp108:\n"
-    ".short 0x5255\n"
-    ".byte 0x47\n"
+    ".short 0x4345\n"
+    ".byte 0x45\n"
     ".section .rodata.tcp.109,\"a\",%progbits\n"
     ".balign 1\n"
     ".Ltcp109:\n"
-    ".short 0x5350\n"
-    ".byte 0x48\n"
+    ".short 0x5255\n"
+    ".byte 0x47\n"
     ".section .rodata.tcp.110,\"a\",%progbits\n"
     ".balign 1\n"
     ".Ltcp110:\n"
-    ".short 0x5352\n"
-    ".byte 0x54\n"
+    ".short 0x5350\n"
+    ".byte 0x48\n"
     ".section .rodata.tcp.111,\"a\",%progbits\n"
     ".balign 1\n"
     ".Ltcp111:\n"
-    ".short 0x4946\n"
-    ".byte 0x4e\n"
+    ".short 0x5352\n"
+    ".byte 0x54\n"
     ".section .rodata.tcp.112,\"a\",%progbits\n"
     ".balign 1\n"
     ".Ltcp112:\n"
-    ".byte 0x2c\n"
+    ".short 0x4946\n"
+    ".byte 0x4e\n"
     ".section .rodata.tcp.113,\"a\",%progbits\n"
     ".balign 1\n"
     ".Ltcp113:\n"
-    ".quad 0x736e6f6974706f20\n"
-    ".byte 0x20\n"
+    ".byte 0x2c\n"
     ".section .rodata.tcp.114,\"a\",%progbits\n"
     ".balign 1\n"
     ".Ltcp114:\n"
-    ".short 0x6f6e\n"
-    ".byte 0x70\n"
+    ".quad 0x736e6f6974706f20\n"
+    ".byte 0x20\n"
     ".section .rodata.tcp.115,\"a\",%progbits\n"
     ".balign 1\n"
     ".Ltcp115:\n"
-    ".short 0x7377\n"
-    ".byte 0x3a\n"
+    ".short 0x6f6e\n"
+    ".byte 0x70\n"
     ".section .rodata.tcp.116,\"a\",%progbits\n"
     ".balign 1\n"
     ".Ltcp116:\n"
-    ".long 0x6b636173\n"
-    ".short 0x6b6f\n"
+    ".short 0x7377\n"
+    ".byte 0x3a\n"
     ".section .rodata.tcp.117,\"a\",%progbits\n"
     ".balign 1\n"
     ".Ltcp117:\n"
     ".long 0x6b636173\n"
-    ".byte 0x3a\n"
+    ".short 0x6b6f\n"
     ".section .rodata.tcp.118,\"a\",%progbits\n"
     ".balign 1\n"
     ".Ltcp118:\n"
-    ".quad 0x656d726f666c616d\n"
-    ".short 0x2064\n"
+    ".long 0x6b636173\n"
+    ".byte 0x3a\n"
     ".section .rodata.tcp.119,\"a\",%progbits\n"
     ".balign 1\n"
     ".Ltcp119:\n"
-    ".long 0x4c6f6f54\n"
-    ".short 0x6e6f\n"
-    ".byte 0x67\n"
+    ".quad 0x656d726f666c616d\n"
+    ".short 0x2064\n"
     ".section .rodata.tcp.120,\"a\",%progbits\n"
     ".balign 1\n"
     ".Ltcp120:\n"
-    ".quad 0x6b63656843646142\n"
-    ".short 0x7573\n"
-    ".byte 0x6d\n"
+    ".long 0x4c6f6f54\n"
+    ".short 0x6e6f\n"
+    ".byte 0x67\n"
     ".section .rodata.tcp.121,\"a\",%progbits\n"
     ".balign 1\n"
     ".Ltcp121:\n"
-    ".quad 0x657366664f646142\n"
-    ".byte 0x74\n"
+    ".quad 0x6b63656843646142\n"
+    ".short 0x7573\n"
+    ".byte 0x6d\n"
     ".section .rodata.tcp.122,\"a\",%progbits\n"
     ".balign 1\n"
     ".Ltcp122:\n"
-    ".quad 0x6f6974704f646142\n"
-    ".long 0x7461206e\n"
-    ".byte 0x20\n"
+    ".quad 0x657366664f646142\n"
+    ".byte 0x74\n"
     ".section .rodata.tcp.123,\"a\",%progbits\n"
     ".balign 1\n"
     ".Ltcp123:\n"
-    ".quad 0x6964646150646142\n"
-    ".long 0x6120676e\n"
-    ".short 0x2074\n"
+    ".quad 0x6f6974704f646142\n"
+    ".long 0x7461206e\n"
+    ".byte 0x20\n"
     ".section .rodata.tcp.124,\"a\",%progbits\n"
     ".balign 1\n"
     ".Ltcp124:\n"
-    ".long 0x61746f74\n"
-    ".short 0x206c\n"
+    ".quad 0x6964646150646142\n"
+    ".long 0x6120676e\n"
+    ".short 0x2074\n"
     ".section .rodata.tcp.125,\"a\",%progbits\n"
     ".balign 1\n"
     ".Ltcp125:\n"
-    ".quad 0x6d726f666c616d20\n"
-    ".short 0x6465\n"
-    ".byte 0x20\n"
+    ".long 0x61746f74\n"
+    ".short 0x206c\n"
     ".section .rodata.tcp.126,\"a\",%progbits\n"
     ".balign 1\n"
     ".Ltcp126:\n"
-    ".long 0x666e6f63\n"
-    ".short 0x6769\n"
+    ".quad 0x6d726f666c616d20\n"
+    ".short 0x6465\n"
+    ".byte 0x20\n"
     ".section .rodata.tcp.127,\"a\",%progbits\n"
     ".balign 1\n"
     ".Ltcp127:\n"
-    ".long 0x65706572\n"
-    ".short 0x7461\n"
+    ".long 0x666e6f63\n"
+    ".short 0x6769\n"
     ".section .rodata.tcp.128,\"a\",%progbits\n"
     ".balign 1\n"
     ".Ltcp128:\n"
-    ".long 0x696d696c\n"
-    ".byte 0x74\n"
+    ".long 0x65706572\n"
+    ".short 0x7461\n"
     ".section .rodata.tcp.129,\"a\",%progbits\n"
     ".balign 1\n"
     ".Ltcp129:\n"
-    ".byte 0x41\n"
+    ".long 0x696d696c\n"
+    ".byte 0x74\n"
     ".section .rodata.tcp.130,\"a\",%progbits\n"
     ".balign 1\n"
     ".Ltcp130:\n"
-    ".byte 0x42\n"
+    ".byte 0x41\n"
     ".section .rodata.tcp.131,\"a\",%progbits\n"
     ".balign 1\n"
     ".Ltcp131:\n"
-    ".long 0x6e6e6f63\n"
-    ".short 0x6365\n"
-    ".byte 0x74\n"
+    ".byte 0x42\n"
     ".section .rodata.tcp.132,\"a\",%progbits\n"
     ".balign 1\n"
     ".Ltcp132:\n"
-    ".long 0x7473696c\n"
-    ".short 0x6e65\n"
+    ".long 0x6e6e6f63\n"
+    ".short 0x6365\n"
+    ".byte 0x74\n"
     ".section .rodata.tcp.133,\"a\",%progbits\n"
     ".balign 1\n"
     ".Ltcp133:\n"
-    ".long 0x65636572\n"
-    ".short 0x7669\n"
-    ".byte 0x65\n"
+    ".long 0x7473696c\n"
+    ".short 0x6e65\n"
     ".section .rodata.tcp.134,\"a\",%progbits\n"
     ".balign 1\n"
     ".Ltcp134:\n"
-    ".long 0x736f6c63\n"
+    ".long 0x65636572\n"
+    ".short 0x7669\n"
     ".byte 0x65\n"
     ".section .rodata.tcp.135,\"a\",%progbits\n"
     ".balign 1\n"
     ".Ltcp135:\n"
-    ".long 0x726f6261\n"
-    ".byte 0x74\n"
+    ".long 0x736f6c63\n"
+    ".byte 0x65\n"
     ".section .rodata.tcp.136,\"a\",%progbits\n"
     ".balign 1\n"
     ".Ltcp136:\n"
-    ".quad 0x656c776f6e6b6361\n"
-    ".short 0x6764\n"
-    ".byte 0x65\n"
+    ".long 0x726f6261\n"
+    ".byte 0x74\n"
     ".section .rodata.tcp.137,\"a\",%progbits\n"
     ".balign 1\n"
     ".Ltcp137:\n"
-    ".long 0x656d6974\n"
-    ".byte 0x72\n"
+    ".quad 0x656c776f6e6b6361\n"
+    ".short 0x6764\n"
+    ".byte 0x65\n"
     ".section .rodata.tcp.138,\"a\",%progbits\n"
     ".balign 1\n"
     ".Ltcp138:\n"
-    ".octa 0x656764656c776f6e6b63612d74696d65\n"
-    ".long 0x746e656d\n"
+    ".long 0x656d6974\n"
+    ".byte 0x72\n"
     ".section .rodata.tcp.139,\"a\",%progbits\n"
     ".balign 1\n"
     ".Ltcp139:\n"
-    ".quad 0x662d646e65736572\n"
-    ".long 0x74737269\n"
+    ".octa 0x656764656c776f6e6b63612d74696d65\n"
+    ".long 0x746e656d\n"
     ".section .rodata.tcp.140,\"a\",%progbits\n"
     ".balign 1\n"
     ".Ltcp140:\n"
-    ".long 0x696c6564\n"
-    ".short 0x6576\n"
-    ".byte 0x72\n"
+    ".quad 0x662d646e65736572\n"
+    ".long 0x74737269\n"
     ".section .rodata.tcp.141,\"a\",%progbits\n"
     ".balign 1\n"
     ".Ltcp141:\n"
-    ".long 0x616d6164\n"
-    ".short 0x6567\n"
+    ".long 0x696c6564\n"
+    ".short 0x6576\n"
+    ".byte 0x72\n"
     ".section .rodata.tcp.142,\"a\",%progbits\n"
     ".balign 1\n"
     ".Ltcp142:\n"
-    ".quad 0x6d736e6172746572\n"
-    ".short 0x7469\n"
+    ".long 0x616d6164\n"
+    ".short 0x6567\n"
     ".section .rodata.tcp.143,\"a\",%progbits\n"
     ".balign 1\n"
     ".Ltcp143:\n"
-    ".long 0x726f6572\n"
-    ".short 0x6564\n"
-    ".byte 0x72\n"
+    ".quad 0x6d736e6172746572\n"
+    ".short 0x7469\n"
     ".section .rodata.tcp.144,\"a\",%progbits\n"
     ".balign 1\n"
     ".Ltcp144:\n"
-    ".long 0x66696873\n"
-    ".byte 0x74\n"
+    ".long 0x726f6572\n"
+    ".short 0x6564\n"
+    ".byte 0x72\n"
     ".section .rodata.tcp.145,\"a\",%progbits\n"
     ".balign 1\n"
     ".Ltcp145:\n"
-    ".short 0x6b6f\n"
-    ".byte 0x20\n"
+    ".long 0x66696873\n"
+    ".byte 0x74\n"
     ".section .rodata.tcp.146,\"a\",%progbits\n"
     ".balign 1\n"
     ".Ltcp146:\n"
-    ".long 0x6b6f6f74\n"
+    ".short 0x6b6f\n"
     ".byte 0x20\n"
     ".section .rodata.tcp.147,\"a\",%progbits\n"
     ".balign 1\n"
     ".Ltcp147:\n"
-    ".long 0x65747962\n"
-    ".short 0x2073\n"
+    ".long 0x6b6f6f74\n"
+    ".byte 0x20\n"
     ".section .rodata.tcp.148,\"a\",%progbits\n"
     ".balign 1\n"
     ".Ltcp148:\n"
-    ".long 0x68746f6e\n"
-    ".short 0x6e69\n"
-    ".byte 0x67\n"
+    ".long 0x65747962\n"
+    ".short 0x2073\n"
     ".section .rodata.tcp.149,\"a\",%progbits\n"
     ".balign 1\n"
     ".Ltcp149:\n"
-    ".short 0x6e65\n"
-    ".byte 0x64\n"
+    ".long 0x68746f6e\n"
+    ".short 0x6e69\n"
+    ".byte 0x67\n"
     ".section .rodata.tcp.150,\"a\",%progbits\n"
     ".balign 1\n"
     ".Ltcp150:\n"
-    ".short 0x6579\n"
-    ".byte 0x73\n"
+    ".short 0x6e65\n"
+    ".byte 0x64\n"
     ".section .rodata.tcp.151,\"a\",%progbits\n"
     ".balign 1\n"
     ".Ltcp151:\n"
-    ".short 0x6f6e\n"
+    ".short 0x6579\n"
+    ".byte 0x73\n"
     ".section .rodata.tcp.152,\"a\",%progbits\n"
     ".balign 1\n"
     ".Ltcp152:\n"
-    ".long 0x67616c66\n"
-    ".short 0x2073\n"
+    ".short 0x6f6e\n"
     ".section .rodata.tcp.153,\"a\",%progbits\n"
     ".balign 1\n"
     ".Ltcp153:\n"
-    ".long 0x706f7264\n"
-    ".short 0x6570\n"
-    ".byte 0x64\n"
+    ".long 0x67616c66\n"
+    ".short 0x2073\n"
     ".section .rodata.tcp.154,\"a\",%progbits\n"
     ".balign 1\n"
     ".Ltcp154:\n"
-    ".quad 0x65737365636f7270\n"
+    ".long 0x706f7264\n"
+    ".short 0x6570\n"
     ".byte 0x64\n"
     ".section .rodata.tcp.155,\"a\",%progbits\n"
     ".balign 1\n"
     ".Ltcp155:\n"
-    ".long 0x534f4c43\n"
-    ".short 0x4445\n"
+    ".quad 0x65737365636f7270\n"
+    ".byte 0x64\n"
     ".section .rodata.tcp.156,\"a\",%progbits\n"
     ".balign 1\n"
     ".Ltcp156:\n"
-    ".long 0x5453494c\n"
-    ".short 0x4e45\n"
+    ".long 0x534f4c43\n"
+    ".short 0x4445\n"
     ".section .rodata.tcp.157,\"a\",%progbits\n"
     ".balign 1\n"
     ".Ltcp157:\n"
-    ".quad 0x454345522d4e5953\n"
-    ".long 0x44455649\n"
+    ".long 0x5453494c\n"
+    ".short 0x4e45\n"
     ".section .rodata.tcp.158,\"a\",%progbits\n"
     ".balign 1\n"
     ".Ltcp158:\n"
-    ".quad 0x53494c4241545345\n"
-    ".short 0x4548\n"
-    ".byte 0x44\n"
+    ".quad 0x454345522d4e5953\n"
+    ".long 0x44455649\n"
     ".section .rodata.tcp.159,\"a\",%progbits\n"
     ".balign 1\n"
     ".Ltcp159:\n"
-    ".quad 0x544941572d4e4946\n"
-    ".short 0x312d\n"
+    ".quad 0x53494c4241545345\n"
+    ".short 0x4548\n"
+    ".byte 0x44\n"
     ".section .rodata.tcp.160,\"a\",%progbits\n"
     ".balign 1\n"
     ".Ltcp160:\n"
     ".quad 0x544941572d4e4946\n"
-    ".short 0x322d\n"
+    ".short 0x312d\n"
     ".section .rodata.tcp.161,\"a\",%progbits\n"
     ".balign 1\n"
     ".Ltcp161:\n"
-    ".quad 0x41572d45534f4c43\n"
-    ".short 0x5449\n"
+    ".quad 0x544941572d4e4946\n"
+    ".short 0x322d\n"
     ".section .rodata.tcp.162,\"a\",%progbits\n"
     ".balign 1\n"
     ".Ltcp162:\n"
-    ".long 0x534f4c43\n"
-    ".short 0x4e49\n"
-    ".byte 0x47\n"
+    ".quad 0x41572d45534f4c43\n"
+    ".short 0x5449\n"
     ".section .rodata.tcp.163,\"a\",%progbits\n"
     ".balign 1\n"
     ".Ltcp163:\n"
-    ".quad 0x4941572d454d4954\n"
-    ".byte 0x54\n"
+    ".long 0x534f4c43\n"
+    ".short 0x4e49\n"
+    ".byte 0x47\n"
     ".section .rodata.tcp.164,\"a\",%progbits\n"
     ".balign 1\n"
     ".Ltcp164:\n"
-    ".quad 0x6465737566657220\n"
-    ".byte 0x20\n"
+    ".quad 0x4941572d454d4954\n"
+    ".byte 0x54\n"
     ".section .rodata.tcp.165,\"a\",%progbits\n"
     ".balign 1\n"
     ".Ltcp165:\n"
-    ".long 0x656e6f64\n"
+    ".quad 0x6465737566657220\n"
     ".byte 0x20\n"
     ".section .rodata.tcp.166,\"a\",%progbits\n"
     ".balign 1\n"
     ".Ltcp166:\n"
-    ".quad 0x203a74696b706374\n"
-    ".long 0x666e6f63\n"
-    ".short 0x6769\n"
+    ".long 0x656e6f64\n"
     ".byte 0x20\n"
     ".section .rodata.tcp.167,\"a\",%progbits\n"
     ".balign 1\n"
     ".Ltcp167:\n"
-    ".quad 0x65646e652d746f6e\n"
-    ".byte 0x64\n"
+    ".quad 0x203a74696b706374\n"
+    ".long 0x666e6f63\n"
+    ".short 0x6769\n"
+    ".byte 0x20\n"
     ".section .rodata.tcp.168,\"a\",%progbits\n"
     ".balign 1\n"
     ".Ltcp168:\n"
-    ".long 0x6564726f\n"
-    ".short 0x6c72\n"
-    ".byte 0x79\n"
+    ".quad 0x65646e652d746f6e\n"
+    ".byte 0x64\n"
     ".section .rodata.tcp.169,\"a\",%progbits\n"
     ".balign 1\n"
     ".Ltcp169:\n"
-    ".long 0x65736572\n"
-    ".byte 0x74\n"
+    ".long 0x6564726f\n"
+    ".short 0x6c72\n"
+    ".byte 0x79\n"
     ".section .rodata.tcp.170,\"a\",%progbits\n"
     ".balign 1\n"
     ".Ltcp170:\n"
-    ".long 0x726f6261\n"
-    ".short 0x6574\n"
-    ".byte 0x64\n"
+    ".long 0x65736572\n"
+    ".byte 0x74\n"
     ".section .rodata.tcp.171,\"a\",%progbits\n"
     ".balign 1\n"
     ".Ltcp171:\n"
-    ".quad 0x6574706563636120\n"
-    ".short 0x2064\n"
+    ".long 0x726f6261\n"
+    ".short 0x6574\n"
+    ".byte 0x64\n"
     ".section .rodata.tcp.172,\"a\",%progbits\n"
     ".balign 1\n"
     ".Ltcp172:\n"
-    ".quad 0x726576696c656420\n"
-    ".short 0x6465\n"
-    ".byte 0x20\n"
+    ".quad 0x6574706563636120\n"
+    ".short 0x2064\n"
     ".section .rodata.tcp.173,\"a\",%progbits\n"
     ".balign 1\n"
     ".Ltcp173:\n"
-    ".quad 0x657361656c657220\n"
-    ".short 0x2064\n"
+    ".quad 0x726576696c656420\n"
+    ".short 0x6465\n"
+    ".byte 0x20\n"
     ".section .rodata.tcp.174,\"a\",%progbits\n"
     ".balign 1\n"
     ".Ltcp174:\n"
-    ".quad 0x6465726564726f20\n"
-    ".byte 0x20\n"
+    ".quad 0x657361656c657220\n"
+    ".short 0x2064\n"
     ".section .rodata.tcp.175,\"a\",%progbits\n"
     ".balign 1\n"
     ".Ltcp175:\n"
-    ".long 0x6e657320\n"
-    ".short 0x2074\n"
+    ".quad 0x6465726564726f20\n"
+    ".byte 0x20\n"
     ".section .rodata.tcp.176,\"a\",%progbits\n"
     ".balign 1\n"
     ".Ltcp176:\n"
+    ".long 0x6e657320\n"
+    ".short 0x2074\n"
+    ".section .rodata.tcp.177,\"a\",%progbits\n"
+    ".balign 1\n"
+    ".Ltcp177:\n"
     ".long 0x646e6520\n"
     ".short 0x6465\n"
     ".byte 0x20\n"
-    ".section .rodata.tcp.177,\"a\",%progbits\n"
-    ".balign 8\n"
-    ".Ltcp177:\n"
-    ".octa 0x20000000000000002,0x20000000000000002,0x20000000000000003\n"
-    ".octa 0x30000000000000003\n"
     ".section .rodata.tcp.178,\"a\",%progbits\n"
     ".balign 8\n"
     ".Ltcp178:\n"
-    ".octa 0x7000000000000000a\n"
-    ".quad 0x8\n"
-    ".section .data.rel.ro.tcp.179,\"aw\",%progbits\n"
+    ".octa 0x20000000000000002,0x20000000000000002,0x20000000000000003\n"
+    ".octa 0x30000000000000003\n"
+    ".section .rodata.tcp.179,\"a\",%progbits\n"
     ".balign 8\n"
     ".Ltcp179:\n"
-    ".octa 0x0\n"
-    ".quad 0x0\n"
-    ".reloc .Ltcp179+0,R_AARCH64_ABS64,.Ltcp142+0\n"
-    ".reloc .Ltcp179+8,R_AARCH64_ABS64,.Ltcp143+0\n"
-    ".reloc .Ltcp179+16,R_AARCH64_ABS64,.Ltcp1+528\n"
-    ".section .rodata.tcp.180,\"a\",%progbits\n"
+    ".octa 0x7000000000000000a\n"
+    ".quad 0x8\n"
+    ".section .data.rel.ro.tcp.180,\"aw\",%progbits\n"
     ".balign 8\n"
     ".Ltcp180:\n"
+    ".octa 0x0\n"
+    ".quad 0x0\n"
+    ".reloc .Ltcp180+0,R_AARCH64_ABS64,.Ltcp143+0\n"
+    ".reloc .Ltcp180+8,R_AARCH64_ABS64,.Ltcp144+0\n"
+    ".reloc .Ltcp180+16,R_AARCH64_ABS64,.Ltcp1+528\n"
+    ".section .rodata.tcp.181,\"a\",%progbits\n"
+    ".balign 8\n"
+    ".Ltcp181:\n"
     ".octa 0x60000000000000006,0xc0000000000000008,0xa000000000000000b\n"
     ".octa 0xa000000000000000a,0x80000000000000007\n"
     ".quad 0x9\n"
-    ".section .data.rel.ro.tcp.181,\"aw\",%progbits\n"
-    ".balign 8\n"
-    ".Ltcp181:\n"
-    ".octa 0x0,0x0,0x0\n"
-    ".octa 0x0,0x0\n"
-    ".quad 0x0\n"
-    ".reloc .Ltcp181+0,R_AARCH64_ABS64,.Ltcp155+0\n"
-    ".reloc .Ltcp181+8,R_AARCH64_ABS64,.Ltcp156+0\n"
-    ".reloc .Ltcp181+16,R_AARCH64_ABS64,.Ltcp1+536\n"
-    ".reloc .Ltcp181+24,R_AARCH64_ABS64,.Ltcp157+0\n"
-    ".reloc .Ltcp181+32,R_AARCH64_ABS64,.Ltcp158+0\n"
-    ".reloc .Ltcp181+40,R_AARCH64_ABS64,.Ltcp159+0\n"
-    ".reloc .Ltcp181+48,R_AARCH64_ABS64,.Ltcp160+0\n"
-    ".reloc .Ltcp181+56,R_AARCH64_ABS64,.Ltcp161+0\n"
-    ".reloc .Ltcp181+64,R_AARCH64_ABS64,.Ltcp162+0\n"
-    ".reloc .Ltcp181+72,R_AARCH64_ABS64,.Ltcp1+544\n"
-    ".reloc .Ltcp181+80,R_AARCH64_ABS64,.Ltcp163+0\n"
     ".section .data.rel.ro.tcp.182,\"aw\",%progbits\n"
     ".balign 8\n"
     ".Ltcp182:\n"
+    ".octa 0x0,0x0,0x0\n"
     ".octa 0x0,0x0\n"
-    ".reloc .Ltcp182+0,R_AARCH64_ABS64,.Ltcp167+0\n"
-    ".reloc .Ltcp182+8,R_AARCH64_ABS64,.Ltcp168+0\n"
-    ".reloc .Ltcp182+16,R_AARCH64_ABS64,.Ltcp169+0\n"
-    ".reloc .Ltcp182+24,R_AARCH64_ABS64,.Ltcp170+0\n"
+    ".quad 0x0\n"
+    ".reloc .Ltcp182+0,R_AARCH64_ABS64,.Ltcp156+0\n"
+    ".reloc .Ltcp182+8,R_AARCH64_ABS64,.Ltcp157+0\n"
+    ".reloc .Ltcp182+16,R_AARCH64_ABS64,.Ltcp1+536\n"
+    ".reloc .Ltcp182+24,R_AARCH64_ABS64,.Ltcp158+0\n"
+    ".reloc .Ltcp182+32,R_AARCH64_ABS64,.Ltcp159+0\n"
+    ".reloc .Ltcp182+40,R_AARCH64_ABS64,.Ltcp160+0\n"
+    ".reloc .Ltcp182+48,R_AARCH64_ABS64,.Ltcp161+0\n"
+    ".reloc .Ltcp182+56,R_AARCH64_ABS64,.Ltcp162+0\n"
+    ".reloc .Ltcp182+64,R_AARCH64_ABS64,.Ltcp163+0\n"
+    ".reloc .Ltcp182+72,R_AARCH64_ABS64,.Ltcp1+544\n"
+    ".reloc .Ltcp182+80,R_AARCH64_ABS64,.Ltcp164+0\n"
+    ".section .data.rel.ro.tcp.183,\"aw\",%progbits\n"
+    ".balign 8\n"
+    ".Ltcp183:\n"
+    ".octa 0x0,0x0\n"
+    ".reloc .Ltcp183+0,R_AARCH64_ABS64,.Ltcp168+0\n"
+    ".reloc .Ltcp183+8,R_AARCH64_ABS64,.Ltcp169+0\n"
+    ".reloc .Ltcp183+16,R_AARCH64_ABS64,.Ltcp170+0\n"
+    ".reloc .Ltcp183+24,R_AARCH64_ABS64,.Ltcp171+0\n"
     ".popsection\n"
 );
 #endif
@@ -14063,6 +14135,7 @@ static void w2c_tcp_sendq__queue__SendQueue__release(Machine *, u64, u64);
 static void w2c_tcp_replay__party__Party__emit(Machine *, u64, u64, u64, u32);
 static void w2c_tcp_replay__party__Party__take_in(Machine *, u64, u64, u64, u64, u64);
 static u32 w2c_std_alloc__vec__Vec__move_to____1c00de6245c6bd34_(Machine *, u64, u64);
+static void w2c_tcp_sendq__marks__Marks__remove_range(Machine *, u64, u64, u64);
 static void w2c_tcp_replay__growth__emit_alone(Machine *, u64, u64, u64, u64);
 static void w2c_tcp_halves__sender__Sender__due(Machine *, u64, u64, u32, u32, u32);
 static u32 w2c_tcp_numbers__parts__checksum_in_parts(Machine *, u32, u32, u64, u64, u64, u64, u64, u64);
@@ -40740,7 +40813,7 @@ static void w2c_kit_script__settings__read_switch(Machine * instance, u64 w2c_p0
 static void w2c_tcp_replay__party__Party__new_in(Machine * instance, u64 w2c_p0, u64 w2c_p1, u64 w2c_p2, u64 w2c_p3) {
   const u8 *near0;
   u32 w2c_l14 = 0, w2c_l15 = 0, w2c_l16 = 0, w2c_l17 = 0, w2c_l18 = 0, w2c_l19 = 0, w2c_l20 = 0, w2c_l21 = 0, 
-      w2c_l22 = 0;
+      w2c_l22 = 0, w2c_l23 = 0;
   u64 w2c_l4 = 0, w2c_l5 = 0, w2c_l6 = 0, w2c_l7 = 0, w2c_l8 = 0, w2c_l9 = 0, w2c_l10 = 0, w2c_l11 = 0, 
       w2c_l12 = 0, w2c_l13 = 0;
   u32 w2c_i0, w2c_i1, w2c_i2, w2c_i4;
@@ -41587,14 +41660,16 @@ static void w2c_tcp_replay__party__Party__new_in(Machine * instance, u64 w2c_p0,
   w2c_l9 = w2c_j0;
   w2c_j0 = 0ull;
   w2c_p2 = w2c_j0;
-  w2c_j0 = 0ull;
-  w2c_p3 = w2c_j0;
+  w2c_i0 = 0u;
+  w2c_l21 = w2c_i0;
   w2c_j0 = 0ull;
   w2c_l11 = w2c_j0;
   w2c_j0 = 0ull;
+  w2c_p3 = w2c_j0;
+  w2c_j0 = 0ull;
   w2c_l10 = w2c_j0;
   w2c_i0 = 0u;
-  w2c_l21 = w2c_i0;
+  w2c_l22 = w2c_i0;
   w2c_j0 = 0ull;
   w2c_l12 = w2c_j0;
   goto w2c_B2;
@@ -41631,9 +41706,12 @@ static void w2c_tcp_replay__party__Party__new_in(Machine * instance, u64 w2c_p0,
   w2c_j1 += w2c_j2;
   i64_store(&instance->w2c_memory, (u64)(w2c_i0), w2c_j1);
   w2c_B3:;
-  w2c_j0 = w2c_l6;
+  w2c_j0 = w2c_p3;
   w2c_i0 = (u32)(w2c_j0);
   w2c_l21 = w2c_i0;
+  w2c_j0 = w2c_l6;
+  w2c_i0 = (u32)(w2c_j0);
+  w2c_l22 = w2c_i0;
   w2c_j0 = w2c_l4;
   w2c_i0 = (u32)(w2c_j0);
   w2c_j1 = w2c_l4;
@@ -41894,7 +41972,7 @@ static void w2c_tcp_replay__party__Party__new_in(Machine * instance, u64 w2c_p0,
   w2c_j1 = 0ull;
   i64_store(&instance->w2c_memory, (u64)(w2c_i0) + 568, w2c_j1);
   w2c_i0 = 0u;
-  w2c_l22 = w2c_i0;
+  w2c_l23 = w2c_i0;
   w2c_j0 = w2c_l4;
   w2c_i0 = (u32)(w2c_j0);
   w2c_i1 = 0u;
@@ -42001,14 +42079,16 @@ static void w2c_tcp_replay__party__Party__new_in(Machine * instance, u64 w2c_p0,
   w2c_l9 = w2c_j0;
   w2c_j0 = 0ull;
   w2c_p2 = w2c_j0;
-  w2c_j0 = 0ull;
-  w2c_p3 = w2c_j0;
+  w2c_i0 = 0u;
+  w2c_l21 = w2c_i0;
   w2c_j0 = 0ull;
   w2c_l11 = w2c_j0;
   w2c_j0 = 0ull;
+  w2c_p3 = w2c_j0;
+  w2c_j0 = 0ull;
   w2c_l10 = w2c_j0;
   w2c_i0 = 0u;
-  w2c_l21 = w2c_i0;
+  w2c_l22 = w2c_i0;
   w2c_j0 = 0ull;
   w2c_l12 = w2c_j0;
   goto w2c_B17;
@@ -42159,7 +42239,7 @@ static void w2c_tcp_replay__party__Party__new_in(Machine * instance, u64 w2c_p0,
   w2c_i0 = 0u;
   w2c_l19 = w2c_i0;
   w2c_i0 = w2c_l17;
-  w2c_l22 = w2c_i0;
+  w2c_l23 = w2c_i0;
   w2c_j0 = w2c_l8;
   w2c_l7 = w2c_j0;
   w2c_B17:;
@@ -42363,7 +42443,7 @@ static void w2c_tcp_replay__party__Party__new_in(Machine * instance, u64 w2c_p0,
   w2c_j1 = 20ull;
   w2c_j0 += w2c_j1;
   w2c_i0 = (u32)(w2c_j0);
-  w2c_i1 = w2c_l22;
+  w2c_i1 = w2c_l23;
   i32_store16(&instance->w2c_memory, (u64)(w2c_i0), w2c_i1);
   w2c_j0 = w2c_p0;
   w2c_j1 = 42ull;
@@ -42452,11 +42532,17 @@ static void w2c_tcp_replay__party__Party__new_in(Machine * instance, u64 w2c_p0,
   w2c_j1 = w2c_l11;
   i64_store(&instance->w2c_memory, (u64)(w2c_i0), w2c_j1);
   w2c_j0 = w2c_p0;
+  w2c_j1 = 140ull;
+  w2c_j0 += w2c_j1;
+  w2c_i0 = (u32)(w2c_j0);
+  w2c_i1 = 0u;
+  i32_store(&instance->w2c_memory, (u64)(w2c_i0), w2c_i1);
+  w2c_j0 = w2c_p0;
   w2c_j1 = 136ull;
   w2c_j0 += w2c_j1;
   w2c_i0 = (u32)(w2c_j0);
-  w2c_j1 = w2c_p3;
-  i64_store(&instance->w2c_memory, (u64)(w2c_i0), w2c_j1);
+  w2c_i1 = w2c_l21;
+  i32_store(&instance->w2c_memory, (u64)(w2c_i0), w2c_i1);
   w2c_j0 = w2c_p0;
   w2c_j1 = 128ull;
   w2c_j0 += w2c_j1;
@@ -42613,7 +42699,7 @@ static void w2c_tcp_replay__party__Party__new_in(Machine * instance, u64 w2c_p0,
   w2c_j1 = 272ull;
   w2c_j0 += w2c_j1;
   w2c_i0 = (u32)(w2c_j0);
-  w2c_i1 = w2c_l21;
+  w2c_i1 = w2c_l22;
   i32_store(&instance->w2c_memory, (u64)(w2c_i0), w2c_i1);
   w2c_j0 = w2c_p0;
   w2c_j1 = 264ull;
@@ -51182,6 +51268,12 @@ static void w2c_tcp_replay__world__step_at(Machine * instance, u64 w2c_p0, u64 w
   i64_store(&instance->w2c_memory, (u64)(w2c_i0), w2c_j1);
   w2c_B83:;
   w2c_j0 = w2c_p3;
+  w2c_j1 = 132ull;
+  w2c_j0 += w2c_j1;
+  w2c_i0 = (u32)(w2c_j0);
+  w2c_i1 = 0u;
+  i32_store(&instance->w2c_memory, (u64)(w2c_i0), w2c_i1);
+  w2c_j0 = w2c_p3;
   w2c_j1 = 168ull;
   w2c_j0 += w2c_j1;
   w2c_i0 = (u32)(w2c_j0);
@@ -51293,7 +51385,19 @@ static void w2c_tcp_replay__world__step_at(Machine * instance, u64 w2c_p0, u64 w
   w2c_j1 = 184ull;
   w2c_j0 += w2c_j1;
   w2c_i0 = (u32)(w2c_j0);
-  w2c_j1 = w2c_p5;
+  w2c_j1 = 0ull;
+  w2c_j2 = w2c_p5;
+  w2c_j3 = w2c_p3;
+  w2c_j4 = 132ull;
+  w2c_j3 += w2c_j4;
+  w2c_i3 = (u32)(w2c_j3);
+  w2c_j3 = i64_load32_u(&instance->w2c_memory, (u64)(w2c_i3));
+  w2c_j2 -= w2c_j3;
+  w2c_p1 = w2c_j2;
+  w2c_j3 = w2c_p1;
+  w2c_j4 = w2c_p5;
+  w2c_i3 = w2c_j3 > w2c_j4;
+  w2c_j1 = w2c_i3 ? w2c_j1 : w2c_j2;
   w2c_j2 = w2c_p3;
   w2c_j3 = 80ull;
   w2c_j2 += w2c_j3;
@@ -58430,11 +58534,13 @@ static void w2c_tcp_reasm__ring__copy_behind(Machine * instance, u64 w2c_p0, u64
 }
 
 static void w2c_tcp_sendq__queue__SendQueue__release(Machine * instance, u64 w2c_p0, u64 w2c_p1) {
-  u32 w2c_l9 = 0, w2c_l10 = 0, w2c_l11 = 0;
-  u64 w2c_l2 = 0, w2c_l3 = 0, w2c_l4 = 0, w2c_l5 = 0, w2c_l6 = 0, w2c_l7 = 0, w2c_l8 = 0;
+  u32 w2c_l11 = 0, w2c_l12 = 0, w2c_l13 = 0;
+  u64 w2c_l2 = 0, w2c_l3 = 0, w2c_l4 = 0, w2c_l5 = 0, w2c_l6 = 0, w2c_l7 = 0, w2c_l8 = 0, w2c_l9 = 0, 
+      w2c_l10 = 0;
   u32 w2c_i0, w2c_i1, w2c_i2, w2c_i3, w2c_i4;
   u64 w2c_j0, w2c_j1, w2c_j2, w2c_j3, w2c_j4, w2c_j5;
   w2c_j0 = instance->w2c___stack_pointer;
+  w2c_l2 = w2c_j0;
   w2c_j1 = 16ull;
   w2c_i0 = (u64)((s64)w2c_j0 < (s64)w2c_j1);
   if (w2c_i0) {goto w2c_B0;}
@@ -58443,230 +58549,348 @@ static void w2c_tcp_sendq__queue__SendQueue__release(Machine * instance, u64 w2c
   w2c_j0 += w2c_j1;
   w2c_i0 = (u32)(w2c_j0);
   w2c_j0 = i64_load(&instance->w2c_memory, (u64)(w2c_i0));
-  w2c_l2 = w2c_j0;
+  w2c_l3 = w2c_j0;
   w2c_j1 = w2c_p1;
   w2c_j0 -= w2c_j1;
-  w2c_l3 = w2c_j0;
-  w2c_j1 = w2c_l2;
+  w2c_l4 = w2c_j0;
+  w2c_j1 = w2c_l3;
   w2c_i0 = w2c_j0 >= w2c_j1;
   if (w2c_i0) {goto w2c_B1;}
   w2c_j0 = w2c_p0;
   w2c_j1 = 16ull;
   w2c_j0 += w2c_j1;
   w2c_i0 = (u32)(w2c_j0);
-  w2c_j1 = w2c_l3;
+  w2c_j1 = w2c_l4;
   i64_store(&instance->w2c_memory, (u64)(w2c_i0), w2c_j1);
   w2c_j0 = w2c_p0;
   w2c_j1 = 24ull;
   w2c_j0 += w2c_j1;
-  w2c_l2 = w2c_j0;
+  w2c_l3 = w2c_j0;
   w2c_i0 = (u32)(w2c_j0);
-  w2c_j1 = w2c_l2;
+  w2c_j1 = w2c_l3;
   w2c_i1 = (u32)(w2c_j1);
   w2c_j1 = i64_load(&instance->w2c_memory, (u64)(w2c_i1));
   w2c_j2 = w2c_p1;
   w2c_j1 += w2c_j2;
-  w2c_l2 = w2c_j1;
+  w2c_l3 = w2c_j1;
   w2c_j2 = 0ull;
   w2c_j3 = w2c_p0;
   w2c_j4 = 8ull;
   w2c_j3 += w2c_j4;
   w2c_i3 = (u32)(w2c_j3);
   w2c_j3 = i64_load(&instance->w2c_memory, (u64)(w2c_i3));
-  w2c_l3 = w2c_j3;
-  w2c_j4 = w2c_l2;
-  w2c_j5 = w2c_l3;
+  w2c_l4 = w2c_j3;
+  w2c_j4 = w2c_l3;
+  w2c_j5 = w2c_l4;
   w2c_i4 = w2c_j4 < w2c_j5;
   w2c_j2 = w2c_i4 ? w2c_j2 : w2c_j3;
   w2c_j1 -= w2c_j2;
   i64_store(&instance->w2c_memory, (u64)(w2c_i0), w2c_j1);
   w2c_B1:;
   w2c_j0 = w2c_p0;
+  w2c_j1 = 44ull;
+  w2c_j0 += w2c_j1;
+  w2c_i0 = (u32)(w2c_j0);
+  w2c_i0 = i32_load(&instance->w2c_memory, (u64)(w2c_i0));
+  w2c_j1 = w2c_p1;
+  w2c_i1 = (u32)(w2c_j1);
+  w2c_i0 += w2c_i1;
+  w2c_l11 = w2c_i0;
+  w2c_i1 = 2147483648u;
+  w2c_i0 = w2c_i0 > w2c_i1;
+  if (w2c_i0) {goto w2c_B5;}
+  w2c_j0 = w2c_p0;
+  w2c_j1 = 48ull;
+  w2c_j0 += w2c_j1;
+  w2c_l5 = w2c_j0;
+  w2c_j0 = 0ull;
+  w2c_p1 = w2c_j0;
+  w2c_j0 = w2c_p0;
   w2c_j1 = 56ull;
   w2c_j0 += w2c_j1;
-  w2c_l4 = w2c_j0;
+  w2c_l6 = w2c_j0;
   w2c_i0 = (u32)(w2c_j0);
   w2c_j0 = i64_load(&instance->w2c_memory, (u64)(w2c_i0));
   w2c_l3 = w2c_j0;
+  w2c_j1 = 0ull;
+  w2c_i0 = w2c_j0 != w2c_j1;
+  if (w2c_i0) {goto w2c_B3;}
   w2c_j0 = 0ull;
-  w2c_l2 = w2c_j0;
-  w2c_j0 = w2c_l4;
+  w2c_l3 = w2c_j0;
+  w2c_j0 = w2c_l6;
   w2c_i0 = (u32)(w2c_j0);
   w2c_j1 = 0ull;
   i64_store(&instance->w2c_memory, (u64)(w2c_i0), w2c_j1);
   w2c_j0 = w2c_p0;
   w2c_j1 = 64ull;
   w2c_j0 += w2c_j1;
-  w2c_l5 = w2c_j0;
+  w2c_l7 = w2c_j0;
   w2c_i0 = (u32)(w2c_j0);
   w2c_j0 = i64_load(&instance->w2c_memory, (u64)(w2c_i0));
-  w2c_l6 = w2c_j0;
+  w2c_l8 = w2c_j0;
+  w2c_j0 = w2c_l7;
+  w2c_i0 = (u32)(w2c_j0);
+  w2c_j1 = 0ull;
+  i64_store(&instance->w2c_memory, (u64)(w2c_i0), w2c_j1);
   w2c_j0 = w2c_l5;
+  w2c_i0 = (u32)(w2c_j0);
+  w2c_j0 = i64_load(&instance->w2c_memory, (u64)(w2c_i0));
+  w2c_l9 = w2c_j0;
+  goto w2c_B4;
+  w2c_B5:;
+  w2c_j0 = w2c_p0;
+  w2c_j1 = 56ull;
+  w2c_j0 += w2c_j1;
+  w2c_l6 = w2c_j0;
+  w2c_i0 = (u32)(w2c_j0);
+  w2c_j0 = i64_load(&instance->w2c_memory, (u64)(w2c_i0));
+  w2c_l10 = w2c_j0;
+  w2c_j0 = 0ull;
+  w2c_l3 = w2c_j0;
+  w2c_j0 = w2c_l6;
+  w2c_i0 = (u32)(w2c_j0);
+  w2c_j1 = 0ull;
+  i64_store(&instance->w2c_memory, (u64)(w2c_i0), w2c_j1);
+  w2c_j0 = w2c_p0;
+  w2c_j1 = 64ull;
+  w2c_j0 += w2c_j1;
+  w2c_l7 = w2c_j0;
+  w2c_i0 = (u32)(w2c_j0);
+  w2c_j0 = i64_load(&instance->w2c_memory, (u64)(w2c_i0));
+  w2c_l8 = w2c_j0;
+  w2c_j0 = w2c_l7;
   w2c_i0 = (u32)(w2c_j0);
   w2c_j1 = 0ull;
   i64_store(&instance->w2c_memory, (u64)(w2c_i0), w2c_j1);
   w2c_j0 = w2c_p0;
   w2c_j1 = 48ull;
   w2c_j0 += w2c_j1;
-  w2c_l7 = w2c_j0;
+  w2c_l5 = w2c_j0;
   w2c_i0 = (u32)(w2c_j0);
   w2c_j0 = i64_load(&instance->w2c_memory, (u64)(w2c_i0));
-  w2c_l8 = w2c_j0;
-  w2c_j0 = w2c_l3;
+  w2c_l9 = w2c_j0;
+  w2c_j0 = w2c_l10;
   w2c_i0 = !(w2c_j0);
-  if (w2c_i0) {goto w2c_B2;}
-  w2c_j0 = w2c_p1;
-  w2c_i0 = (u32)(w2c_j0);
-  w2c_l9 = w2c_i0;
+  if (w2c_i0) {goto w2c_B4;}
   w2c_j0 = 0ull;
-  w2c_l2 = w2c_j0;
-  w2c_j0 = w2c_l8;
-  w2c_p0 = w2c_j0;
-  w2c_L3: 
-    w2c_j0 = w2c_p0;
-    w2c_i0 = (u32)(w2c_j0);
-    w2c_i1 = 0u;
-    w2c_j2 = w2c_p0;
-    w2c_i2 = (u32)(w2c_j2);
-    w2c_i2 = i32_load(&instance->w2c_memory, (u64)(w2c_i2));
-    w2c_l10 = w2c_i2;
-    w2c_i3 = w2c_l9;
-    w2c_i2 -= w2c_i3;
-    w2c_l11 = w2c_i2;
-    w2c_i3 = w2c_l11;
-    w2c_i4 = w2c_l10;
-    w2c_i3 = w2c_i3 > w2c_i4;
-    w2c_i1 = w2c_i3 ? w2c_i1 : w2c_i2;
-    i32_store(&instance->w2c_memory, (u64)(w2c_i0), w2c_i1);
-    w2c_j0 = w2c_p0;
-    w2c_j1 = 4ull;
-    w2c_j0 += w2c_j1;
-    w2c_p1 = w2c_j0;
+  w2c_l3 = w2c_j0;
+  w2c_j0 = w2c_l9;
+  w2c_p1 = w2c_j0;
+  w2c_L6: 
+    w2c_j0 = w2c_p1;
     w2c_i0 = (u32)(w2c_j0);
     w2c_i1 = 0u;
     w2c_j2 = w2c_p1;
     w2c_i2 = (u32)(w2c_j2);
     w2c_i2 = i32_load(&instance->w2c_memory, (u64)(w2c_i2));
-    w2c_l10 = w2c_i2;
-    w2c_i3 = w2c_l9;
-    w2c_i2 -= w2c_i3;
-    w2c_l11 = w2c_i2;
+    w2c_l12 = w2c_i2;
     w2c_i3 = w2c_l11;
-    w2c_i4 = w2c_l10;
+    w2c_i2 -= w2c_i3;
+    w2c_l13 = w2c_i2;
+    w2c_i3 = w2c_l13;
+    w2c_i4 = w2c_l12;
     w2c_i3 = w2c_i3 > w2c_i4;
     w2c_i1 = w2c_i3 ? w2c_i1 : w2c_i2;
     i32_store(&instance->w2c_memory, (u64)(w2c_i0), w2c_i1);
-    w2c_i0 = w2c_l10;
-    w2c_i1 = w2c_l9;
+    w2c_j0 = w2c_p1;
+    w2c_j1 = 4ull;
+    w2c_j0 += w2c_j1;
+    w2c_l4 = w2c_j0;
+    w2c_i0 = (u32)(w2c_j0);
+    w2c_i1 = 0u;
+    w2c_j2 = w2c_l4;
+    w2c_i2 = (u32)(w2c_j2);
+    w2c_i2 = i32_load(&instance->w2c_memory, (u64)(w2c_i2));
+    w2c_l12 = w2c_i2;
+    w2c_i3 = w2c_l11;
+    w2c_i2 -= w2c_i3;
+    w2c_l13 = w2c_i2;
+    w2c_i3 = w2c_l13;
+    w2c_i4 = w2c_l12;
+    w2c_i3 = w2c_i3 > w2c_i4;
+    w2c_i1 = w2c_i3 ? w2c_i1 : w2c_i2;
+    i32_store(&instance->w2c_memory, (u64)(w2c_i0), w2c_i1);
+    w2c_i0 = w2c_l12;
+    w2c_i1 = w2c_l11;
     w2c_i0 = w2c_i0 > w2c_i1;
-    if (w2c_i0) {goto w2c_B4;}
-    w2c_j0 = w2c_l2;
+    if (w2c_i0) {goto w2c_B7;}
+    w2c_j0 = w2c_l3;
     w2c_j1 = 1ull;
     w2c_j0 += w2c_j1;
-    w2c_j1 = w2c_l3;
+    w2c_j1 = w2c_l10;
     w2c_i0 = w2c_j0 >= w2c_j1;
-    if (w2c_i0) {goto w2c_B2;}
-    w2c_j0 = w2c_p0;
+    if (w2c_i0) {goto w2c_B4;}
+    w2c_j0 = w2c_p1;
     w2c_j1 = 8ull;
     w2c_j0 += w2c_j1;
-    w2c_p0 = w2c_j0;
-    w2c_j0 = w2c_l2;
+    w2c_p1 = w2c_j0;
+    w2c_j0 = w2c_l3;
     w2c_j1 = 18446744073709551615ull;
     w2c_j0 ^= w2c_j1;
-    w2c_j1 = w2c_l3;
+    w2c_j1 = w2c_l10;
     w2c_j0 += w2c_j1;
-    w2c_p1 = w2c_j0;
-    w2c_L5: 
-      w2c_j0 = w2c_p0;
+    w2c_l4 = w2c_j0;
+    w2c_L8: 
+      w2c_j0 = w2c_p1;
       w2c_i0 = (u32)(w2c_j0);
       w2c_i1 = 0u;
-      w2c_j2 = w2c_p0;
+      w2c_j2 = w2c_p1;
       w2c_i2 = (u32)(w2c_j2);
       w2c_i2 = i32_load(&instance->w2c_memory, (u64)(w2c_i2));
-      w2c_l10 = w2c_i2;
-      w2c_i3 = w2c_l9;
-      w2c_i2 -= w2c_i3;
-      w2c_l11 = w2c_i2;
+      w2c_l12 = w2c_i2;
       w2c_i3 = w2c_l11;
-      w2c_i4 = w2c_l10;
+      w2c_i2 -= w2c_i3;
+      w2c_l13 = w2c_i2;
+      w2c_i3 = w2c_l13;
+      w2c_i4 = w2c_l12;
       w2c_i3 = w2c_i3 > w2c_i4;
       w2c_i1 = w2c_i3 ? w2c_i1 : w2c_i2;
       i32_store(&instance->w2c_memory, (u64)(w2c_i0), w2c_i1);
-      w2c_j0 = w2c_p0;
+      w2c_j0 = w2c_p1;
       w2c_j1 = 4ull;
       w2c_j0 += w2c_j1;
-      w2c_l3 = w2c_j0;
+      w2c_l10 = w2c_j0;
       w2c_i0 = (u32)(w2c_j0);
       w2c_i1 = 0u;
-      w2c_j2 = w2c_l3;
+      w2c_j2 = w2c_l10;
       w2c_i2 = (u32)(w2c_j2);
       w2c_i2 = i32_load(&instance->w2c_memory, (u64)(w2c_i2));
-      w2c_l10 = w2c_i2;
-      w2c_i3 = w2c_l9;
-      w2c_i2 -= w2c_i3;
-      w2c_l11 = w2c_i2;
+      w2c_l12 = w2c_i2;
       w2c_i3 = w2c_l11;
-      w2c_i4 = w2c_l10;
+      w2c_i2 -= w2c_i3;
+      w2c_l13 = w2c_i2;
+      w2c_i3 = w2c_l13;
+      w2c_i4 = w2c_l12;
       w2c_i3 = w2c_i3 > w2c_i4;
       w2c_i1 = w2c_i3 ? w2c_i1 : w2c_i2;
       i32_store(&instance->w2c_memory, (u64)(w2c_i0), w2c_i1);
-      w2c_j0 = w2c_l8;
-      w2c_j1 = w2c_l2;
+      w2c_j0 = w2c_l9;
+      w2c_j1 = w2c_l3;
       w2c_j2 = 3ull;
       w2c_j1 <<= (w2c_j2 & 63);
       w2c_j0 += w2c_j1;
       w2c_i0 = (u32)(w2c_j0);
-      w2c_j1 = w2c_p0;
+      w2c_j1 = w2c_p1;
       w2c_i1 = (u32)(w2c_j1);
       w2c_j1 = i64_load(&instance->w2c_memory, (u64)(w2c_i1));
       i64_store(&instance->w2c_memory, (u64)(w2c_i0), w2c_j1);
-      w2c_j0 = w2c_p0;
+      w2c_j0 = w2c_p1;
       w2c_j1 = 8ull;
       w2c_j0 += w2c_j1;
-      w2c_p0 = w2c_j0;
-      w2c_j0 = w2c_l2;
-      w2c_i1 = w2c_l10;
-      w2c_i2 = w2c_l9;
+      w2c_p1 = w2c_j0;
+      w2c_j0 = w2c_l3;
+      w2c_i1 = w2c_l12;
+      w2c_i2 = w2c_l11;
       w2c_i1 = w2c_i1 > w2c_i2;
       w2c_j1 = (u64)(w2c_i1);
       w2c_j0 += w2c_j1;
-      w2c_l2 = w2c_j0;
-      w2c_j0 = w2c_p1;
+      w2c_l3 = w2c_j0;
+      w2c_j0 = w2c_l4;
       w2c_j1 = 18446744073709551615ull;
       w2c_j0 += w2c_j1;
-      w2c_p1 = w2c_j0;
+      w2c_l4 = w2c_j0;
       w2c_j1 = 0ull;
       w2c_i0 = w2c_j0 != w2c_j1;
-      if (w2c_i0) {goto w2c_L5;}
-      goto w2c_B2;
+      if (w2c_i0) {goto w2c_L8;}
+      goto w2c_B4;
     UNREACHABLE;
-    w2c_B4:;
-    w2c_j0 = w2c_p0;
+    w2c_B7:;
+    w2c_j0 = w2c_p1;
     w2c_j1 = 8ull;
     w2c_j0 += w2c_j1;
-    w2c_p0 = w2c_j0;
-    w2c_j0 = w2c_l3;
-    w2c_j1 = w2c_l2;
+    w2c_p1 = w2c_j0;
+    w2c_j0 = w2c_l10;
+    w2c_j1 = w2c_l3;
     w2c_j2 = 1ull;
     w2c_j1 += w2c_j2;
-    w2c_l2 = w2c_j1;
+    w2c_l3 = w2c_j1;
     w2c_i0 = w2c_j0 != w2c_j1;
-    if (w2c_i0) {goto w2c_L3;}
-  w2c_j0 = w2c_l3;
-  w2c_l2 = w2c_j0;
-  w2c_B2:;
+    if (w2c_i0) {goto w2c_L6;}
+  w2c_j0 = w2c_l10;
+  w2c_l3 = w2c_j0;
+  w2c_B4:;
+  w2c_j0 = w2c_l6;
+  w2c_i0 = (u32)(w2c_j0);
+  w2c_j1 = w2c_l3;
+  i64_store(&instance->w2c_memory, (u64)(w2c_i0), w2c_j1);
   w2c_j0 = w2c_l5;
   w2c_i0 = (u32)(w2c_j0);
-  w2c_j1 = w2c_l6;
-  i64_store(&instance->w2c_memory, (u64)(w2c_i0), w2c_j1);
-  w2c_j0 = w2c_l4;
-  w2c_i0 = (u32)(w2c_j0);
-  w2c_j1 = w2c_l2;
+  w2c_j1 = w2c_l9;
   i64_store(&instance->w2c_memory, (u64)(w2c_i0), w2c_j1);
   w2c_j0 = w2c_l7;
   w2c_i0 = (u32)(w2c_j0);
   w2c_j1 = w2c_l8;
   i64_store(&instance->w2c_memory, (u64)(w2c_i0), w2c_j1);
+  w2c_i0 = 0u;
+  w2c_l11 = w2c_i0;
+  goto w2c_B2;
+  w2c_B3:;
+  w2c_j0 = w2c_l5;
+  w2c_i0 = (u32)(w2c_j0);
+  w2c_j0 = i64_load(&instance->w2c_memory, (u64)(w2c_i0));
+  w2c_l9 = w2c_j0;
+  w2c_j0 = w2c_l3;
+  w2c_j1 = 1ull;
+  w2c_i0 = w2c_j0 == w2c_j1;
+  if (w2c_i0) {goto w2c_B9;}
+  w2c_j0 = 0ull;
+  w2c_p1 = w2c_j0;
+  w2c_L10: 
+    w2c_j0 = w2c_p1;
+    w2c_j1 = w2c_l3;
+    w2c_j2 = 1ull;
+    w2c_j1 >>= (w2c_j2 & 63);
+    w2c_l4 = w2c_j1;
+    w2c_j2 = w2c_p1;
+    w2c_j1 += w2c_j2;
+    w2c_l10 = w2c_j1;
+    w2c_j2 = w2c_l9;
+    w2c_j3 = w2c_l10;
+    w2c_j4 = 3ull;
+    w2c_j3 <<= (w2c_j4 & 63);
+    w2c_j2 += w2c_j3;
+    w2c_j3 = 4ull;
+    w2c_j2 += w2c_j3;
+    w2c_i2 = (u32)(w2c_j2);
+    w2c_i2 = i32_load(&instance->w2c_memory, (u64)(w2c_i2));
+    w2c_i3 = w2c_l11;
+    w2c_i2 = w2c_i2 > w2c_i3;
+    w2c_j0 = w2c_i2 ? w2c_j0 : w2c_j1;
+    w2c_p1 = w2c_j0;
+    w2c_j0 = w2c_l3;
+    w2c_j1 = w2c_l4;
+    w2c_j0 -= w2c_j1;
+    w2c_l3 = w2c_j0;
+    w2c_j1 = 1ull;
+    w2c_i0 = w2c_j0 > w2c_j1;
+    if (w2c_i0) {goto w2c_L10;}
+  w2c_B9:;
+  w2c_j0 = w2c_l5;
+  w2c_j1 = 0ull;
+  w2c_j2 = w2c_p1;
+  w2c_j3 = w2c_l9;
+  w2c_j4 = w2c_p1;
+  w2c_j5 = 3ull;
+  w2c_j4 <<= (w2c_j5 & 63);
+  w2c_j3 += w2c_j4;
+  w2c_j4 = 4ull;
+  w2c_j3 += w2c_j4;
+  w2c_i3 = (u32)(w2c_j3);
+  w2c_i3 = i32_load(&instance->w2c_memory, (u64)(w2c_i3));
+  w2c_i4 = w2c_l11;
+  w2c_i3 = w2c_i3 <= w2c_i4;
+  w2c_j3 = (u64)(w2c_i3);
+  w2c_j2 += w2c_j3;
+  w2c_tcp_sendq__marks__Marks__remove_range(instance, w2c_j0, w2c_j1, w2c_j2);
+  w2c_B2:;
+  w2c_j0 = w2c_p0;
+  w2c_j1 = 44ull;
+  w2c_j0 += w2c_j1;
+  w2c_i0 = (u32)(w2c_j0);
+  w2c_i1 = w2c_l11;
+  i32_store(&instance->w2c_memory, (u64)(w2c_i0), w2c_i1);
+  w2c_j0 = w2c_l2;
+  instance->w2c___stack_pointer = w2c_j0;
   goto w2c_Bfunc;
   w2c_B0:;
   UNREACHABLE;
@@ -63661,6 +63885,685 @@ static u32 w2c_std_alloc__vec__Vec__move_to____1c00de6245c6bd34_(Machine * insta
   return w2c_i0;
 }
 
+static void w2c_tcp_sendq__marks__Marks__remove_range(Machine * instance, u64 w2c_p0, u64 w2c_p1, u64 w2c_p2) {
+  u64 w2c_l3 = 0, w2c_l4 = 0, w2c_l5 = 0, w2c_l6 = 0, w2c_l7 = 0, w2c_l8 = 0, w2c_l9 = 0, w2c_l10 = 0, 
+      w2c_l11 = 0, w2c_l12 = 0, w2c_l13 = 0, w2c_l14 = 0;
+  u32 w2c_i0, w2c_i1;
+  u64 w2c_j0, w2c_j1, w2c_j2, w2c_j3;
+  w2c_j0 = instance->w2c___stack_pointer;
+  w2c_j1 = 16ull;
+  w2c_i0 = (u64)((s64)w2c_j0 < (s64)w2c_j1);
+  if (w2c_i0) {goto w2c_B0;}
+  w2c_j0 = w2c_p2;
+  w2c_j1 = w2c_p1;
+  w2c_i0 = w2c_j0 == w2c_j1;
+  if (w2c_i0) {goto w2c_B1;}
+  w2c_j0 = w2c_p0;
+  w2c_j1 = 8ull;
+  w2c_j0 += w2c_j1;
+  w2c_l3 = w2c_j0;
+  w2c_i0 = (u32)(w2c_j0);
+  w2c_j0 = i64_load(&instance->w2c_memory, (u64)(w2c_i0));
+  w2c_l4 = w2c_j0;
+  w2c_j0 = w2c_p2;
+  w2c_j1 = w2c_p1;
+  w2c_j0 -= w2c_j1;
+  w2c_l5 = w2c_j0;
+  w2c_j1 = 1ull;
+  w2c_i0 = w2c_j0 != w2c_j1;
+  if (w2c_i0) {goto w2c_B2;}
+  w2c_j0 = w2c_l3;
+  w2c_i0 = (u32)(w2c_j0);
+  w2c_j1 = 0ull;
+  i64_store(&instance->w2c_memory, (u64)(w2c_i0), w2c_j1);
+  w2c_j0 = w2c_p0;
+  w2c_j1 = 16ull;
+  w2c_j0 += w2c_j1;
+  w2c_i0 = (u32)(w2c_j0);
+  w2c_j0 = i64_load(&instance->w2c_memory, (u64)(w2c_i0));
+  w2c_l6 = w2c_j0;
+  w2c_j0 = w2c_l3;
+  w2c_i0 = (u32)(w2c_j0);
+  w2c_j1 = 0ull;
+  i64_store(&instance->w2c_memory, (u64)(w2c_i0) + 8, w2c_j1);
+  w2c_j0 = w2c_l4;
+  w2c_j1 = 18446744073709551615ull;
+  w2c_j0 += w2c_j1;
+  w2c_l7 = w2c_j0;
+  w2c_j1 = w2c_p1;
+  w2c_j0 -= w2c_j1;
+  w2c_l5 = w2c_j0;
+  w2c_j0 = w2c_p0;
+  w2c_i0 = (u32)(w2c_j0);
+  w2c_j0 = i64_load(&instance->w2c_memory, (u64)(w2c_i0));
+  w2c_l8 = w2c_j0;
+  w2c_j1 = w2c_p1;
+  w2c_j2 = 3ull;
+  w2c_j1 <<= (w2c_j2 & 63);
+  w2c_l9 = w2c_j1;
+  w2c_j0 += w2c_j1;
+  w2c_l10 = w2c_j0;
+  w2c_j0 = w2c_p1;
+  w2c_j1 = 18446744073709551615ull;
+  w2c_i0 = w2c_j0 == w2c_j1;
+  if (w2c_i0) {goto w2c_B4;}
+  w2c_j0 = w2c_l5;
+  w2c_j1 = 257ull;
+  w2c_i0 = w2c_j0 < w2c_j1;
+  if (w2c_i0) {goto w2c_B6;}
+  w2c_j0 = w2c_l8;
+  w2c_j1 = w2c_l9;
+  w2c_j0 += w2c_j1;
+  w2c_j1 = 2048ull;
+  w2c_j0 += w2c_j1;
+  w2c_l11 = w2c_j0;
+  w2c_j0 = 0ull;
+  w2c_l12 = w2c_j0;
+  w2c_L7: 
+    w2c_j0 = w2c_p1;
+    w2c_l9 = w2c_j0;
+    w2c_j1 = 18446744073709551615ull;
+    w2c_i0 = w2c_j0 == w2c_j1;
+    if (w2c_i0) {goto w2c_B9;}
+    w2c_j0 = 0ull;
+    w2c_l5 = w2c_j0;
+    w2c_L10: 
+      w2c_j0 = w2c_l10;
+      w2c_j1 = w2c_l5;
+      w2c_j0 += w2c_j1;
+      w2c_p1 = w2c_j0;
+      w2c_i0 = (u32)(w2c_j0);
+      w2c_j1 = w2c_p1;
+      w2c_j2 = 8ull;
+      w2c_j1 += w2c_j2;
+      w2c_l13 = w2c_j1;
+      w2c_i1 = (u32)(w2c_j1);
+      w2c_j1 = i64_load(&instance->w2c_memory, (u64)(w2c_i1));
+      i64_store(&instance->w2c_memory, (u64)(w2c_i0), w2c_j1);
+      w2c_j0 = w2c_p1;
+      w2c_j1 = 16ull;
+      w2c_j0 += w2c_j1;
+      w2c_p2 = w2c_j0;
+      w2c_i0 = (u32)(w2c_j0);
+      w2c_j0 = i64_load(&instance->w2c_memory, (u64)(w2c_i0));
+      w2c_l14 = w2c_j0;
+      w2c_j0 = w2c_p2;
+      w2c_i0 = (u32)(w2c_j0);
+      w2c_j1 = w2c_p1;
+      w2c_j2 = 24ull;
+      w2c_j1 += w2c_j2;
+      w2c_l3 = w2c_j1;
+      w2c_i1 = (u32)(w2c_j1);
+      w2c_j1 = i64_load(&instance->w2c_memory, (u64)(w2c_i1));
+      i64_store(&instance->w2c_memory, (u64)(w2c_i0), w2c_j1);
+      w2c_j0 = w2c_l13;
+      w2c_i0 = (u32)(w2c_j0);
+      w2c_j1 = w2c_l14;
+      i64_store(&instance->w2c_memory, (u64)(w2c_i0), w2c_j1);
+      w2c_j0 = w2c_l3;
+      w2c_i0 = (u32)(w2c_j0);
+      w2c_j1 = w2c_p1;
+      w2c_j2 = 32ull;
+      w2c_j1 += w2c_j2;
+      w2c_i1 = (u32)(w2c_j1);
+      w2c_j1 = i64_load(&instance->w2c_memory, (u64)(w2c_i1));
+      i64_store(&instance->w2c_memory, (u64)(w2c_i0), w2c_j1);
+      w2c_j0 = w2c_l5;
+      w2c_j1 = 32ull;
+      w2c_j0 += w2c_j1;
+      w2c_l5 = w2c_j0;
+      w2c_j1 = 2048ull;
+      w2c_i0 = w2c_j0 != w2c_j1;
+      if (w2c_i0) {goto w2c_L10;}
+      goto w2c_B8;
+    UNREACHABLE;
+    w2c_B9:;
+    w2c_j0 = w2c_l11;
+    w2c_j1 = w2c_l12;
+    w2c_j2 = 11ull;
+    w2c_j1 <<= (w2c_j2 & 63);
+    w2c_j0 += w2c_j1;
+    w2c_i0 = (u32)(w2c_j0);
+    w2c_j0 = i64_load(&instance->w2c_memory, (u64)(w2c_i0));
+    w2c_p1 = w2c_j0;
+    w2c_j0 = 0ull;
+    w2c_l13 = w2c_j0;
+    w2c_L11: 
+      w2c_j0 = w2c_l10;
+      w2c_j1 = w2c_l13;
+      w2c_j0 += w2c_j1;
+      w2c_l5 = w2c_j0;
+      w2c_j1 = 2032ull;
+      w2c_j0 += w2c_j1;
+      w2c_i0 = (u32)(w2c_j0);
+      w2c_j1 = w2c_p1;
+      i64_store(&instance->w2c_memory, (u64)(w2c_i0), w2c_j1);
+      w2c_j0 = w2c_l5;
+      w2c_j1 = 2040ull;
+      w2c_j0 += w2c_j1;
+      w2c_i0 = (u32)(w2c_j0);
+      w2c_j1 = w2c_p1;
+      i64_store(&instance->w2c_memory, (u64)(w2c_i0), w2c_j1);
+      w2c_j0 = w2c_l5;
+      w2c_j1 = 2024ull;
+      w2c_j0 += w2c_j1;
+      w2c_i0 = (u32)(w2c_j0);
+      w2c_j1 = w2c_p1;
+      i64_store(&instance->w2c_memory, (u64)(w2c_i0), w2c_j1);
+      w2c_j0 = w2c_l5;
+      w2c_j1 = 2016ull;
+      w2c_j0 += w2c_j1;
+      w2c_i0 = (u32)(w2c_j0);
+      w2c_j1 = w2c_p1;
+      i64_store(&instance->w2c_memory, (u64)(w2c_i0), w2c_j1);
+      w2c_j0 = w2c_l13;
+      w2c_j1 = 18446744073709551584ull;
+      w2c_j0 += w2c_j1;
+      w2c_l13 = w2c_j0;
+      w2c_j1 = 18446744073709549568ull;
+      w2c_i0 = w2c_j0 != w2c_j1;
+      if (w2c_i0) {goto w2c_L11;}
+    w2c_B8:;
+    w2c_j0 = w2c_l10;
+    w2c_j1 = 2048ull;
+    w2c_j0 += w2c_j1;
+    w2c_l10 = w2c_j0;
+    w2c_j0 = w2c_l12;
+    w2c_j1 = 1ull;
+    w2c_j0 += w2c_j1;
+    w2c_l12 = w2c_j0;
+    w2c_j0 = w2c_l7;
+    w2c_j1 = w2c_l9;
+    w2c_j2 = 256ull;
+    w2c_j1 += w2c_j2;
+    w2c_p1 = w2c_j1;
+    w2c_j0 -= w2c_j1;
+    w2c_l5 = w2c_j0;
+    w2c_j1 = 256ull;
+    w2c_i0 = w2c_j0 > w2c_j1;
+    if (w2c_i0) {goto w2c_L7;}
+  w2c_j0 = w2c_p1;
+  w2c_j1 = 18446744073709551615ull;
+  w2c_i0 = w2c_j0 == w2c_j1;
+  if (w2c_i0) {goto w2c_B5;}
+  w2c_j0 = w2c_p1;
+  w2c_j1 = 3ull;
+  w2c_j0 <<= (w2c_j1 & 63);
+  w2c_l9 = w2c_j0;
+  w2c_B6:;
+  w2c_j0 = w2c_l7;
+  w2c_j1 = w2c_p1;
+  w2c_i0 = w2c_j0 == w2c_j1;
+  if (w2c_i0) {goto w2c_B3;}
+  w2c_j0 = w2c_l5;
+  w2c_j1 = 3ull;
+  w2c_j0 &= w2c_j1;
+  w2c_l13 = w2c_j0;
+  w2c_j0 = 0ull;
+  w2c_p2 = w2c_j0;
+  w2c_j0 = w2c_l5;
+  w2c_j1 = 18446744073709551615ull;
+  w2c_j0 += w2c_j1;
+  w2c_j1 = 3ull;
+  w2c_i0 = w2c_j0 < w2c_j1;
+  if (w2c_i0) {goto w2c_B12;}
+  w2c_j0 = w2c_l8;
+  w2c_j1 = w2c_l9;
+  w2c_j0 += w2c_j1;
+  w2c_p1 = w2c_j0;
+  w2c_j0 = w2c_l5;
+  w2c_j1 = 508ull;
+  w2c_j0 &= w2c_j1;
+  w2c_l12 = w2c_j0;
+  w2c_j0 = 0ull;
+  w2c_p2 = w2c_j0;
+  w2c_L13: 
+    w2c_j0 = w2c_p1;
+    w2c_i0 = (u32)(w2c_j0);
+    w2c_j1 = w2c_p1;
+    w2c_j2 = 8ull;
+    w2c_j1 += w2c_j2;
+    w2c_l5 = w2c_j1;
+    w2c_i1 = (u32)(w2c_j1);
+    w2c_j1 = i64_load(&instance->w2c_memory, (u64)(w2c_i1));
+    i64_store(&instance->w2c_memory, (u64)(w2c_i0), w2c_j1);
+    w2c_j0 = w2c_p1;
+    w2c_j1 = 16ull;
+    w2c_j0 += w2c_j1;
+    w2c_l14 = w2c_j0;
+    w2c_i0 = (u32)(w2c_j0);
+    w2c_j0 = i64_load(&instance->w2c_memory, (u64)(w2c_i0));
+    w2c_l3 = w2c_j0;
+    w2c_j0 = w2c_l14;
+    w2c_i0 = (u32)(w2c_j0);
+    w2c_j1 = w2c_p1;
+    w2c_j2 = 24ull;
+    w2c_j1 += w2c_j2;
+    w2c_l10 = w2c_j1;
+    w2c_i1 = (u32)(w2c_j1);
+    w2c_j1 = i64_load(&instance->w2c_memory, (u64)(w2c_i1));
+    i64_store(&instance->w2c_memory, (u64)(w2c_i0), w2c_j1);
+    w2c_j0 = w2c_l5;
+    w2c_i0 = (u32)(w2c_j0);
+    w2c_j1 = w2c_l3;
+    i64_store(&instance->w2c_memory, (u64)(w2c_i0), w2c_j1);
+    w2c_j0 = w2c_l10;
+    w2c_i0 = (u32)(w2c_j0);
+    w2c_j1 = w2c_p1;
+    w2c_j2 = 32ull;
+    w2c_j1 += w2c_j2;
+    w2c_p1 = w2c_j1;
+    w2c_i1 = (u32)(w2c_j1);
+    w2c_j1 = i64_load(&instance->w2c_memory, (u64)(w2c_i1));
+    i64_store(&instance->w2c_memory, (u64)(w2c_i0), w2c_j1);
+    w2c_j0 = w2c_l12;
+    w2c_j1 = w2c_p2;
+    w2c_j2 = 4ull;
+    w2c_j1 += w2c_j2;
+    w2c_p2 = w2c_j1;
+    w2c_i0 = w2c_j0 != w2c_j1;
+    if (w2c_i0) {goto w2c_L13;}
+  w2c_j0 = w2c_l13;
+  w2c_i0 = !(w2c_j0);
+  if (w2c_i0) {goto w2c_B3;}
+  w2c_B12:;
+  w2c_j0 = w2c_l8;
+  w2c_j1 = w2c_l9;
+  w2c_j2 = w2c_p2;
+  w2c_j3 = 3ull;
+  w2c_j2 <<= (w2c_j3 & 63);
+  w2c_j1 += w2c_j2;
+  w2c_j0 += w2c_j1;
+  w2c_p1 = w2c_j0;
+  w2c_L14: 
+    w2c_j0 = w2c_p1;
+    w2c_i0 = (u32)(w2c_j0);
+    w2c_j1 = w2c_p1;
+    w2c_j2 = 8ull;
+    w2c_j1 += w2c_j2;
+    w2c_l5 = w2c_j1;
+    w2c_i1 = (u32)(w2c_j1);
+    w2c_j1 = i64_load(&instance->w2c_memory, (u64)(w2c_i1));
+    i64_store(&instance->w2c_memory, (u64)(w2c_i0), w2c_j1);
+    w2c_j0 = w2c_l5;
+    w2c_p1 = w2c_j0;
+    w2c_j0 = w2c_l13;
+    w2c_j1 = 18446744073709551615ull;
+    w2c_j0 += w2c_j1;
+    w2c_l13 = w2c_j0;
+    w2c_j1 = 0ull;
+    w2c_i0 = w2c_j0 != w2c_j1;
+    if (w2c_i0) {goto w2c_L14;}
+    goto w2c_B3;
+  UNREACHABLE;
+  w2c_B5:;
+  w2c_j0 = w2c_l4;
+  w2c_i0 = !(w2c_j0);
+  if (w2c_i0) {goto w2c_B3;}
+  w2c_j0 = w2c_l4;
+  w2c_j1 = 18446744073709551359ull;
+  w2c_j0 += w2c_j1;
+  w2c_l5 = w2c_j0;
+  w2c_j0 = w2c_l8;
+  w2c_j1 = w2c_l4;
+  w2c_j2 = 3ull;
+  w2c_j1 <<= (w2c_j2 & 63);
+  w2c_j0 += w2c_j1;
+  w2c_l13 = w2c_j0;
+  w2c_j1 = 18446744073709551600ull;
+  w2c_j0 += w2c_j1;
+  w2c_p1 = w2c_j0;
+  w2c_j0 = w2c_l13;
+  w2c_j1 = 18446744073709551608ull;
+  w2c_j0 += w2c_j1;
+  w2c_i0 = (u32)(w2c_j0);
+  w2c_j0 = i64_load(&instance->w2c_memory, (u64)(w2c_i0));
+  w2c_l13 = w2c_j0;
+  w2c_L15: 
+    w2c_j0 = w2c_p1;
+    w2c_i0 = (u32)(w2c_j0);
+    w2c_j1 = w2c_l13;
+    i64_store(&instance->w2c_memory, (u64)(w2c_i0), w2c_j1);
+    w2c_j0 = w2c_p1;
+    w2c_j1 = 18446744073709551608ull;
+    w2c_j0 += w2c_j1;
+    w2c_p1 = w2c_j0;
+    w2c_j0 = w2c_l9;
+    w2c_j1 = w2c_l5;
+    w2c_j2 = 18446744073709551615ull;
+    w2c_j1 += w2c_j2;
+    w2c_l5 = w2c_j1;
+    w2c_i0 = w2c_j0 != w2c_j1;
+    if (w2c_i0) {goto w2c_L15;}
+    goto w2c_B3;
+  UNREACHABLE;
+  w2c_B4:;
+  w2c_j0 = w2c_l4;
+  w2c_i0 = !(w2c_j0);
+  if (w2c_i0) {goto w2c_B3;}
+  w2c_j0 = 0ull;
+  w2c_l13 = w2c_j0;
+  w2c_j0 = w2c_l4;
+  w2c_j1 = 18446744073709551614ull;
+  w2c_j0 += w2c_j1;
+  w2c_j1 = w2c_p1;
+  w2c_i0 = w2c_j0 == w2c_j1;
+  if (w2c_i0) {goto w2c_B16;}
+  w2c_j0 = w2c_l5;
+  w2c_j1 = 1ull;
+  w2c_j0 &= w2c_j1;
+  w2c_l12 = w2c_j0;
+  w2c_j0 = w2c_l5;
+  w2c_j1 = 18446744073709551614ull;
+  w2c_j0 &= w2c_j1;
+  w2c_l14 = w2c_j0;
+  w2c_j0 = 0ull;
+  w2c_l13 = w2c_j0;
+  w2c_j0 = 0ull;
+  w2c_j1 = w2c_p1;
+  w2c_j2 = 3ull;
+  w2c_j1 <<= (w2c_j2 & 63);
+  w2c_j0 -= w2c_j1;
+  w2c_l3 = w2c_j0;
+  w2c_j0 = w2c_l4;
+  w2c_j1 = 3ull;
+  w2c_j0 <<= (w2c_j1 & 63);
+  w2c_j1 = w2c_l8;
+  w2c_j0 += w2c_j1;
+  w2c_j1 = 18446744073709551600ull;
+  w2c_j0 += w2c_j1;
+  w2c_p1 = w2c_j0;
+  w2c_L17: 
+    w2c_j0 = w2c_p1;
+    w2c_i0 = (u32)(w2c_j0);
+    w2c_j1 = w2c_p1;
+    w2c_j2 = w2c_l3;
+    w2c_j1 += w2c_j2;
+    w2c_i1 = (u32)(w2c_j1);
+    w2c_j1 = i64_load(&instance->w2c_memory, (u64)(w2c_i1));
+    i64_store(&instance->w2c_memory, (u64)(w2c_i0), w2c_j1);
+    w2c_j0 = w2c_l10;
+    w2c_j1 = w2c_l5;
+    w2c_j2 = w2c_l13;
+    w2c_j3 = 2305843009213693950ull;
+    w2c_j2 ^= w2c_j3;
+    w2c_j1 += w2c_j2;
+    w2c_j2 = 3ull;
+    w2c_j1 <<= (w2c_j2 & 63);
+    w2c_p2 = w2c_j1;
+    w2c_j0 += w2c_j1;
+    w2c_i0 = (u32)(w2c_j0);
+    w2c_j1 = w2c_l8;
+    w2c_j2 = w2c_p2;
+    w2c_j1 += w2c_j2;
+    w2c_i1 = (u32)(w2c_j1);
+    w2c_j1 = i64_load(&instance->w2c_memory, (u64)(w2c_i1));
+    i64_store(&instance->w2c_memory, (u64)(w2c_i0), w2c_j1);
+    w2c_j0 = w2c_p1;
+    w2c_j1 = 18446744073709551600ull;
+    w2c_j0 += w2c_j1;
+    w2c_p1 = w2c_j0;
+    w2c_j0 = w2c_l14;
+    w2c_j1 = w2c_l13;
+    w2c_j2 = 2ull;
+    w2c_j1 += w2c_j2;
+    w2c_l13 = w2c_j1;
+    w2c_i0 = w2c_j0 != w2c_j1;
+    if (w2c_i0) {goto w2c_L17;}
+  w2c_j0 = w2c_l12;
+  w2c_i0 = !(w2c_j0);
+  if (w2c_i0) {goto w2c_B3;}
+  w2c_B16:;
+  w2c_j0 = w2c_l10;
+  w2c_j1 = w2c_l5;
+  w2c_j2 = w2c_l13;
+  w2c_j3 = 18446744073709551615ull;
+  w2c_j2 ^= w2c_j3;
+  w2c_j1 += w2c_j2;
+  w2c_j2 = 3ull;
+  w2c_j1 <<= (w2c_j2 & 63);
+  w2c_p1 = w2c_j1;
+  w2c_j0 += w2c_j1;
+  w2c_i0 = (u32)(w2c_j0);
+  w2c_j1 = w2c_l8;
+  w2c_j2 = w2c_p1;
+  w2c_j1 += w2c_j2;
+  w2c_i1 = (u32)(w2c_j1);
+  w2c_j1 = i64_load(&instance->w2c_memory, (u64)(w2c_i1));
+  i64_store(&instance->w2c_memory, (u64)(w2c_i0), w2c_j1);
+  w2c_B3:;
+  w2c_j0 = w2c_p0;
+  w2c_i0 = (u32)(w2c_j0);
+  w2c_j1 = w2c_l8;
+  i64_store(&instance->w2c_memory, (u64)(w2c_i0), w2c_j1);
+  w2c_j0 = w2c_p0;
+  w2c_j1 = 16ull;
+  w2c_j0 += w2c_j1;
+  w2c_i0 = (u32)(w2c_j0);
+  w2c_j1 = w2c_l6;
+  i64_store(&instance->w2c_memory, (u64)(w2c_i0), w2c_j1);
+  w2c_j0 = w2c_p0;
+  w2c_j1 = 8ull;
+  w2c_j0 += w2c_j1;
+  w2c_i0 = (u32)(w2c_j0);
+  w2c_j1 = w2c_l7;
+  i64_store(&instance->w2c_memory, (u64)(w2c_i0), w2c_j1);
+  goto w2c_Bfunc;
+  w2c_B2:;
+  w2c_j0 = w2c_l4;
+  w2c_j1 = w2c_p2;
+  w2c_j0 -= w2c_j1;
+  w2c_l13 = w2c_j0;
+  w2c_j0 = w2c_l4;
+  w2c_j1 = w2c_l5;
+  w2c_j0 -= w2c_j1;
+  w2c_l12 = w2c_j0;
+  w2c_j0 = w2c_p0;
+  w2c_i0 = (u32)(w2c_j0);
+  w2c_j0 = i64_load(&instance->w2c_memory, (u64)(w2c_i0));
+  w2c_l9 = w2c_j0;
+  w2c_j0 = w2c_p2;
+  w2c_j1 = w2c_p1;
+  w2c_i0 = w2c_j0 < w2c_j1;
+  if (w2c_i0) {goto w2c_B19;}
+  w2c_j0 = w2c_l4;
+  w2c_j1 = w2c_p2;
+  w2c_i0 = w2c_j0 == w2c_j1;
+  if (w2c_i0) {goto w2c_B18;}
+  w2c_j0 = 0ull;
+  w2c_l14 = w2c_j0;
+  w2c_j0 = w2c_l4;
+  w2c_j1 = w2c_p2;
+  w2c_j2 = 1ull;
+  w2c_j1 += w2c_j2;
+  w2c_i0 = w2c_j0 == w2c_j1;
+  if (w2c_i0) {goto w2c_B20;}
+  w2c_j0 = w2c_l13;
+  w2c_j1 = 1ull;
+  w2c_j0 &= w2c_j1;
+  w2c_l7 = w2c_j0;
+  w2c_j0 = w2c_l13;
+  w2c_j1 = 18446744073709551614ull;
+  w2c_j0 &= w2c_j1;
+  w2c_l10 = w2c_j0;
+  w2c_j0 = w2c_l9;
+  w2c_j1 = w2c_p1;
+  w2c_j2 = 3ull;
+  w2c_j1 <<= (w2c_j2 & 63);
+  w2c_j0 += w2c_j1;
+  w2c_l5 = w2c_j0;
+  w2c_j0 = w2c_l9;
+  w2c_j1 = w2c_p2;
+  w2c_j2 = 3ull;
+  w2c_j1 <<= (w2c_j2 & 63);
+  w2c_j0 += w2c_j1;
+  w2c_l13 = w2c_j0;
+  w2c_j0 = 0ull;
+  w2c_l14 = w2c_j0;
+  w2c_L21: 
+    w2c_j0 = w2c_l5;
+    w2c_i0 = (u32)(w2c_j0);
+    w2c_j1 = w2c_l13;
+    w2c_i1 = (u32)(w2c_j1);
+    w2c_j1 = i64_load(&instance->w2c_memory, (u64)(w2c_i1));
+    i64_store(&instance->w2c_memory, (u64)(w2c_i0), w2c_j1);
+    w2c_j0 = w2c_l5;
+    w2c_j1 = 8ull;
+    w2c_j0 += w2c_j1;
+    w2c_i0 = (u32)(w2c_j0);
+    w2c_j1 = w2c_l13;
+    w2c_j2 = 8ull;
+    w2c_j1 += w2c_j2;
+    w2c_i1 = (u32)(w2c_j1);
+    w2c_j1 = i64_load(&instance->w2c_memory, (u64)(w2c_i1));
+    i64_store(&instance->w2c_memory, (u64)(w2c_i0), w2c_j1);
+    w2c_j0 = w2c_l5;
+    w2c_j1 = 16ull;
+    w2c_j0 += w2c_j1;
+    w2c_l5 = w2c_j0;
+    w2c_j0 = w2c_l13;
+    w2c_j1 = 16ull;
+    w2c_j0 += w2c_j1;
+    w2c_l13 = w2c_j0;
+    w2c_j0 = w2c_l10;
+    w2c_j1 = w2c_l14;
+    w2c_j2 = 2ull;
+    w2c_j1 += w2c_j2;
+    w2c_l14 = w2c_j1;
+    w2c_i0 = w2c_j0 != w2c_j1;
+    if (w2c_i0) {goto w2c_L21;}
+  w2c_j0 = w2c_l7;
+  w2c_i0 = !(w2c_j0);
+  if (w2c_i0) {goto w2c_B18;}
+  w2c_B20:;
+  w2c_j0 = w2c_l9;
+  w2c_j1 = w2c_l14;
+  w2c_j2 = w2c_p1;
+  w2c_j1 += w2c_j2;
+  w2c_j2 = 3ull;
+  w2c_j1 <<= (w2c_j2 & 63);
+  w2c_j0 += w2c_j1;
+  w2c_i0 = (u32)(w2c_j0);
+  w2c_j1 = w2c_l9;
+  w2c_j2 = w2c_l14;
+  w2c_j3 = w2c_p2;
+  w2c_j2 += w2c_j3;
+  w2c_j3 = 3ull;
+  w2c_j2 <<= (w2c_j3 & 63);
+  w2c_j1 += w2c_j2;
+  w2c_i1 = (u32)(w2c_j1);
+  w2c_j1 = i64_load(&instance->w2c_memory, (u64)(w2c_i1));
+  i64_store(&instance->w2c_memory, (u64)(w2c_i0), w2c_j1);
+  goto w2c_B18;
+  w2c_B19:;
+  w2c_j0 = w2c_l13;
+  w2c_i0 = !(w2c_j0);
+  if (w2c_i0) {goto w2c_B18;}
+  w2c_j0 = w2c_p2;
+  w2c_j1 = 1ull;
+  w2c_j0 += w2c_j1;
+  w2c_l5 = w2c_j0;
+  w2c_j0 = w2c_l13;
+  w2c_j1 = 1ull;
+  w2c_j0 &= w2c_j1;
+  w2c_i0 = !(w2c_j0);
+  if (w2c_i0) {goto w2c_B22;}
+  w2c_j0 = w2c_l9;
+  w2c_j1 = w2c_l13;
+  w2c_j2 = 18446744073709551615ull;
+  w2c_j1 += w2c_j2;
+  w2c_l13 = w2c_j1;
+  w2c_j2 = w2c_p1;
+  w2c_j1 += w2c_j2;
+  w2c_j2 = 3ull;
+  w2c_j1 <<= (w2c_j2 & 63);
+  w2c_j0 += w2c_j1;
+  w2c_i0 = (u32)(w2c_j0);
+  w2c_j1 = w2c_l9;
+  w2c_j2 = w2c_l4;
+  w2c_j3 = 3ull;
+  w2c_j2 <<= (w2c_j3 & 63);
+  w2c_j1 += w2c_j2;
+  w2c_j2 = 18446744073709551608ull;
+  w2c_j1 += w2c_j2;
+  w2c_i1 = (u32)(w2c_j1);
+  w2c_j1 = i64_load(&instance->w2c_memory, (u64)(w2c_i1));
+  i64_store(&instance->w2c_memory, (u64)(w2c_i0), w2c_j1);
+  w2c_B22:;
+  w2c_j0 = w2c_l4;
+  w2c_j1 = w2c_l5;
+  w2c_i0 = w2c_j0 == w2c_j1;
+  if (w2c_i0) {goto w2c_B18;}
+  w2c_j0 = w2c_l13;
+  w2c_j1 = w2c_p2;
+  w2c_j0 += w2c_j1;
+  w2c_j1 = 3ull;
+  w2c_j0 <<= (w2c_j1 & 63);
+  w2c_j1 = w2c_l9;
+  w2c_j0 += w2c_j1;
+  w2c_j1 = 18446744073709551600ull;
+  w2c_j0 += w2c_j1;
+  w2c_l5 = w2c_j0;
+  w2c_j0 = w2c_l13;
+  w2c_j1 = w2c_p1;
+  w2c_j0 += w2c_j1;
+  w2c_j1 = 3ull;
+  w2c_j0 <<= (w2c_j1 & 63);
+  w2c_j1 = w2c_l9;
+  w2c_j0 += w2c_j1;
+  w2c_j1 = 18446744073709551600ull;
+  w2c_j0 += w2c_j1;
+  w2c_p1 = w2c_j0;
+  w2c_L23: 
+    w2c_j0 = w2c_p1;
+    w2c_j1 = 8ull;
+    w2c_j0 += w2c_j1;
+    w2c_i0 = (u32)(w2c_j0);
+    w2c_j1 = w2c_l5;
+    w2c_j2 = 8ull;
+    w2c_j1 += w2c_j2;
+    w2c_i1 = (u32)(w2c_j1);
+    w2c_j1 = i64_load(&instance->w2c_memory, (u64)(w2c_i1));
+    i64_store(&instance->w2c_memory, (u64)(w2c_i0), w2c_j1);
+    w2c_j0 = w2c_p1;
+    w2c_i0 = (u32)(w2c_j0);
+    w2c_j1 = w2c_l5;
+    w2c_i1 = (u32)(w2c_j1);
+    w2c_j1 = i64_load(&instance->w2c_memory, (u64)(w2c_i1));
+    i64_store(&instance->w2c_memory, (u64)(w2c_i0), w2c_j1);
+    w2c_j0 = w2c_l5;
+    w2c_j1 = 18446744073709551600ull;
+    w2c_j0 += w2c_j1;
+    w2c_l5 = w2c_j0;
+    w2c_j0 = w2c_p1;
+    w2c_j1 = 18446744073709551600ull;
+    w2c_j0 += w2c_j1;
+    w2c_p1 = w2c_j0;
+    w2c_j0 = w2c_l13;
+    w2c_j1 = 18446744073709551614ull;
+    w2c_j0 += w2c_j1;
+    w2c_l13 = w2c_j0;
+    w2c_i0 = !(w2c_j0);
+    w2c_i0 = !(w2c_i0);
+    if (w2c_i0) {goto w2c_L23;}
+  w2c_B18:;
+  w2c_j0 = w2c_l3;
+  w2c_i0 = (u32)(w2c_j0);
+  w2c_j0 = i64_load(&instance->w2c_memory, (u64)(w2c_i0));
+  w2c_j1 = w2c_l12;
+  w2c_i0 = w2c_j0 <= w2c_j1;
+  if (w2c_i0) {goto w2c_B1;}
+  w2c_j0 = w2c_l3;
+  w2c_i0 = (u32)(w2c_j0);
+  w2c_j1 = w2c_l12;
+  i64_store(&instance->w2c_memory, (u64)(w2c_i0), w2c_j1);
+  w2c_B1:;
+  goto w2c_Bfunc;
+  w2c_B0:;
+  UNREACHABLE;
+  w2c_Bfunc:;
+}
+
 static void w2c_tcp_replay__growth__emit_alone(Machine * instance, u64 w2c_p0, u64 w2c_p1, u64 w2c_p2, u64 w2c_p3) {
   const u8 *near0;
   u32 w2c_l8 = 0, w2c_l9 = 0, w2c_l10 = 0, w2c_l11 = 0, w2c_l12 = 0, w2c_l13 = 0, w2c_l14 = 0, w2c_l15 = 0, 
@@ -64532,7 +65435,7 @@ static void w2c_tcp_replay__growth__emit_alone(Machine * instance, u64 w2c_p0, u
 
 static void w2c_tcp_halves__sender__Sender__due(Machine * instance, u64 w2c_p0, u64 w2c_p1, u32 w2c_p2, u32 w2c_p3, u32 w2c_p4) {
   u64 w2c_l5 = 0, w2c_l6 = 0, w2c_l7 = 0, w2c_l8 = 0, w2c_l9 = 0, w2c_l10 = 0, w2c_l11 = 0, w2c_l12 = 0, 
-      w2c_l13 = 0, w2c_l14 = 0, w2c_l15 = 0;
+      w2c_l13 = 0, w2c_l14 = 0, w2c_l15 = 0, w2c_l16 = 0, w2c_l17 = 0, w2c_l18 = 0;
   u32 w2c_i0, w2c_i1, w2c_i2, w2c_i3, w2c_i4, w2c_i5;
   u64 w2c_j0, w2c_j1, w2c_j2, w2c_j3, w2c_j4, w2c_j5, w2c_j6;
   w2c_j0 = instance->w2c___stack_pointer;
@@ -64569,79 +65472,92 @@ static void w2c_tcp_halves__sender__Sender__due(Machine * instance, u64 w2c_p0, 
   w2c_B2:;
   w2c_j0 = 0ull;
   w2c_l8 = w2c_j0;
-  w2c_j0 = 0ull;
-  w2c_j1 = w2c_l5;
-  w2c_j2 = w2c_p1;
-  w2c_j3 = 112ull;
-  w2c_j2 += w2c_j3;
-  w2c_i2 = (u32)(w2c_j2);
-  w2c_j2 = i64_load(&instance->w2c_memory, (u64)(w2c_i2));
+  w2c_j0 = w2c_p1;
+  w2c_j1 = 40ull;
+  w2c_j0 += w2c_j1;
+  w2c_i0 = (u32)(w2c_j0);
+  w2c_j0 = i64_load(&instance->w2c_memory, (u64)(w2c_i0));
+  w2c_l7 = w2c_j0;
+  w2c_j1 = 0ull;
+  w2c_j2 = w2c_l5;
+  w2c_j3 = w2c_p1;
+  w2c_j4 = 112ull;
+  w2c_j3 += w2c_j4;
+  w2c_i3 = (u32)(w2c_j3);
+  w2c_j3 = i64_load(&instance->w2c_memory, (u64)(w2c_i3));
+  w2c_l9 = w2c_j3;
+  w2c_j4 = w2c_l5;
+  w2c_j5 = w2c_l9;
+  w2c_i4 = w2c_j4 > w2c_j5;
+  w2c_j2 = w2c_i4 ? w2c_j2 : w2c_j3;
+  w2c_l10 = w2c_j2;
+  w2c_j3 = w2c_p1;
+  w2c_j4 = 16ull;
+  w2c_j3 += w2c_j4;
+  w2c_i3 = (u32)(w2c_j3);
+  w2c_j3 = i64_load(&instance->w2c_memory, (u64)(w2c_i3));
+  w2c_j4 = 1ull;
+  w2c_j3 += w2c_j4;
+  w2c_l6 = w2c_j3;
+  w2c_j2 -= w2c_j3;
   w2c_l9 = w2c_j2;
-  w2c_j3 = w2c_l5;
-  w2c_j4 = w2c_l9;
+  w2c_j3 = w2c_l9;
+  w2c_j4 = w2c_l10;
   w2c_i3 = w2c_j3 > w2c_j4;
   w2c_j1 = w2c_i3 ? w2c_j1 : w2c_j2;
-  w2c_l10 = w2c_j1;
-  w2c_j2 = w2c_p1;
-  w2c_j3 = 16ull;
-  w2c_j2 += w2c_j3;
-  w2c_i2 = (u32)(w2c_j2);
-  w2c_j2 = i64_load(&instance->w2c_memory, (u64)(w2c_i2));
-  w2c_j3 = 1ull;
-  w2c_j2 += w2c_j3;
-  w2c_l6 = w2c_j2;
-  w2c_j1 -= w2c_j2;
   w2c_l9 = w2c_j1;
-  w2c_j2 = w2c_l9;
-  w2c_j3 = w2c_l10;
-  w2c_i2 = w2c_j2 > w2c_j3;
-  w2c_j0 = w2c_i2 ? w2c_j0 : w2c_j1;
-  w2c_l11 = w2c_j0;
+  w2c_i0 = w2c_j0 <= w2c_j1;
+  if (w2c_i0) {goto w2c_B4;}
+  w2c_j0 = w2c_l9;
+  w2c_j1 = w2c_p1;
+  w2c_j2 = 68ull;
+  w2c_j1 += w2c_j2;
+  w2c_i1 = (u32)(w2c_j1);
+  w2c_j1 = i64_load32_u(&instance->w2c_memory, (u64)(w2c_i1));
+  w2c_l11 = w2c_j1;
+  w2c_j0 += w2c_j1;
+  w2c_l12 = w2c_j0;
   w2c_j0 = w2c_p1;
   w2c_j1 = 72ull;
   w2c_j0 += w2c_j1;
   w2c_i0 = (u32)(w2c_j0);
   w2c_j0 = i64_load(&instance->w2c_memory, (u64)(w2c_i0));
-  w2c_l12 = w2c_j0;
-  w2c_j0 = w2c_p1;
-  w2c_j1 = 40ull;
-  w2c_j0 += w2c_j1;
-  w2c_l7 = w2c_j0;
+  w2c_l13 = w2c_j0;
+  w2c_j0 = 0ull;
+  w2c_l9 = w2c_j0;
   w2c_j0 = w2c_p1;
   w2c_j1 = 80ull;
   w2c_j0 += w2c_j1;
   w2c_i0 = (u32)(w2c_j0);
   w2c_j0 = i64_load(&instance->w2c_memory, (u64)(w2c_i0));
-  w2c_l13 = w2c_j0;
+  w2c_l14 = w2c_j0;
   w2c_j1 = 1ull;
   w2c_i0 = w2c_j0 > w2c_j1;
-  if (w2c_i0) {goto w2c_B5;}
-  w2c_j0 = w2c_l13;
-  w2c_l9 = w2c_j0;
-  w2c_j0 = w2c_l13;
+  if (w2c_i0) {goto w2c_B7;}
+  w2c_j0 = w2c_l14;
+  w2c_l15 = w2c_j0;
+  w2c_j0 = w2c_l14;
   w2c_i0 = (u32)(w2c_j0);
   switch (w2c_i0) {
-    case 0: goto w2c_B3;
-    case 1: goto w2c_B4;
-    default: goto w2c_B3;
+    case 0: goto w2c_B5;
+    case 1: goto w2c_B6;
+    default: goto w2c_B5;
   }
-  w2c_B5:;
-  w2c_j0 = 0ull;
-  w2c_l8 = w2c_j0;
-  w2c_j0 = w2c_l13;
-  w2c_l9 = w2c_j0;
-  w2c_L6: 
-    w2c_j0 = w2c_l8;
-    w2c_j1 = w2c_l9;
+  w2c_B7:;
+  w2c_j0 = w2c_l14;
+  w2c_l15 = w2c_j0;
+  w2c_L8: 
+    w2c_j0 = w2c_l9;
+    w2c_j1 = w2c_l15;
     w2c_j2 = 1ull;
     w2c_j1 >>= (w2c_j2 & 63);
-    w2c_l14 = w2c_j1;
-    w2c_j2 = w2c_l8;
+    w2c_l16 = w2c_j1;
+    w2c_j2 = w2c_l9;
     w2c_j1 += w2c_j2;
-    w2c_l15 = w2c_j1;
-    w2c_j2 = w2c_l11;
-    w2c_j3 = w2c_l12;
-    w2c_j4 = w2c_l15;
+    w2c_l17 = w2c_j1;
+    w2c_j2 = w2c_l12;
+    w2c_j3 = w2c_l13;
+    w2c_j4 = w2c_l17;
     w2c_j5 = 3ull;
     w2c_j4 <<= (w2c_j5 & 63);
     w2c_j3 += w2c_j4;
@@ -64651,19 +65567,19 @@ static void w2c_tcp_halves__sender__Sender__due(Machine * instance, u64 w2c_p0, 
     w2c_j3 = i64_load32_u(&instance->w2c_memory, (u64)(w2c_i3));
     w2c_i2 = w2c_j2 < w2c_j3;
     w2c_j0 = w2c_i2 ? w2c_j0 : w2c_j1;
-    w2c_l8 = w2c_j0;
-    w2c_j0 = w2c_l9;
-    w2c_j1 = w2c_l14;
-    w2c_j0 -= w2c_j1;
     w2c_l9 = w2c_j0;
+    w2c_j0 = w2c_l15;
+    w2c_j1 = w2c_l16;
+    w2c_j0 -= w2c_j1;
+    w2c_l15 = w2c_j0;
     w2c_j1 = 1ull;
     w2c_i0 = w2c_j0 > w2c_j1;
-    if (w2c_i0) {goto w2c_L6;}
-  w2c_B4:;
-  w2c_j0 = w2c_l8;
-  w2c_j1 = w2c_l11;
-  w2c_j2 = w2c_l12;
-  w2c_j3 = w2c_l8;
+    if (w2c_i0) {goto w2c_L8;}
+  w2c_B6:;
+  w2c_j0 = w2c_l9;
+  w2c_j1 = w2c_l12;
+  w2c_j2 = w2c_l13;
+  w2c_j3 = w2c_l9;
   w2c_j4 = 3ull;
   w2c_j3 <<= (w2c_j4 & 63);
   w2c_j2 += w2c_j3;
@@ -64674,47 +65590,46 @@ static void w2c_tcp_halves__sender__Sender__due(Machine * instance, u64 w2c_p0, 
   w2c_i1 = w2c_j1 >= w2c_j2;
   w2c_j1 = (u64)(w2c_i1);
   w2c_j0 += w2c_j1;
-  w2c_l9 = w2c_j0;
-  w2c_B3:;
-  w2c_j0 = w2c_l7;
-  w2c_i0 = (u32)(w2c_j0);
-  w2c_j0 = i64_load(&instance->w2c_memory, (u64)(w2c_i0));
-  w2c_l7 = w2c_j0;
-  w2c_j0 = w2c_l9;
-  w2c_j1 = w2c_l13;
+  w2c_l15 = w2c_j0;
+  w2c_B5:;
+  w2c_j0 = w2c_l15;
+  w2c_j1 = w2c_l14;
   w2c_i0 = w2c_j0 >= w2c_j1;
-  if (w2c_i0) {goto w2c_B7;}
-  w2c_j0 = w2c_l11;
-  w2c_j1 = w2c_l12;
-  w2c_j2 = w2c_l9;
+  if (w2c_i0) {goto w2c_B9;}
+  w2c_j0 = w2c_l12;
+  w2c_j1 = w2c_l13;
+  w2c_j2 = w2c_l15;
   w2c_j3 = 3ull;
   w2c_j2 <<= (w2c_j3 & 63);
   w2c_j1 += w2c_j2;
-  w2c_l8 = w2c_j1;
+  w2c_l9 = w2c_j1;
   w2c_i1 = (u32)(w2c_j1);
   w2c_j1 = i64_load32_u(&instance->w2c_memory, (u64)(w2c_i1));
   w2c_i0 = w2c_j0 < w2c_j1;
-  if (w2c_i0) {goto w2c_B7;}
-  w2c_j0 = w2c_l8;
+  if (w2c_i0) {goto w2c_B9;}
+  w2c_j0 = w2c_l9;
   w2c_j1 = 4ull;
   w2c_j0 += w2c_j1;
   w2c_i0 = (u32)(w2c_j0);
   w2c_j0 = i64_load32_u(&instance->w2c_memory, (u64)(w2c_i0));
-  w2c_l11 = w2c_j0;
-  w2c_B7:;
+  w2c_l12 = w2c_j0;
+  w2c_B9:;
   w2c_j0 = w2c_l7;
-  w2c_j1 = w2c_l11;
+  w2c_j1 = w2c_l12;
+  w2c_j2 = w2c_l11;
+  w2c_j1 -= w2c_j2;
+  w2c_l18 = w2c_j1;
   w2c_i0 = w2c_j0 <= w2c_j1;
-  if (w2c_i0) {goto w2c_B9;}
+  if (w2c_i0) {goto w2c_B4;}
   w2c_j0 = 0ull;
-  w2c_l8 = w2c_j0;
-  w2c_j0 = w2c_l13;
+  w2c_l9 = w2c_j0;
+  w2c_j0 = w2c_l14;
   w2c_j1 = 1ull;
   w2c_i0 = w2c_j0 > w2c_j1;
   if (w2c_i0) {goto w2c_B12;}
-  w2c_j0 = w2c_l13;
-  w2c_l9 = w2c_j0;
-  w2c_j0 = w2c_l13;
+  w2c_j0 = w2c_l14;
+  w2c_l15 = w2c_j0;
+  w2c_j0 = w2c_l14;
   w2c_i0 = (u32)(w2c_j0);
   switch (w2c_i0) {
     case 0: goto w2c_B10;
@@ -64722,20 +65637,20 @@ static void w2c_tcp_halves__sender__Sender__due(Machine * instance, u64 w2c_p0, 
     default: goto w2c_B10;
   }
   w2c_B12:;
-  w2c_j0 = w2c_l13;
-  w2c_l9 = w2c_j0;
+  w2c_j0 = w2c_l14;
+  w2c_l15 = w2c_j0;
   w2c_L13: 
-    w2c_j0 = w2c_l8;
-    w2c_j1 = w2c_l9;
+    w2c_j0 = w2c_l9;
+    w2c_j1 = w2c_l15;
     w2c_j2 = 1ull;
     w2c_j1 >>= (w2c_j2 & 63);
-    w2c_l14 = w2c_j1;
-    w2c_j2 = w2c_l8;
+    w2c_l16 = w2c_j1;
+    w2c_j2 = w2c_l9;
     w2c_j1 += w2c_j2;
-    w2c_l15 = w2c_j1;
-    w2c_j2 = w2c_l11;
-    w2c_j3 = w2c_l12;
-    w2c_j4 = w2c_l15;
+    w2c_l17 = w2c_j1;
+    w2c_j2 = w2c_l12;
+    w2c_j3 = w2c_l13;
+    w2c_j4 = w2c_l17;
     w2c_j5 = 3ull;
     w2c_j4 <<= (w2c_j5 & 63);
     w2c_j3 += w2c_j4;
@@ -64743,19 +65658,19 @@ static void w2c_tcp_halves__sender__Sender__due(Machine * instance, u64 w2c_p0, 
     w2c_j3 = i64_load32_u(&instance->w2c_memory, (u64)(w2c_i3));
     w2c_i2 = w2c_j2 < w2c_j3;
     w2c_j0 = w2c_i2 ? w2c_j0 : w2c_j1;
-    w2c_l8 = w2c_j0;
-    w2c_j0 = w2c_l9;
-    w2c_j1 = w2c_l14;
-    w2c_j0 -= w2c_j1;
     w2c_l9 = w2c_j0;
+    w2c_j0 = w2c_l15;
+    w2c_j1 = w2c_l16;
+    w2c_j0 -= w2c_j1;
+    w2c_l15 = w2c_j0;
     w2c_j1 = 1ull;
     w2c_i0 = w2c_j0 > w2c_j1;
     if (w2c_i0) {goto w2c_L13;}
   w2c_B11:;
-  w2c_j0 = w2c_l8;
-  w2c_j1 = w2c_l11;
-  w2c_j2 = w2c_l12;
-  w2c_j3 = w2c_l8;
+  w2c_j0 = w2c_l9;
+  w2c_j1 = w2c_l12;
+  w2c_j2 = w2c_l13;
+  w2c_j3 = w2c_l9;
   w2c_j4 = 3ull;
   w2c_j3 <<= (w2c_j4 & 63);
   w2c_j2 += w2c_j3;
@@ -64764,70 +65679,79 @@ static void w2c_tcp_halves__sender__Sender__due(Machine * instance, u64 w2c_p0, 
   w2c_i1 = w2c_j1 >= w2c_j2;
   w2c_j1 = (u64)(w2c_i1);
   w2c_j0 += w2c_j1;
-  w2c_l9 = w2c_j0;
+  w2c_l15 = w2c_j0;
   w2c_B10:;
-  w2c_j0 = w2c_l7;
-  w2c_l14 = w2c_j0;
-  w2c_j0 = w2c_l9;
-  w2c_j1 = w2c_l13;
+  w2c_j0 = 0ull;
+  w2c_l16 = w2c_j0;
+  w2c_j0 = w2c_l15;
+  w2c_j1 = w2c_l14;
   w2c_i0 = w2c_j0 >= w2c_j1;
   if (w2c_i0) {goto w2c_B14;}
-  w2c_j0 = w2c_l12;
-  w2c_j1 = w2c_l9;
+  w2c_j0 = w2c_l13;
+  w2c_j1 = w2c_l15;
   w2c_j2 = 3ull;
   w2c_j1 <<= (w2c_j2 & 63);
   w2c_j0 += w2c_j1;
   w2c_i0 = (u32)(w2c_j0);
   w2c_j0 = i64_load32_u(&instance->w2c_memory, (u64)(w2c_i0));
-  w2c_l14 = w2c_j0;
+  w2c_l16 = w2c_j0;
   w2c_B14:;
   w2c_j0 = w2c_p1;
   w2c_j1 = 120ull;
   w2c_j0 += w2c_j1;
   w2c_i0 = (u32)(w2c_j0);
   w2c_j0 = i64_load(&instance->w2c_memory, (u64)(w2c_i0));
-  w2c_l9 = w2c_j0;
-  w2c_j1 = w2c_l11;
+  w2c_l17 = w2c_j0;
+  w2c_j1 = w2c_l18;
   w2c_j2 = w2c_l6;
   w2c_j1 += w2c_j2;
-  w2c_l8 = w2c_j1;
+  w2c_l9 = w2c_j1;
   w2c_i0 = w2c_j0 <= w2c_j1;
   if (w2c_i0) {goto w2c_B0;}
-  w2c_j0 = w2c_l9;
-  w2c_j1 = w2c_l8;
+  w2c_j0 = w2c_l17;
+  w2c_j1 = w2c_l9;
   w2c_j0 -= w2c_j1;
-  w2c_l9 = w2c_j0;
-  w2c_j1 = w2c_l14;
-  w2c_j2 = w2c_l11;
+  w2c_p1 = w2c_j0;
+  w2c_j1 = w2c_l16;
+  w2c_j2 = w2c_l7;
+  w2c_j3 = w2c_l11;
+  w2c_j2 += w2c_j3;
+  w2c_j3 = w2c_l15;
+  w2c_j4 = w2c_l14;
+  w2c_i3 = w2c_j3 < w2c_j4;
+  w2c_j1 = w2c_i3 ? w2c_j1 : w2c_j2;
+  w2c_j2 = w2c_l12;
   w2c_j1 -= w2c_j2;
-  w2c_l14 = w2c_j1;
-  w2c_j2 = w2c_l9;
-  w2c_j3 = w2c_l14;
+  w2c_l15 = w2c_j1;
+  w2c_j2 = w2c_p1;
+  w2c_j3 = w2c_l15;
   w2c_i2 = w2c_j2 < w2c_j3;
   w2c_j0 = w2c_i2 ? w2c_j0 : w2c_j1;
-  w2c_l9 = w2c_j0;
+  w2c_p1 = w2c_j0;
   w2c_i1 = w2c_p2;
   w2c_j1 = (u64)(w2c_i1);
   w2c_j2 = 65535ull;
   w2c_j1 &= w2c_j2;
-  w2c_l14 = w2c_j1;
-  w2c_j2 = w2c_l9;
-  w2c_j3 = w2c_l14;
+  w2c_l15 = w2c_j1;
+  w2c_j2 = w2c_p1;
+  w2c_j3 = w2c_l15;
   w2c_i2 = w2c_j2 < w2c_j3;
   w2c_j0 = w2c_i2 ? w2c_j0 : w2c_j1;
-  w2c_l9 = w2c_j0;
+  w2c_l8 = w2c_j0;
   w2c_j0 = 0ull;
-  w2c_l14 = w2c_j0;
-  goto w2c_B8;
-  w2c_B9:;
+  w2c_l15 = w2c_j0;
+  goto w2c_B3;
+  w2c_B4:;
   w2c_j0 = w2c_l10;
   w2c_j1 = w2c_l7;
   w2c_j2 = w2c_l6;
   w2c_j1 += w2c_j2;
-  w2c_l8 = w2c_j1;
+  w2c_l9 = w2c_j1;
   w2c_i0 = w2c_j0 > w2c_j1;
   if (w2c_i0) {goto w2c_B0;}
-  w2c_j0 = w2c_l8;
+  w2c_j0 = 3ull;
+  w2c_l15 = w2c_j0;
+  w2c_j0 = w2c_l9;
   w2c_j1 = w2c_p1;
   w2c_j2 = 120ull;
   w2c_j1 += w2c_j2;
@@ -64835,11 +65759,7 @@ static void w2c_tcp_halves__sender__Sender__due(Machine * instance, u64 w2c_p0, 
   w2c_j1 = i64_load(&instance->w2c_memory, (u64)(w2c_i1));
   w2c_i0 = w2c_j0 >= w2c_j1;
   if (w2c_i0) {goto w2c_B0;}
-  w2c_j0 = 0ull;
-  w2c_l9 = w2c_j0;
-  w2c_j0 = 3ull;
-  w2c_l14 = w2c_j0;
-  w2c_B8:;
+  w2c_B3:;
   w2c_j0 = w2c_p0;
   w2c_i0 = (u32)(w2c_j0);
   w2c_j1 = 1ull;
@@ -64848,19 +65768,19 @@ static void w2c_tcp_halves__sender__Sender__due(Machine * instance, u64 w2c_p0, 
   w2c_j1 = 24ull;
   w2c_j0 += w2c_j1;
   w2c_i0 = (u32)(w2c_j0);
-  w2c_j1 = w2c_l9;
+  w2c_j1 = w2c_l8;
   i64_store(&instance->w2c_memory, (u64)(w2c_i0), w2c_j1);
   w2c_j0 = w2c_p0;
   w2c_j1 = 16ull;
   w2c_j0 += w2c_j1;
   w2c_i0 = (u32)(w2c_j0);
-  w2c_j1 = w2c_l8;
+  w2c_j1 = w2c_l9;
   i64_store(&instance->w2c_memory, (u64)(w2c_i0), w2c_j1);
   w2c_j0 = w2c_p0;
   w2c_j1 = 8ull;
   w2c_j0 += w2c_j1;
   w2c_i0 = (u32)(w2c_j0);
-  w2c_j1 = w2c_l14;
+  w2c_j1 = w2c_l15;
   i64_store(&instance->w2c_memory, (u64)(w2c_i0), w2c_j1);
   goto w2c_Bfunc;
   w2c_B1:;
@@ -64874,59 +65794,59 @@ static void w2c_tcp_halves__sender__Sender__due(Machine * instance, u64 w2c_p0, 
   w2c_i2 = (u32)(w2c_j2);
   w2c_j2 = i64_load32_u(&instance->w2c_memory, (u64)(w2c_i2));
   w2c_j1 += w2c_j2;
-  w2c_l9 = w2c_j1;
+  w2c_l15 = w2c_j1;
   w2c_j2 = w2c_p1;
   w2c_j3 = 8ull;
   w2c_j2 += w2c_j3;
   w2c_i2 = (u32)(w2c_j2);
   w2c_j2 = i64_load(&instance->w2c_memory, (u64)(w2c_i2));
-  w2c_l8 = w2c_j2;
+  w2c_l9 = w2c_j2;
   w2c_j1 -= w2c_j2;
-  w2c_l14 = w2c_j1;
-  w2c_j2 = w2c_l14;
-  w2c_j3 = w2c_l9;
+  w2c_p1 = w2c_j1;
+  w2c_j2 = w2c_p1;
+  w2c_j3 = w2c_l15;
   w2c_i2 = w2c_j2 > w2c_j3;
   w2c_j0 = w2c_i2 ? w2c_j0 : w2c_j1;
   w2c_i1 = w2c_p3;
   w2c_j1 = (u64)(w2c_i1);
-  w2c_j2 = w2c_l9;
-  w2c_j3 = w2c_l8;
+  w2c_j2 = w2c_l15;
+  w2c_j3 = w2c_l9;
   w2c_i2 = w2c_j2 > w2c_j3;
   w2c_j0 = w2c_i2 ? w2c_j0 : w2c_j1;
-  w2c_l9 = w2c_j0;
+  w2c_p1 = w2c_j0;
   w2c_j1 = 0ull;
   w2c_j2 = w2c_l7;
   w2c_j3 = 0ull;
-  w2c_j4 = w2c_l8;
+  w2c_j4 = w2c_l9;
   w2c_j5 = w2c_l6;
   w2c_j4 -= w2c_j5;
-  w2c_l14 = w2c_j4;
-  w2c_j5 = w2c_l14;
-  w2c_j6 = w2c_l8;
+  w2c_l15 = w2c_j4;
+  w2c_j5 = w2c_l15;
+  w2c_j6 = w2c_l9;
   w2c_i5 = w2c_j5 > w2c_j6;
   w2c_j3 = w2c_i5 ? w2c_j3 : w2c_j4;
   w2c_j2 -= w2c_j3;
-  w2c_l14 = w2c_j2;
-  w2c_j3 = w2c_l14;
+  w2c_l15 = w2c_j2;
+  w2c_j3 = w2c_l15;
   w2c_j4 = w2c_l7;
   w2c_i3 = w2c_j3 > w2c_j4;
   w2c_j1 = w2c_i3 ? w2c_j1 : w2c_j2;
-  w2c_l14 = w2c_j1;
-  w2c_j2 = w2c_l9;
-  w2c_j3 = w2c_l14;
+  w2c_l15 = w2c_j1;
+  w2c_j2 = w2c_p1;
+  w2c_j3 = w2c_l15;
   w2c_i2 = w2c_j2 < w2c_j3;
   w2c_j0 = w2c_i2 ? w2c_j0 : w2c_j1;
-  w2c_l9 = w2c_j0;
+  w2c_p1 = w2c_j0;
   w2c_i1 = w2c_p2;
   w2c_j1 = (u64)(w2c_i1);
   w2c_j2 = 65535ull;
   w2c_j1 &= w2c_j2;
-  w2c_l14 = w2c_j1;
-  w2c_j2 = w2c_l9;
-  w2c_j3 = w2c_l14;
+  w2c_l15 = w2c_j1;
+  w2c_j2 = w2c_p1;
+  w2c_j3 = w2c_l15;
   w2c_i2 = w2c_j2 < w2c_j3;
   w2c_j0 = w2c_i2 ? w2c_j0 : w2c_j1;
-  w2c_l9 = w2c_j0;
+  w2c_p1 = w2c_j0;
   w2c_i0 = !(w2c_j0);
   if (w2c_i0) {goto w2c_B15;}
   w2c_j0 = w2c_p0;
@@ -64937,13 +65857,13 @@ static void w2c_tcp_halves__sender__Sender__due(Machine * instance, u64 w2c_p0, 
   w2c_j1 = 24ull;
   w2c_j0 += w2c_j1;
   w2c_i0 = (u32)(w2c_j0);
-  w2c_j1 = w2c_l9;
+  w2c_j1 = w2c_p1;
   i64_store(&instance->w2c_memory, (u64)(w2c_i0), w2c_j1);
   w2c_j0 = w2c_p0;
   w2c_j1 = 16ull;
   w2c_j0 += w2c_j1;
   w2c_i0 = (u32)(w2c_j0);
-  w2c_j1 = w2c_l8;
+  w2c_j1 = w2c_l9;
   i64_store(&instance->w2c_memory, (u64)(w2c_i0), w2c_j1);
   w2c_j0 = w2c_p0;
   w2c_j1 = 8ull;
@@ -64963,10 +65883,10 @@ static void w2c_tcp_halves__sender__Sender__due(Machine * instance, u64 w2c_p0, 
   w2c_j1 = 16ull;
   w2c_j0 += w2c_j1;
   w2c_i0 = (u32)(w2c_j0);
-  w2c_j1 = w2c_l8;
+  w2c_j1 = w2c_l9;
   w2c_j2 = 0ull;
   w2c_i3 = w2c_p4;
-  w2c_j4 = w2c_l8;
+  w2c_j4 = w2c_l9;
   w2c_j5 = w2c_l6;
   w2c_j6 = w2c_l7;
   w2c_j5 += w2c_j6;
@@ -75550,11 +76470,9 @@ static void w2c_tcp_conn__endpoint__Endpoint__take_fin(Machine * instance, u64 w
 }
 
 static void w2c_tcp_conn__endpoint__Endpoint__take_blocks(Machine * instance, u64 w2c_p0, u64 w2c_p1) {
-  u32 w2c_l31 = 0, w2c_l32 = 0, w2c_l33 = 0, w2c_l34 = 0;
+  u32 w2c_l14 = 0, w2c_l15 = 0, w2c_l16 = 0, w2c_l17 = 0;
   u64 w2c_l2 = 0, w2c_l3 = 0, w2c_l4 = 0, w2c_l5 = 0, w2c_l6 = 0, w2c_l7 = 0, w2c_l8 = 0, w2c_l9 = 0, 
-      w2c_l10 = 0, w2c_l11 = 0, w2c_l12 = 0, w2c_l13 = 0, w2c_l14 = 0, w2c_l15 = 0, w2c_l16 = 0, w2c_l17 = 0, 
-      w2c_l18 = 0, w2c_l19 = 0, w2c_l20 = 0, w2c_l21 = 0, w2c_l22 = 0, w2c_l23 = 0, w2c_l24 = 0, w2c_l25 = 0, 
-      w2c_l26 = 0, w2c_l27 = 0, w2c_l28 = 0, w2c_l29 = 0, w2c_l30 = 0;
+      w2c_l10 = 0, w2c_l11 = 0, w2c_l12 = 0, w2c_l13 = 0;
   u32 w2c_i0, w2c_i1, w2c_i2, w2c_i3, w2c_i4;
   u64 w2c_j0, w2c_j1, w2c_j2, w2c_j3, w2c_j4, w2c_j5;
   w2c_j0 = instance->w2c___stack_pointer;
@@ -75572,7 +76490,7 @@ static void w2c_tcp_conn__endpoint__Endpoint__take_blocks(Machine * instance, u6
   w2c_j0 += w2c_j1;
   w2c_i0 = (u32)(w2c_j0);
   w2c_i0 = i32_load(&instance->w2c_memory, (u64)(w2c_i0));
-  w2c_l31 = w2c_i0;
+  w2c_l14 = w2c_i0;
   w2c_j0 = w2c_p1;
   w2c_j1 = 24ull;
   w2c_j0 += w2c_j1;
@@ -75631,17 +76549,13 @@ static void w2c_tcp_conn__endpoint__Endpoint__take_blocks(Machine * instance, u6
   w2c_i0 = w2c_i0 != w2c_i1;
   if (w2c_i0) {goto w2c_B1;}
   w2c_j0 = w2c_p0;
-  w2c_j1 = 144ull;
-  w2c_j0 += w2c_j1;
-  w2c_l4 = w2c_j0;
-  w2c_j0 = w2c_p0;
   w2c_j1 = 136ull;
   w2c_j0 += w2c_j1;
-  w2c_l5 = w2c_j0;
+  w2c_l4 = w2c_j0;
   w2c_j0 = w2c_l3;
   w2c_j1 = 16ull;
   w2c_j0 += w2c_j1;
-  w2c_l6 = w2c_j0;
+  w2c_l5 = w2c_j0;
   w2c_L2: 
     w2c_j0 = w2c_l3;
     w2c_i0 = (u32)(w2c_j0);
@@ -75651,47 +76565,47 @@ static void w2c_tcp_conn__endpoint__Endpoint__take_blocks(Machine * instance, u6
     if (w2c_i0) {goto w2c_B3;}
     w2c_j0 = w2c_l3;
     w2c_i0 = (u32)(w2c_j0);
-    w2c_j1 = w2c_l6;
+    w2c_j1 = w2c_l5;
     w2c_i1 = (u32)(w2c_j1);
     w2c_j1 = i64_load(&instance->w2c_memory, (u64)(w2c_i1) + 32u);
-    w2c_l7 = w2c_j1;
+    w2c_l6 = w2c_j1;
     i64_store(&instance->w2c_memory, (u64)(w2c_i0) + 88, w2c_j1);
     w2c_j0 = w2c_l3;
     w2c_i0 = (u32)(w2c_j0);
-    w2c_j1 = w2c_l6;
+    w2c_j1 = w2c_l5;
     w2c_i1 = (u32)(w2c_j1);
     w2c_j1 = i64_load(&instance->w2c_memory, (u64)(w2c_i1) + 24u);
     i64_store(&instance->w2c_memory, (u64)(w2c_i0) + 80, w2c_j1);
     w2c_j0 = w2c_l3;
     w2c_i0 = (u32)(w2c_j0);
-    w2c_j1 = w2c_l6;
+    w2c_j1 = w2c_l5;
     w2c_i1 = (u32)(w2c_j1);
     w2c_j1 = i64_load(&instance->w2c_memory, (u64)(w2c_i1) + 16u);
     i64_store(&instance->w2c_memory, (u64)(w2c_i0) + 72, w2c_j1);
     w2c_j0 = w2c_l3;
     w2c_i0 = (u32)(w2c_j0);
-    w2c_j1 = w2c_l6;
+    w2c_j1 = w2c_l5;
     w2c_i1 = (u32)(w2c_j1);
     w2c_j1 = i64_load(&instance->w2c_memory, (u64)(w2c_i1) + 8u);
     i64_store(&instance->w2c_memory, (u64)(w2c_i0) + 64, w2c_j1);
     w2c_j0 = w2c_l3;
     w2c_i0 = (u32)(w2c_j0);
-    w2c_j1 = w2c_l6;
+    w2c_j1 = w2c_l5;
     w2c_i1 = (u32)(w2c_j1);
     w2c_j1 = i64_load(&instance->w2c_memory, (u64)(w2c_i1));
     i64_store(&instance->w2c_memory, (u64)(w2c_i0) + 56, w2c_j1);
-    w2c_j0 = w2c_l7;
+    w2c_j0 = w2c_l6;
     w2c_i0 = !(w2c_j0);
     if (w2c_i0) {goto w2c_B3;}
     w2c_j0 = w2c_l3;
     w2c_j1 = 56ull;
     w2c_j0 += w2c_j1;
-    w2c_l8 = w2c_j0;
+    w2c_l7 = w2c_j0;
     w2c_L4: 
-      w2c_j0 = w2c_l7;
+      w2c_j0 = w2c_l6;
       w2c_j1 = 18446744073709551615ull;
       w2c_j0 += w2c_j1;
-      w2c_l7 = w2c_j0;
+      w2c_l6 = w2c_j0;
       w2c_j0 = 0ull;
       w2c_j1 = w2c_p0;
       w2c_j2 = 64ull;
@@ -75699,54 +76613,54 @@ static void w2c_tcp_conn__endpoint__Endpoint__take_blocks(Machine * instance, u6
       w2c_i1 = (u32)(w2c_j1);
       w2c_j1 = i64_load(&instance->w2c_memory, (u64)(w2c_i1));
       w2c_p1 = w2c_j1;
-      w2c_j2 = w2c_l8;
+      w2c_j2 = w2c_l7;
       w2c_i2 = (u32)(w2c_j2);
       w2c_i2 = i32_load(&instance->w2c_memory, (u64)(w2c_i2));
-      w2c_i3 = w2c_l31;
+      w2c_i3 = w2c_l14;
       w2c_j4 = w2c_p1;
       w2c_i4 = (u32)(w2c_j4);
       w2c_i3 += w2c_i4;
-      w2c_l32 = w2c_i3;
+      w2c_l15 = w2c_i3;
       w2c_i2 -= w2c_i3;
-      w2c_l33 = w2c_i2;
+      w2c_l16 = w2c_i2;
       w2c_j2 = (u64)(w2c_i2);
       w2c_j1 += w2c_j2;
       w2c_l2 = w2c_j1;
       w2c_j2 = 18446744069414584320ull;
       w2c_j1 += w2c_j2;
-      w2c_l9 = w2c_j1;
-      w2c_j2 = w2c_l9;
+      w2c_l8 = w2c_j1;
+      w2c_j2 = w2c_l8;
       w2c_j3 = w2c_l2;
       w2c_i2 = w2c_j2 > w2c_j3;
       w2c_j0 = w2c_i2 ? w2c_j0 : w2c_j1;
       w2c_j1 = w2c_l2;
-      w2c_i2 = w2c_l33;
+      w2c_i2 = w2c_l16;
       w2c_i3 = 0u;
       w2c_i2 = (u32)((s32)w2c_i2 < (s32)w2c_i3);
       w2c_j0 = w2c_i2 ? w2c_j0 : w2c_j1;
-      w2c_l9 = w2c_j0;
+      w2c_l8 = w2c_j0;
       w2c_j1 = 0ull;
       w2c_j2 = w2c_p1;
-      w2c_j3 = w2c_l8;
+      w2c_j3 = w2c_l7;
       w2c_j4 = 4ull;
       w2c_j3 += w2c_j4;
       w2c_i3 = (u32)(w2c_j3);
       w2c_i3 = i32_load(&instance->w2c_memory, (u64)(w2c_i3));
-      w2c_i4 = w2c_l32;
+      w2c_i4 = w2c_l15;
       w2c_i3 -= w2c_i4;
-      w2c_l32 = w2c_i3;
+      w2c_l15 = w2c_i3;
       w2c_j3 = (u64)(w2c_i3);
       w2c_j2 += w2c_j3;
       w2c_l2 = w2c_j2;
       w2c_j3 = 18446744069414584320ull;
       w2c_j2 += w2c_j3;
-      w2c_l10 = w2c_j2;
-      w2c_j3 = w2c_l10;
+      w2c_l9 = w2c_j2;
+      w2c_j3 = w2c_l9;
       w2c_j4 = w2c_l2;
       w2c_i3 = w2c_j3 > w2c_j4;
       w2c_j1 = w2c_i3 ? w2c_j1 : w2c_j2;
       w2c_j2 = w2c_l2;
-      w2c_i3 = w2c_l32;
+      w2c_i3 = w2c_l15;
       w2c_i4 = 0u;
       w2c_i3 = (u32)((s32)w2c_i3 < (s32)w2c_i4);
       w2c_j1 = w2c_i3 ? w2c_j1 : w2c_j2;
@@ -75754,11 +76668,11 @@ static void w2c_tcp_conn__endpoint__Endpoint__take_blocks(Machine * instance, u6
       w2c_i0 = w2c_j0 >= w2c_j1;
       if (w2c_i0) {goto w2c_B5;}
       w2c_j0 = w2c_p1;
-      w2c_j1 = w2c_l9;
+      w2c_j1 = w2c_l8;
       w2c_i0 = w2c_j0 >= w2c_j1;
       if (w2c_i0) {goto w2c_B5;}
       w2c_j0 = 0ull;
-      w2c_j1 = w2c_l9;
+      w2c_j1 = w2c_l8;
       w2c_j2 = w2c_p0;
       w2c_j3 = 80ull;
       w2c_j2 += w2c_j3;
@@ -75768,18 +76682,18 @@ static void w2c_tcp_conn__endpoint__Endpoint__take_blocks(Machine * instance, u6
       w2c_j2 += w2c_j3;
       w2c_p1 = w2c_j2;
       w2c_j1 -= w2c_j2;
-      w2c_l10 = w2c_j1;
-      w2c_j2 = w2c_l10;
-      w2c_j3 = w2c_l9;
+      w2c_l9 = w2c_j1;
+      w2c_j2 = w2c_l9;
+      w2c_j3 = w2c_l8;
       w2c_i2 = w2c_j2 > w2c_j3;
       w2c_j0 = w2c_i2 ? w2c_j0 : w2c_j1;
-      w2c_l10 = w2c_j0;
+      w2c_l9 = w2c_j0;
       w2c_j1 = w2c_p0;
       w2c_j2 = 104ull;
       w2c_j1 += w2c_j2;
       w2c_i1 = (u32)(w2c_j1);
       w2c_j1 = i64_load(&instance->w2c_memory, (u64)(w2c_i1));
-      w2c_l9 = w2c_j1;
+      w2c_l8 = w2c_j1;
       w2c_j2 = 0ull;
       w2c_j3 = w2c_l2;
       w2c_j4 = w2c_p1;
@@ -75790,11 +76704,11 @@ static void w2c_tcp_conn__endpoint__Endpoint__take_blocks(Machine * instance, u6
       w2c_i4 = w2c_j4 > w2c_j5;
       w2c_j2 = w2c_i4 ? w2c_j2 : w2c_j3;
       w2c_p1 = w2c_j2;
-      w2c_j3 = w2c_l9;
+      w2c_j3 = w2c_l8;
       w2c_j4 = w2c_p1;
       w2c_i3 = w2c_j3 < w2c_j4;
       w2c_j1 = w2c_i3 ? w2c_j1 : w2c_j2;
-      w2c_l11 = w2c_j1;
+      w2c_p1 = w2c_j1;
       w2c_i0 = w2c_j0 >= w2c_j1;
       if (w2c_i0) {goto w2c_B5;}
       w2c_j0 = w2c_l2;
@@ -75806,52 +76720,79 @@ static void w2c_tcp_conn__endpoint__Endpoint__take_blocks(Machine * instance, u6
       w2c_i0 = w2c_j0 > w2c_j1;
       if (w2c_i0) {goto w2c_B5;}
       w2c_j0 = w2c_p0;
+      w2c_j1 = 132ull;
+      w2c_j0 += w2c_j1;
+      w2c_i0 = (u32)(w2c_j0);
+      w2c_i0 = i32_load(&instance->w2c_memory, (u64)(w2c_i0));
+      w2c_l16 = w2c_i0;
+      w2c_j1 = w2c_p1;
+      w2c_i1 = (u32)(w2c_j1);
+      w2c_i0 += w2c_i1;
+      w2c_l15 = w2c_i0;
+      w2c_i0 = w2c_l16;
+      w2c_j1 = w2c_l9;
+      w2c_i1 = (u32)(w2c_j1);
+      w2c_i0 += w2c_i1;
+      w2c_l16 = w2c_i0;
+      w2c_j0 = w2c_p0;
       w2c_j1 = 136ull;
       w2c_j0 += w2c_j1;
       w2c_i0 = (u32)(w2c_j0);
       w2c_j0 = i64_load(&instance->w2c_memory, (u64)(w2c_i0));
-      w2c_l12 = w2c_j0;
+      w2c_l9 = w2c_j0;
       w2c_j0 = w2c_p0;
       w2c_j1 = 128ull;
       w2c_j0 += w2c_j1;
-      w2c_l13 = w2c_j0;
-      w2c_j0 = w2c_l10;
       w2c_i0 = (u32)(w2c_j0);
-      w2c_l32 = w2c_i0;
-      w2c_j0 = 0ull;
-      w2c_p1 = w2c_j0;
+      w2c_j0 = i64_load32_u(&instance->w2c_memory, (u64)(w2c_i0));
+      w2c_l10 = w2c_j0;
       w2c_j0 = w2c_p0;
       w2c_j1 = 144ull;
       w2c_j0 += w2c_j1;
       w2c_i0 = (u32)(w2c_j0);
       w2c_j0 = i64_load(&instance->w2c_memory, (u64)(w2c_i0));
-      w2c_l14 = w2c_j0;
+      w2c_l11 = w2c_j0;
       w2c_j1 = 1ull;
       w2c_i0 = w2c_j0 > w2c_j1;
       if (w2c_i0) {goto w2c_B8;}
-      w2c_j0 = w2c_l14;
-      w2c_l15 = w2c_j0;
-      w2c_j0 = w2c_l14;
+      w2c_j0 = w2c_l11;
+      w2c_l2 = w2c_j0;
+      w2c_j0 = w2c_l11;
       w2c_i0 = (u32)(w2c_j0);
       switch (w2c_i0) {
         case 0: goto w2c_B6;
-        case 1: goto w2c_B7;
+        case 1: goto w2c_B9;
         default: goto w2c_B6;
       }
-      w2c_B8:;
-      w2c_j0 = w2c_l14;
+      w2c_B9:;
+      w2c_j0 = w2c_l9;
+      w2c_j1 = 4ull;
+      w2c_j0 += w2c_j1;
+      w2c_i0 = (u32)(w2c_j0);
+      w2c_i0 = i32_load(&instance->w2c_memory, (u64)(w2c_i0));
+      w2c_i1 = w2c_l16;
+      w2c_i0 = w2c_i0 < w2c_i1;
+      w2c_j0 = (u64)(w2c_i0);
       w2c_l2 = w2c_j0;
-      w2c_L9: 
-        w2c_j0 = w2c_l2;
+      w2c_j0 = 0ull;
+      w2c_p1 = w2c_j0;
+      goto w2c_B7;
+      w2c_B8:;
+      w2c_j0 = 0ull;
+      w2c_l2 = w2c_j0;
+      w2c_j0 = w2c_l11;
+      w2c_p1 = w2c_j0;
+      w2c_L10: 
+        w2c_j0 = w2c_p1;
         w2c_j1 = 1ull;
         w2c_j0 >>= (w2c_j1 & 63);
-        w2c_l9 = w2c_j0;
-        w2c_j1 = w2c_p1;
+        w2c_l8 = w2c_j0;
+        w2c_j1 = w2c_l2;
         w2c_j0 += w2c_j1;
-        w2c_l10 = w2c_j0;
-        w2c_j1 = w2c_p1;
-        w2c_j2 = w2c_l12;
-        w2c_j3 = w2c_l10;
+        w2c_l12 = w2c_j0;
+        w2c_j1 = w2c_l2;
+        w2c_j2 = w2c_l9;
+        w2c_j3 = w2c_l12;
         w2c_j4 = 3ull;
         w2c_j3 <<= (w2c_j4 & 63);
         w2c_j2 += w2c_j3;
@@ -75859,377 +76800,130 @@ static void w2c_tcp_conn__endpoint__Endpoint__take_blocks(Machine * instance, u6
         w2c_j2 += w2c_j3;
         w2c_i2 = (u32)(w2c_j2);
         w2c_i2 = i32_load(&instance->w2c_memory, (u64)(w2c_i2));
-        w2c_i3 = w2c_l32;
+        w2c_i3 = w2c_l16;
         w2c_i2 = w2c_i2 < w2c_i3;
         w2c_j0 = w2c_i2 ? w2c_j0 : w2c_j1;
-        w2c_p1 = w2c_j0;
-        w2c_j0 = w2c_l2;
-        w2c_j1 = w2c_l9;
-        w2c_j0 -= w2c_j1;
         w2c_l2 = w2c_j0;
+        w2c_j0 = w2c_p1;
+        w2c_j1 = w2c_l8;
+        w2c_j0 -= w2c_j1;
+        w2c_p1 = w2c_j0;
         w2c_j1 = 1ull;
         w2c_i0 = w2c_j0 > w2c_j1;
-        if (w2c_i0) {goto w2c_L9;}
+        if (w2c_i0) {goto w2c_L10;}
+      w2c_j0 = w2c_l9;
+      w2c_j1 = w2c_l2;
+      w2c_j2 = 3ull;
+      w2c_j1 <<= (w2c_j2 & 63);
+      w2c_j0 += w2c_j1;
+      w2c_j1 = 4ull;
+      w2c_j0 += w2c_j1;
+      w2c_i0 = (u32)(w2c_j0);
+      w2c_i0 = i32_load(&instance->w2c_memory, (u64)(w2c_i0));
+      w2c_l17 = w2c_i0;
+      w2c_j0 = 0ull;
+      w2c_p1 = w2c_j0;
+      w2c_j0 = w2c_l11;
+      w2c_l8 = w2c_j0;
+      w2c_L11: 
+        w2c_j0 = w2c_p1;
+        w2c_j1 = w2c_l8;
+        w2c_j2 = 1ull;
+        w2c_j1 >>= (w2c_j2 & 63);
+        w2c_l12 = w2c_j1;
+        w2c_j2 = w2c_p1;
+        w2c_j1 += w2c_j2;
+        w2c_l13 = w2c_j1;
+        w2c_j2 = w2c_l9;
+        w2c_j3 = w2c_l13;
+        w2c_j4 = 3ull;
+        w2c_j3 <<= (w2c_j4 & 63);
+        w2c_j2 += w2c_j3;
+        w2c_i2 = (u32)(w2c_j2);
+        w2c_i2 = i32_load(&instance->w2c_memory, (u64)(w2c_i2));
+        w2c_i3 = w2c_l15;
+        w2c_i2 = w2c_i2 > w2c_i3;
+        w2c_j0 = w2c_i2 ? w2c_j0 : w2c_j1;
+        w2c_p1 = w2c_j0;
+        w2c_j0 = w2c_l8;
+        w2c_j1 = w2c_l12;
+        w2c_j0 -= w2c_j1;
+        w2c_l8 = w2c_j0;
+        w2c_j1 = 1ull;
+        w2c_i0 = w2c_j0 > w2c_j1;
+        if (w2c_i0) {goto w2c_L11;}
+      w2c_j0 = w2c_l2;
+      w2c_i1 = w2c_l17;
+      w2c_i2 = w2c_l16;
+      w2c_i1 = w2c_i1 < w2c_i2;
+      w2c_j1 = (u64)(w2c_i1);
+      w2c_j0 += w2c_j1;
+      w2c_l2 = w2c_j0;
       w2c_B7:;
-      w2c_j0 = w2c_p1;
-      w2c_j1 = w2c_l12;
+      w2c_j0 = w2c_l2;
+      w2c_j1 = w2c_p1;
+      w2c_j2 = w2c_l9;
+      w2c_j3 = w2c_p1;
+      w2c_j4 = 3ull;
+      w2c_j3 <<= (w2c_j4 & 63);
+      w2c_j2 += w2c_j3;
+      w2c_i2 = (u32)(w2c_j2);
+      w2c_i2 = i32_load(&instance->w2c_memory, (u64)(w2c_i2));
+      w2c_i3 = w2c_l15;
+      w2c_i2 = w2c_i2 <= w2c_i3;
+      w2c_j2 = (u64)(w2c_i2);
+      w2c_j1 += w2c_j2;
+      w2c_p1 = w2c_j1;
+      w2c_i0 = w2c_j0 >= w2c_j1;
+      if (w2c_i0) {goto w2c_B6;}
+      w2c_j0 = w2c_l9;
+      w2c_j1 = w2c_l2;
+      w2c_j2 = 3ull;
+      w2c_j1 <<= (w2c_j2 & 63);
+      w2c_j0 += w2c_j1;
+      w2c_l8 = w2c_j0;
+      w2c_i0 = (u32)(w2c_j0);
+      w2c_j1 = w2c_l8;
+      w2c_i1 = (u32)(w2c_j1);
+      w2c_i1 = i32_load(&instance->w2c_memory, (u64)(w2c_i1));
+      w2c_l17 = w2c_i1;
+      w2c_i2 = w2c_l16;
+      w2c_i3 = w2c_l17;
+      w2c_i4 = w2c_l16;
+      w2c_i3 = w2c_i3 < w2c_i4;
+      w2c_i1 = w2c_i3 ? w2c_i1 : w2c_i2;
+      i32_store(&instance->w2c_memory, (u64)(w2c_i0), w2c_i1);
+      w2c_j0 = w2c_l8;
+      w2c_i0 = (u32)(w2c_j0);
+      w2c_j1 = w2c_l9;
       w2c_j2 = w2c_p1;
       w2c_j3 = 3ull;
       w2c_j2 <<= (w2c_j3 & 63);
       w2c_j1 += w2c_j2;
-      w2c_j2 = 4ull;
+      w2c_j2 = 18446744073709551612ull;
       w2c_j1 += w2c_j2;
       w2c_i1 = (u32)(w2c_j1);
       w2c_i1 = i32_load(&instance->w2c_memory, (u64)(w2c_i1));
-      w2c_i2 = w2c_l32;
-      w2c_i1 = w2c_i1 < w2c_i2;
-      w2c_j1 = (u64)(w2c_i1);
-      w2c_j0 += w2c_j1;
-      w2c_l15 = w2c_j0;
+      w2c_l16 = w2c_i1;
+      w2c_i2 = w2c_l15;
+      w2c_i3 = w2c_l16;
+      w2c_i4 = w2c_l15;
+      w2c_i3 = w2c_i3 > w2c_i4;
+      w2c_i1 = w2c_i3 ? w2c_i1 : w2c_i2;
+      i32_store(&instance->w2c_memory, (u64)(w2c_i0) + 4, w2c_i1);
+      w2c_j0 = w2c_l4;
+      w2c_j1 = w2c_l2;
+      w2c_j2 = 1ull;
+      w2c_j1 += w2c_j2;
+      w2c_j2 = w2c_p1;
+      w2c_tcp_sendq__marks__Marks__remove_range(instance, w2c_j0, w2c_j1, w2c_j2);
+      goto w2c_B5;
       w2c_B6:;
-      w2c_j0 = w2c_l13;
-      w2c_i0 = (u32)(w2c_j0);
-      w2c_j0 = i64_load(&instance->w2c_memory, (u64)(w2c_i0));
-      w2c_l16 = w2c_j0;
       w2c_j0 = w2c_l11;
-      w2c_i0 = (u32)(w2c_j0);
-      w2c_l33 = w2c_i0;
-      w2c_j0 = w2c_l15;
-      w2c_j1 = w2c_l14;
+      w2c_j1 = w2c_l10;
       w2c_i0 = w2c_j0 >= w2c_j1;
-      if (w2c_i0) {goto w2c_B10;}
-      w2c_j0 = w2c_l14;
-      w2c_j1 = w2c_l15;
-      w2c_j0 -= w2c_j1;
-      w2c_j1 = 18446744073709551359ull;
-      w2c_j0 += w2c_j1;
-      w2c_l17 = w2c_j0;
-      w2c_j0 = w2c_l14;
-      w2c_j1 = 3ull;
-      w2c_j0 <<= (w2c_j1 & 63);
-      w2c_p1 = w2c_j0;
-      w2c_j1 = 18446744073709551608ull;
-      w2c_j0 += w2c_j1;
-      w2c_l18 = w2c_j0;
-      w2c_j0 = w2c_l12;
-      w2c_j1 = w2c_p1;
-      w2c_j0 += w2c_j1;
-      w2c_j1 = 18446744073709551600ull;
-      w2c_j0 += w2c_j1;
-      w2c_l19 = w2c_j0;
-      w2c_j0 = w2c_l12;
-      w2c_j1 = w2c_l15;
-      w2c_j2 = 3ull;
-      w2c_j1 <<= (w2c_j2 & 63);
-      w2c_l20 = w2c_j1;
-      w2c_j0 += w2c_j1;
-      w2c_l21 = w2c_j0;
-      w2c_j1 = 2048ull;
-      w2c_j0 += w2c_j1;
-      w2c_l22 = w2c_j0;
-      w2c_j0 = 0ull;
-      w2c_l23 = w2c_j0;
-      w2c_L11: 
-        w2c_j0 = w2c_l21;
-        w2c_i0 = (u32)(w2c_j0);
-        w2c_i0 = i32_load(&instance->w2c_memory, (u64)(w2c_i0));
-        w2c_i1 = w2c_l33;
-        w2c_i0 = w2c_i0 > w2c_i1;
-        if (w2c_i0) {goto w2c_B10;}
-        w2c_j0 = 0ull;
-        w2c_l24 = w2c_j0;
-        w2c_j0 = w2c_l4;
-        w2c_i0 = (u32)(w2c_j0);
-        w2c_j1 = 0ull;
-        i64_store(&instance->w2c_memory, (u64)(w2c_i0), w2c_j1);
-        w2c_j0 = w2c_p0;
-        w2c_j1 = 152ull;
-        w2c_j0 += w2c_j1;
-        w2c_i0 = (u32)(w2c_j0);
-        w2c_j0 = i64_load(&instance->w2c_memory, (u64)(w2c_i0));
-        w2c_l25 = w2c_j0;
-        w2c_j0 = w2c_l4;
-        w2c_i0 = (u32)(w2c_j0);
-        w2c_j1 = 0ull;
-        i64_store(&instance->w2c_memory, (u64)(w2c_i0) + 8, w2c_j1);
-        w2c_j0 = w2c_l21;
-        w2c_i0 = (u32)(w2c_j0);
-        w2c_j0 = i64_load(&instance->w2c_memory, (u64)(w2c_i0));
-        w2c_l26 = w2c_j0;
-        w2c_j0 = w2c_l20;
-        w2c_p1 = w2c_j0;
-        w2c_j0 = w2c_l15;
-        w2c_l27 = w2c_j0;
-        w2c_j0 = w2c_l14;
-        w2c_j1 = 18446744073709551615ull;
-        w2c_j0 += w2c_j1;
-        w2c_l14 = w2c_j0;
-        w2c_j1 = w2c_l15;
-        w2c_j0 -= w2c_j1;
-        w2c_l2 = w2c_j0;
-        w2c_j1 = 257ull;
-        w2c_i0 = w2c_j0 < w2c_j1;
-        if (w2c_i0) {goto w2c_B14;}
-        w2c_j0 = w2c_l12;
-        w2c_j1 = w2c_l18;
-        w2c_j2 = w2c_l23;
-        w2c_j3 = 3ull;
-        w2c_j2 <<= (w2c_j3 & 63);
-        w2c_j1 -= w2c_j2;
-        w2c_j0 += w2c_j1;
-        w2c_l28 = w2c_j0;
-        w2c_j0 = w2c_l17;
-        w2c_p1 = w2c_j0;
-        w2c_j0 = w2c_l21;
-        w2c_l29 = w2c_j0;
-        w2c_j0 = w2c_l15;
-        w2c_l27 = w2c_j0;
-        w2c_L15: 
-          w2c_j0 = w2c_p1;
-          w2c_l30 = w2c_j0;
-          w2c_j0 = w2c_l27;
-          w2c_j1 = 18446744073709551615ull;
-          w2c_i0 = w2c_j0 == w2c_j1;
-          if (w2c_i0) {goto w2c_B17;}
-          w2c_j0 = 0ull;
-          w2c_l2 = w2c_j0;
-          w2c_L18: 
-            w2c_j0 = w2c_l29;
-            w2c_j1 = w2c_l2;
-            w2c_j0 += w2c_j1;
-            w2c_p1 = w2c_j0;
-            w2c_i0 = (u32)(w2c_j0);
-            w2c_j1 = w2c_p1;
-            w2c_j2 = 8ull;
-            w2c_j1 += w2c_j2;
-            w2c_l9 = w2c_j1;
-            w2c_i1 = (u32)(w2c_j1);
-            w2c_j1 = i64_load(&instance->w2c_memory, (u64)(w2c_i1));
-            i64_store(&instance->w2c_memory, (u64)(w2c_i0), w2c_j1);
-            w2c_j0 = w2c_p1;
-            w2c_j1 = 16ull;
-            w2c_j0 += w2c_j1;
-            w2c_l10 = w2c_j0;
-            w2c_i0 = (u32)(w2c_j0);
-            w2c_j0 = i64_load(&instance->w2c_memory, (u64)(w2c_i0));
-            w2c_l11 = w2c_j0;
-            w2c_j0 = w2c_l10;
-            w2c_i0 = (u32)(w2c_j0);
-            w2c_j1 = w2c_p1;
-            w2c_j2 = 24ull;
-            w2c_j1 += w2c_j2;
-            w2c_l13 = w2c_j1;
-            w2c_i1 = (u32)(w2c_j1);
-            w2c_j1 = i64_load(&instance->w2c_memory, (u64)(w2c_i1));
-            i64_store(&instance->w2c_memory, (u64)(w2c_i0), w2c_j1);
-            w2c_j0 = w2c_l9;
-            w2c_i0 = (u32)(w2c_j0);
-            w2c_j1 = w2c_l11;
-            i64_store(&instance->w2c_memory, (u64)(w2c_i0), w2c_j1);
-            w2c_j0 = w2c_l13;
-            w2c_i0 = (u32)(w2c_j0);
-            w2c_j1 = w2c_p1;
-            w2c_j2 = 32ull;
-            w2c_j1 += w2c_j2;
-            w2c_i1 = (u32)(w2c_j1);
-            w2c_j1 = i64_load(&instance->w2c_memory, (u64)(w2c_i1));
-            i64_store(&instance->w2c_memory, (u64)(w2c_i0), w2c_j1);
-            w2c_j0 = w2c_l2;
-            w2c_j1 = 32ull;
-            w2c_j0 += w2c_j1;
-            w2c_l2 = w2c_j0;
-            w2c_j1 = 2048ull;
-            w2c_i0 = w2c_j0 != w2c_j1;
-            if (w2c_i0) {goto w2c_L18;}
-            goto w2c_B16;
-          UNREACHABLE;
-          w2c_B17:;
-          w2c_j0 = w2c_l22;
-          w2c_j1 = w2c_l24;
-          w2c_j2 = 11ull;
-          w2c_j1 <<= (w2c_j2 & 63);
-          w2c_j0 += w2c_j1;
-          w2c_i0 = (u32)(w2c_j0);
-          w2c_j0 = i64_load(&instance->w2c_memory, (u64)(w2c_i0));
-          w2c_p1 = w2c_j0;
-          w2c_j0 = 0ull;
-          w2c_l9 = w2c_j0;
-          w2c_L19: 
-            w2c_j0 = w2c_l29;
-            w2c_j1 = w2c_l9;
-            w2c_j0 += w2c_j1;
-            w2c_l2 = w2c_j0;
-            w2c_j1 = 2032ull;
-            w2c_j0 += w2c_j1;
-            w2c_i0 = (u32)(w2c_j0);
-            w2c_j1 = w2c_p1;
-            i64_store(&instance->w2c_memory, (u64)(w2c_i0), w2c_j1);
-            w2c_j0 = w2c_l2;
-            w2c_j1 = 2040ull;
-            w2c_j0 += w2c_j1;
-            w2c_i0 = (u32)(w2c_j0);
-            w2c_j1 = w2c_p1;
-            i64_store(&instance->w2c_memory, (u64)(w2c_i0), w2c_j1);
-            w2c_j0 = w2c_l2;
-            w2c_j1 = 2024ull;
-            w2c_j0 += w2c_j1;
-            w2c_i0 = (u32)(w2c_j0);
-            w2c_j1 = w2c_p1;
-            i64_store(&instance->w2c_memory, (u64)(w2c_i0), w2c_j1);
-            w2c_j0 = w2c_l2;
-            w2c_j1 = 2016ull;
-            w2c_j0 += w2c_j1;
-            w2c_i0 = (u32)(w2c_j0);
-            w2c_j1 = w2c_p1;
-            i64_store(&instance->w2c_memory, (u64)(w2c_i0), w2c_j1);
-            w2c_j0 = w2c_l9;
-            w2c_j1 = 18446744073709551584ull;
-            w2c_j0 += w2c_j1;
-            w2c_l9 = w2c_j0;
-            w2c_j1 = 18446744073709549568ull;
-            w2c_i0 = w2c_j0 != w2c_j1;
-            if (w2c_i0) {goto w2c_L19;}
-          w2c_B16:;
-          w2c_j0 = w2c_l30;
-          w2c_j1 = 18446744073709551360ull;
-          w2c_j0 += w2c_j1;
-          w2c_p1 = w2c_j0;
-          w2c_j0 = w2c_l29;
-          w2c_j1 = 2048ull;
-          w2c_j0 += w2c_j1;
-          w2c_l29 = w2c_j0;
-          w2c_j0 = w2c_l24;
-          w2c_j1 = 1ull;
-          w2c_j0 += w2c_j1;
-          w2c_l24 = w2c_j0;
-          w2c_j0 = w2c_l14;
-          w2c_j1 = w2c_l27;
-          w2c_j2 = 256ull;
-          w2c_j1 += w2c_j2;
-          w2c_l27 = w2c_j1;
-          w2c_j0 -= w2c_j1;
-          w2c_l2 = w2c_j0;
-          w2c_j1 = 256ull;
-          w2c_i0 = w2c_j0 > w2c_j1;
-          if (w2c_i0) {goto w2c_L15;}
-        w2c_j0 = w2c_l27;
-        w2c_j1 = 18446744073709551615ull;
-        w2c_i0 = w2c_j0 == w2c_j1;
-        if (w2c_i0) {goto w2c_B13;}
-        w2c_j0 = w2c_l27;
-        w2c_j1 = 3ull;
-        w2c_j0 <<= (w2c_j1 & 63);
-        w2c_p1 = w2c_j0;
-        w2c_B14:;
-        w2c_j0 = w2c_l14;
-        w2c_j1 = w2c_l27;
-        w2c_i0 = w2c_j0 == w2c_j1;
-        if (w2c_i0) {goto w2c_B12;}
-        w2c_j0 = w2c_l2;
-        w2c_j1 = 3ull;
-        w2c_j0 <<= (w2c_j1 & 63);
-        w2c_l2 = w2c_j0;
-        w2c_i0 = !(w2c_j0);
-        if (w2c_i0) {goto w2c_B12;}
-        w2c_j0 = w2c_l12;
-        w2c_j1 = w2c_p1;
-        w2c_j0 += w2c_j1;
-        w2c_p1 = w2c_j0;
-        w2c_i0 = (u32)(w2c_j0);
-        w2c_j1 = w2c_p1;
-        w2c_j2 = 8ull;
-        w2c_j1 += w2c_j2;
-        w2c_i1 = (u32)(w2c_j1);
-        w2c_j2 = w2c_l2;
-        w2c_i2 = (u32)(w2c_j2);
-        memory_copy(&instance->w2c_memory, &instance->w2c_memory, w2c_i0, w2c_i1, w2c_i2);
-        goto w2c_B12;
-        w2c_B13:;
-        w2c_j0 = w2c_l28;
-        w2c_i0 = (u32)(w2c_j0);
-        w2c_j0 = i64_load(&instance->w2c_memory, (u64)(w2c_i0));
-        w2c_l2 = w2c_j0;
-        w2c_j0 = w2c_l19;
-        w2c_p1 = w2c_j0;
-        w2c_L20: 
-          w2c_j0 = w2c_p1;
-          w2c_i0 = (u32)(w2c_j0);
-          w2c_j1 = w2c_l2;
-          i64_store(&instance->w2c_memory, (u64)(w2c_i0), w2c_j1);
-          w2c_j0 = w2c_p1;
-          w2c_j1 = 18446744073709551608ull;
-          w2c_j0 += w2c_j1;
-          w2c_p1 = w2c_j0;
-          w2c_j0 = w2c_l30;
-          w2c_j1 = 18446744073709551615ull;
-          w2c_j0 += w2c_j1;
-          w2c_l30 = w2c_j0;
-          w2c_j1 = 0ull;
-          w2c_i0 = w2c_j0 != w2c_j1;
-          if (w2c_i0) {goto w2c_L20;}
-        w2c_B12:;
-        w2c_j0 = w2c_p0;
-        w2c_j1 = 152ull;
-        w2c_j0 += w2c_j1;
-        w2c_i0 = (u32)(w2c_j0);
-        w2c_j1 = w2c_l25;
-        i64_store(&instance->w2c_memory, (u64)(w2c_i0), w2c_j1);
-        w2c_j0 = w2c_p0;
-        w2c_j1 = 144ull;
-        w2c_j0 += w2c_j1;
-        w2c_i0 = (u32)(w2c_j0);
-        w2c_j1 = w2c_l14;
-        i64_store(&instance->w2c_memory, (u64)(w2c_i0), w2c_j1);
-        w2c_j0 = w2c_p0;
-        w2c_j1 = 136ull;
-        w2c_j0 += w2c_j1;
-        w2c_i0 = (u32)(w2c_j0);
-        w2c_j1 = w2c_l12;
-        i64_store(&instance->w2c_memory, (u64)(w2c_i0), w2c_j1);
-        w2c_j0 = w2c_l26;
-        w2c_j1 = 32ull;
-        w2c_j0 >>= (w2c_j1 & 63);
-        w2c_i0 = (u32)(w2c_j0);
-        w2c_l34 = w2c_i0;
-        w2c_i1 = w2c_l33;
-        w2c_i2 = w2c_l34;
-        w2c_i3 = w2c_l33;
-        w2c_i2 = w2c_i2 > w2c_i3;
-        w2c_i0 = w2c_i2 ? w2c_i0 : w2c_i1;
-        w2c_l33 = w2c_i0;
-        w2c_j0 = w2c_l26;
-        w2c_i0 = (u32)(w2c_j0);
-        w2c_l34 = w2c_i0;
-        w2c_i1 = w2c_l32;
-        w2c_i2 = w2c_l34;
-        w2c_i3 = w2c_l32;
-        w2c_i2 = w2c_i2 < w2c_i3;
-        w2c_i0 = w2c_i2 ? w2c_i0 : w2c_i1;
-        w2c_l32 = w2c_i0;
-        w2c_j0 = w2c_l19;
-        w2c_j1 = 18446744073709551608ull;
-        w2c_j0 += w2c_j1;
-        w2c_l19 = w2c_j0;
-        w2c_j0 = w2c_l17;
-        w2c_j1 = 18446744073709551615ull;
-        w2c_j0 += w2c_j1;
-        w2c_l17 = w2c_j0;
-        w2c_j0 = w2c_l23;
-        w2c_j1 = 1ull;
-        w2c_j0 += w2c_j1;
-        w2c_l23 = w2c_j0;
-        w2c_j0 = w2c_l14;
-        w2c_j1 = w2c_l15;
-        w2c_i0 = w2c_j0 > w2c_j1;
-        if (w2c_i0) {goto w2c_L11;}
-      w2c_j0 = w2c_l15;
-      w2c_l14 = w2c_j0;
-      w2c_B10:;
-      w2c_j0 = w2c_l16;
-      w2c_j1 = w2c_l14;
-      w2c_i0 = w2c_j0 <= w2c_j1;
       if (w2c_i0) {goto w2c_B5;}
-      w2c_j0 = w2c_l14;
+      w2c_j0 = w2c_l11;
       w2c_j1 = w2c_p0;
       w2c_j2 = 152ull;
       w2c_j1 += w2c_j2;
@@ -76237,27 +76931,27 @@ static void w2c_tcp_conn__endpoint__Endpoint__take_blocks(Machine * instance, u6
       w2c_j1 = i64_load(&instance->w2c_memory, (u64)(w2c_i1));
       w2c_p1 = w2c_j1;
       w2c_i0 = w2c_j0 < w2c_j1;
-      if (w2c_i0) {goto w2c_B21;}
+      if (w2c_i0) {goto w2c_B12;}
       w2c_j0 = w2c_p1;
-      w2c_j1 = w2c_l14;
+      w2c_j1 = w2c_l11;
       w2c_i0 = w2c_j0 != w2c_j1;
-      if (w2c_i0) {goto w2c_B21;}
-      w2c_j0 = w2c_l5;
+      if (w2c_i0) {goto w2c_B12;}
+      w2c_j0 = w2c_l4;
       w2c_i0 = w2c_std_alloc__vec__Vec__grow_amortized____4a791bdeba1adbb6_(instance, w2c_j0);
       w2c_i0 = !(w2c_i0);
       if (w2c_i0) {goto w2c_B5;}
-      w2c_B21:;
-      w2c_j0 = w2c_l5;
-      w2c_j1 = w2c_l15;
-      w2c_i2 = w2c_l32;
-      w2c_i3 = w2c_l33;
+      w2c_B12:;
+      w2c_j0 = w2c_l4;
+      w2c_j1 = w2c_l2;
+      w2c_i2 = w2c_l16;
+      w2c_i3 = w2c_l15;
       w2c_std_alloc__vec__Vec__put_at____4a791bdeba1adbb6_(instance, w2c_j0, w2c_j1, w2c_i2, w2c_i3);
       w2c_B5:;
-      w2c_j0 = w2c_l8;
+      w2c_j0 = w2c_l7;
       w2c_j1 = 8ull;
       w2c_j0 += w2c_j1;
-      w2c_l8 = w2c_j0;
-      w2c_j0 = w2c_l7;
+      w2c_l7 = w2c_j0;
+      w2c_j0 = w2c_l6;
       w2c_j1 = 0ull;
       w2c_i0 = w2c_j0 != w2c_j1;
       if (w2c_i0) {goto w2c_L4;}

@@ -101,7 +101,7 @@ def preconditions():
     stack = stack_of("ours")
     names = [one.name for one in ROWS if not one.name.startswith("transfer")]
     # Also without a fault.
-    blamed = {"blind_text", "time_wait_reopens", "ecn_agreed", "hard_errors_syn", "edge_not_back_scaled", "simultaneous_open"}
+    blamed = {"time_wait_reopens", "ecn_agreed", "hard_errors_syn", "edge_not_back_scaled", "simultaneous_open"}
     for fault, wanted in (
         (lambda: broken.Says(broken.drops, broken.has_text), blamed | {"sent_without_push", "first_probe", "shut_window_probed"}),
         (lambda: broken.Says(broken.drops, broken.is_syn), {"passive_open", "active_open"}),

@@ -340,9 +340,8 @@ static void take(struct usernet *net, struct conn *conn, const struct ip_packet 
     struct tcpcore_arrive_report taken;
     if (withholds_reset(&before, packet->segment, packet->length))
         return; /* what the client has sent goes to the host first */
-    uint32_t answer =
-        vouched ? tcpcore_arrive_vouched_with_report(&conn->end, packet->src, packet->dst, packet->segment, packet->length, &taken)
-                : tcpcore_arrive_with_report(&conn->end, packet->src, packet->dst, packet->segment, packet->length, &taken);
+    struct tcpcore_intake intake = {.guard = TCPCORE_GUARD, .is_vouched = (uint32_t)vouched};
+    uint32_t answer = tcpcore_arrive_by(&conn->end, packet->src, packet->dst, packet->segment, packet->length, &intake, &taken);
     if (taken.rule == TCPCORE_RULE_NONE) {
         count(net, MALFORMED, answer >= TCPCORE_TOO_SHORT && answer <= TCPCORE_BAD_PADDING);
         return;

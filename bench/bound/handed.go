@@ -54,18 +54,18 @@ func burst(one, other *tcpcore.End, text, read []byte, segments int) int {
 	return count
 }
 
-var there, back tcpcore.Batch
+var there, back, texts tcpcore.Batch
 
-// What answered the burst before arrives with the turn that sends the next one, as in a program's loop.
+// What answered the burst before arrives with the turn that sends the next one, as in a program's loop. Segments of one byte are small
+// writes, which lie in a batch as `text` lies in its slice.
 func turn(one, other *tcpcore.End, text, read []byte, segments int) int {
+	var err error
 	there.Reset()
-	if len(text) == segments {
-		for ; len(text) > 1; text = text[1:] {
-			one.Send(text[:1])
-			must(one.EmitAll(&there))
-		}
+	if texts.Len() > 0 {
+		_, err = one.ExchangeTexts(b, a, &back, &there, &texts, nil)
+	} else {
+		_, err = one.Exchange(b, a, &back, &there, text, nil)
 	}
-	_, err := one.Exchange(b, a, &back, &there, text, nil)
 	must(err)
 	back.Reset()
 	exchanged, err := other.Exchange(a, b, &there, &back, nil, read)
@@ -85,6 +85,9 @@ func main() {
 		move = turn
 	}
 	text := make([]byte, segments*each)
+	for mode == "bytes_in_turns" && texts.Len() < segments {
+		texts.Add(text[:1])
+	}
 	count, err := strconv.Atoi(os.Args[2])
 	must(err)
 	one, other := made(a, 1), made(b, 2)

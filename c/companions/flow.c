@@ -83,6 +83,9 @@ static int reports_news(struct flow *flow, const struct tcpcore_arrive_report *r
     return is_news && report->brought == TCPCORE_BROUGHT_NOTHING;
 }
 
+/* A segment is summed, and comes in past a guard against those of somebody who sees nothing of the connection (RFC 5961, 5.2). */
+static const struct tcpcore_intake INTAKE = {.guard = TCPCORE_GUARD};
+
 uint32_t flow_arrive(struct flow *flow, tcpcore_end *end, tcpcore_addr src, tcpcore_addr dst, const void *bytes,
                      size_t length, uint64_t now)
 {
@@ -93,7 +96,7 @@ uint32_t flow_arrive(struct flow *flow, tcpcore_end *end, tcpcore_addr src, tcpc
         flow->resets++;
         return TCPCORE_DROPPED;
     }
-    uint32_t answer = tcpcore_arrive_with_report(end, src, dst, bytes, length, &report);
+    uint32_t answer = tcpcore_arrive_by(end, src, dst, bytes, length, &INTAKE, &report);
     if (answer != TCPCORE_DONE && answer != TCPCORE_DROPPED)
         return answer;
     struct tcpcore_status after = status_of(end);

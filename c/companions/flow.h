@@ -8,7 +8,7 @@
  *   keep_alive     keep-alives (RFC 9293, 3.8.4)
  *   answers        a limit on acknowledgements and resets that only answer (RFC 5961, 7)
  *
- * This is C over tcpcore.h and these, tested and not proved. tcpcore_arrive_with_report, tcpcore_send, tcpcore_receive, tcpcore_transmit,
+ * This is C over tcpcore.h and these, tested and not proved. tcpcore_arrive_by, tcpcore_send, tcpcore_receive, tcpcore_transmit,
  * tcpcore_emit_acknowledgement and tcpcore_resend_first are called through it, and so is timers_run; all other calls are made as they are.
  *
  * The caller has the clock: `now` is a count of milliseconds that never goes back. In each turn of its loop it
@@ -65,14 +65,15 @@ void flow_choose(struct flow *flow, uint32_t choices);
 void flow_keep_alive(struct flow *flow, const struct keep_alive_rules *rules);
 
 /*
- * tcpcore_arrive_with_report, and its answer. The third duplicate acknowledgement without blocks means a loss (fast retransmit, RFC
- * 5681, 3.2): the first segment goes out again, and the next missing one at each partial acknowledgement (fast recovery, RFC 6582); all of
- * them where the peer was seen to keep nothing out of order. A SYN that comes again in SYN-RECEIVED says that the SYN,ACK was lost: it goes out
- * in place of an acknowledgement, at most once in ANSWERS_QUIET milliseconds. Sets delayed_ack.is_urgent where that wants an answer at once.
+ * tcpcore_arrive_by with a guard of TCPCORE_GUARD, and its answer. The third duplicate acknowledgement without blocks means a loss (fast
+ * retransmit, RFC 5681, 3.2): the first segment goes out again, and the next missing one at each partial acknowledgement (fast recovery,
+ * RFC 6582); all of them where the peer was seen to keep nothing out of order. A SYN that comes again in SYN-RECEIVED says that the
+ * SYN,ACK was lost: it goes out in place of an acknowledgement, at most once in ANSWERS_QUIET milliseconds. Sets delayed_ack.is_urgent
+ * where that wants an answer at once.
  * A reset is withheld from the end, and answered by TCPCORE_DROPPED, in CLOSING and LAST-ACK while any byte is unread, and in TIME-WAIT
- * always (RFC 1337, 3). All the peer's bytes have come there, and were acknowledged, and the end would discard what isn't read, where
- * RFC 9293, 3.10.7.4 deletes the connection's record alone. A peer that has forgotten the connection answers a resend by such a reset,
- * also on a path that loses nothing. To the end it is as if the reset had been lost: the next one comes when the FIN is sent again.
+ * always (RFC 1337, 3). All the peer's bytes have come there, and were acknowledged, and the end would discard what isn't read, where RFC
+ * 9293, 3.10.7.4 deletes the connection's record alone. A peer that has forgotten the connection answers a resend by such a reset, also on
+ * a path that loses nothing. To the end it is as if the reset had been lost: the next one comes when the FIN is sent again.
  */
 uint32_t flow_arrive(struct flow *flow, tcpcore_end *end, tcpcore_addr src, tcpcore_addr dst, const void *bytes,
                      size_t length, uint64_t now);

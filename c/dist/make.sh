@@ -48,7 +48,7 @@ bindings() {
     done
     cp "$top/c/bindings/python/"{pyproject.toml,setup.py,batch.c} "$place/python"
     cp "$core/tcpcore.py" "$place/python/tcpcore/__init__.py"
-    cp "$core/"{datagrams,simulator}.py "$place/python/tcpcore"
+    cp "$core/"{_connections,_ends,_library,_records,datagrams,simulator}.py "$place/python/tcpcore"
     touch "$place/python/tcpcore/py.typed"
     cp "$top/c/bindings/cpp/"{tcpcore.hpp,test.cpp} "$place/cpp"
 }

@@ -32,6 +32,13 @@ else
     mkdir -p "$build"
     trap 'rm -rf "$build"' EXIT
     tar -C "$top" --exclude=out -cf - HANDLES "${folders[@]}" | tar -xf - -C "$build"
+    # The libraries that the gate has built are taken as they are, by their stamps; without them all is proved and built anew.
+    for folder in "${folders[@]}"; do
+        if [[ -d $top/$folder/out/rlib ]]; then
+            mkdir -p "$build/$folder/out"
+            cp -R "$top/$folder/out/rlib" "$build/$folder/out"
+        fi
+    done
     grep -E "$lines" "$top/crates.txt" | sed 's/^tcp_c staticlib:/tcp_c wasm64:/' >"$build/crates.txt"
     (cd "$build/crates/tcp_c" && rt lib)
 fi

@@ -30,6 +30,7 @@ struct call {
 static const u8 OF_CONFIG[] = {1, 1, 1, 1, 2, 2, 4, 4, 8, 8, 8, 1, 1, 1, 1, 2, 2, 0};
 static const u8 OF_STATUS[] = {4, 4, 8, 8, 8, 8, 8, 8, 8, 8, 4, 1, 1, 1, 1, 4, 4, 8, 4, 4, 0};
 static const u8 OF_ARRIVE_REPORT[] = {4, 4, 8, 4, 4, 4, 0};
+static const u8 OF_INTAKE[] = {4, 4, 0};
 static const u8 OF_TRANSMIT[] = {1, 1, 1, 1, 4, 8, 8, 8, 0};
 static const u8 OF_TRAIN[] = {1, 1, 1, 1, 4, 8, 8, 8, 8, 8, 8, 0};
 static const u8 OF_LENT[] = {8, 8, 8, 8, 4, 0};
@@ -272,6 +273,19 @@ static uint32_t tcp_c_arrive_vouched_with_report(struct handle *handle, const tc
     put_segment(&call, src, dst, bytes, length);
     carry_record(call.frame + AT_RECORD, taken, OF_ARRIVE_REPORT);
     uint32_t answer = w2c_tcp_c_arrive_vouched_with_report(M, AT_HANDLE, AT_SRC, AT_DST, WINDOW(IN_READ), length_of(length), AT_RECORD);
+    carry_record(taken, call.frame + AT_RECORD, OF_ARRIVE_REPORT);
+    end_with(&call, handle);
+    return answer;
+}
+
+static uint32_t tcp_c_arrive_by(struct handle *handle, const tcpcore_addr *src, const tcpcore_addr *dst, const uint8_t *bytes,
+                                size_t length, const struct tcpcore_intake *intake, struct tcpcore_arrive_report *taken)
+{
+    WITH_END(handle);
+    put_segment(&call, src, dst, bytes, length);
+    carry_record(call.frame + AT_OTHER, intake, OF_INTAKE);
+    carry_record(call.frame + AT_RECORD, taken, OF_ARRIVE_REPORT);
+    uint32_t answer = w2c_tcp_c_arrive_by(M, AT_HANDLE, AT_SRC, AT_DST, WINDOW(IN_READ), length_of(length), AT_OTHER, AT_RECORD);
     carry_record(taken, call.frame + AT_RECORD, OF_ARRIVE_REPORT);
     end_with(&call, handle);
     return answer;

@@ -6,7 +6,7 @@
 #define CONNECTION_SIZE 720
 #define CONNECTION_MARK UINT32_C(0x70636f6e)
 
-static const u8 OF_CONNECTION_RULES[] = {8, 8, 8, 8, 8, 8, 8, 8, 8, 4, 0};
+static const u8 OF_CONNECTION_RULES[] = {8, 8, 8, 8, 8, 8, 8, 8, 8, 4, 4, 0};
 static const u8 OF_CONNECTION_SEGMENT[] = {8, 8, 8, 1, 1, 1, 1, 0};
 
 #define WITH_CONNECTION(handle) \
@@ -81,6 +81,18 @@ static uint32_t tcp_c_connection_timeout(struct handle *handle, uint64_t now, ui
     return answer;
 }
 
+static uint32_t tcp_c_connection_tick(struct handle *handle, uint64_t now, uint32_t *timer, uint64_t *next)
+{
+    WITH_CONNECTION(handle);
+    put32(call.frame + AT_FOUND, 0);
+    put64(call.frame + AT_RECORD, 0);
+    uint32_t answer = w2c_tcp_c_connection_tick(M, AT_HANDLE, now, AT_FOUND, AT_RECORD);
+    *timer = get32(call.frame + AT_FOUND);
+    *next = get64(call.frame + AT_RECORD);
+    END_OF_CONNECTION(handle);
+    return answer;
+}
+
 static uint32_t tcp_c_connection_arrive(struct handle *handle, uint64_t now, const tcpcore_addr *src, const tcpcore_addr *dst,
                                         const uint8_t *bytes, size_t length, struct tcpcore_arrive_report *taken)
 {
@@ -88,6 +100,18 @@ static uint32_t tcp_c_connection_arrive(struct handle *handle, uint64_t now, con
     put_segment(&call, src, dst, bytes, length);
     carry_record(call.frame + AT_RECORD, taken, OF_ARRIVE_REPORT);
     uint32_t answer = w2c_tcp_c_connection_arrive(M, AT_HANDLE, now, AT_SRC, AT_DST, WINDOW(IN_READ), length_of(length), AT_RECORD);
+    carry_record(taken, call.frame + AT_RECORD, OF_ARRIVE_REPORT);
+    END_OF_CONNECTION(handle);
+    return answer;
+}
+
+static uint32_t tcp_c_connection_arrive_vouched(struct handle *handle, uint64_t now, const tcpcore_addr *src, const tcpcore_addr *dst,
+                                                const uint8_t *bytes, size_t length, struct tcpcore_arrive_report *taken)
+{
+    WITH_CONNECTION(handle);
+    put_segment(&call, src, dst, bytes, length);
+    carry_record(call.frame + AT_RECORD, taken, OF_ARRIVE_REPORT);
+    uint32_t answer = w2c_tcp_c_connection_arrive_vouched(M, AT_HANDLE, now, AT_SRC, AT_DST, WINDOW(IN_READ), length_of(length), AT_RECORD);
     carry_record(taken, call.frame + AT_RECORD, OF_ARRIVE_REPORT);
     END_OF_CONNECTION(handle);
     return answer;

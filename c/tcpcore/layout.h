@@ -56,6 +56,11 @@ FIELD(struct tcpcore_arrive_report, window_taken, 24, 4);
 /* The library writes nothing behind these. */
 FIELD(struct tcpcore_arrive_report, reserved, 28, 36);
 _Static_assert(sizeof(struct tcpcore_arrive_report) == 64, "the size of struct tcpcore_arrive_report");
+FIELD(struct tcpcore_intake, guard, 0, 4);
+FIELD(struct tcpcore_intake, is_vouched, 4, 4);
+/* The library writes nothing behind these. */
+FIELD(struct tcpcore_intake, reserved, 8, 24);
+_Static_assert(sizeof(struct tcpcore_intake) == 32, "the size of struct tcpcore_intake");
 FIELD(struct tcpcore_transmit, to, 0, 4);
 FIELD(struct tcpcore_transmit, kind, 4, 4);
 FIELD(struct tcpcore_transmit, length, 8, 8);
@@ -145,8 +150,9 @@ FIELD(struct tcpcore_connection_rules, handshake, 48, 8);
 FIELD(struct tcpcore_connection_rules, user, 56, 8);
 FIELD(struct tcpcore_connection_rules, fin_wait_2, 64, 8);
 FIELD(struct tcpcore_connection_rules, suspect_after, 72, 4);
+FIELD(struct tcpcore_connection_rules, guard, 76, 4);
 /* The library writes nothing behind these. */
-FIELD(struct tcpcore_connection_rules, reserved, 76, 52);
+FIELD(struct tcpcore_connection_rules, reserved, 80, 48);
 _Static_assert(sizeof(struct tcpcore_connection_rules) == 128, "the size of struct tcpcore_connection_rules");
 FIELD(struct tcpcore_connection_segment, length, 0, 8);
 FIELD(struct tcpcore_connection_segment, position, 8, 8);

@@ -1,6 +1,6 @@
 #!/usr/bin/env python3
 """Makes what repeats the records of crates/tcp_c/src/records.rt: layout.h, the fields of the structs in tcpcore.h with their
-comments, those of tcpcore.py, and those of the Rust crate. A field of a record is written by hand in records.rt alone. The structs
+comments, those of tcpcore.py's _library, and those of the Rust crate. A field of a record is written by hand in records.rt alone. The structs
 that C alone has (tcpcore_piece, tcpcore_lent, tcpcore_parts, tcpcore_train, and that of an end) stand in tcpcore.h and in each
 binding.
 
@@ -17,7 +17,7 @@ from typing import NamedTuple
 
 TOP = pathlib.Path(__file__).resolve().parents[2]
 RECORDS = TOP / "crates/tcp_c/src/records.rt"
-HEADER, LAYOUT, PYTHON = (TOP / "c/tcpcore" / name for name in ("tcpcore.h", "layout.h", "tcpcore.py"))
+HEADER, LAYOUT, PYTHON = (TOP / "c/tcpcore" / name for name in ("tcpcore.h", "layout.h", "_library.py"))
 RUST = TOP / "c/bindings/rust/src/sys.rs"
 RUST_WIDTH = int(re.findall(r"max_width = (\d+)", (TOP / "c/bindings/rust/rustfmt.toml").read_text())[0])
 
@@ -60,6 +60,7 @@ STRUCTS = {
     "CConfig": Struct("tcpcore_config"),
     "CStatus": Struct("struct tcpcore_status", 128),
     "CArriveReport": Struct("struct tcpcore_arrive_report", 64),
+    "CIntake": Struct("struct tcpcore_intake", 32),
     "CTransmit": Struct("struct tcpcore_transmit", 64),
     "CTrain": Struct("struct train", inner=True),
     "CTimeWait": Struct("struct tcpcore_time_wait"),

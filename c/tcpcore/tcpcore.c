@@ -57,6 +57,8 @@ uint32_t tcp_c_arrive_with_report(struct handle *, const tcpcore_addr *, const t
 uint32_t tcp_c_arrive_vouched(struct handle *, const tcpcore_addr *, const tcpcore_addr *, const uint8_t *, size_t);
 uint32_t tcp_c_arrive_vouched_with_report(struct handle *, const tcpcore_addr *, const tcpcore_addr *, const uint8_t *, size_t,
                                           struct tcpcore_arrive_report *);
+uint32_t tcp_c_arrive_by(struct handle *, const tcpcore_addr *, const tcpcore_addr *, const uint8_t *, size_t, const struct tcpcore_intake *,
+                         struct tcpcore_arrive_report *);
 uint32_t tcp_c_peek(struct handle *, struct lent *);
 uint32_t tcp_c_consume(struct handle *, size_t, size_t *);
 uint32_t tcp_c_emit(struct handle *, uint8_t *, size_t, tcpcore_addr *, size_t *);
@@ -87,8 +89,11 @@ size_t tcp_c_connection_room(const tcpcore_config *);
 uint32_t tcp_c_connection_free(struct handle *);
 uint32_t tcp_c_connection_poll_at(struct handle *, uint64_t *);
 uint32_t tcp_c_connection_timeout(struct handle *, uint64_t, uint32_t *);
+uint32_t tcp_c_connection_tick(struct handle *, uint64_t, uint32_t *, uint64_t *);
 uint32_t tcp_c_connection_arrive(struct handle *, uint64_t, const tcpcore_addr *, const tcpcore_addr *, const uint8_t *, size_t,
                                  struct tcpcore_arrive_report *);
+uint32_t tcp_c_connection_arrive_vouched(struct handle *, uint64_t, const tcpcore_addr *, const tcpcore_addr *, const uint8_t *, size_t,
+                                         struct tcpcore_arrive_report *);
 uint32_t tcp_c_connection_emit(struct handle *, uint64_t, uint64_t, uint8_t *, size_t, struct tcpcore_connection_segment *);
 uint32_t tcp_c_connection_send(struct handle *, uint64_t, const uint8_t *, size_t, size_t *);
 uint32_t tcp_c_connection_receive(struct handle *, uint64_t, uint8_t *, size_t, size_t *);
@@ -456,6 +461,22 @@ uint32_t tcpcore_arrive_vouched_with_report(tcpcore_end *end, tcpcore_addr src, 
     return answer;
 }
 
+uint32_t tcpcore_arrive_by(tcpcore_end *end, tcpcore_addr src, tcpcore_addr dst, const void *bytes, size_t length,
+                           const struct tcpcore_intake *intake, struct tcpcore_arrive_report *report)
+{
+    struct tcpcore_arrive_report found = {0};
+    struct place place = {report, sizeof *report};
+    uint32_t refused = refusal_with(end, bytes, length, place), answer = refused;
+    if (refused == TCPCORE_DONE && !intake)
+        answer = TCPCORE_NULL;
+    else if (refused == TCPCORE_DONE) {
+        struct tcpcore_intake here = *intake;
+        answer = tcp_c_arrive_by(handle(end), &src, &dst, front(bytes), length, &here, &found);
+    }
+    put(refused, place, end_at(end), bytes, length, &found);
+    return answer;
+}
+
 /* Which of the library's calls writes a segment and its length: none is called through a pointer (tests/depth.py). */
 enum writer { EMIT, EMIT_PARTIAL, EMIT_ACKNOWLEDGEMENT };
 
@@ -798,6 +819,19 @@ uint32_t tcpcore_connection_timeout(tcpcore_connection *connection, uint64_t now
     return answer;
 }
 
+uint32_t tcpcore_connection_tick(tcpcore_connection *connection, uint64_t now, uint32_t *timer, uint64_t *next)
+{
+    uint32_t found = 0;
+    uint64_t at = 0;
+    struct place where = {timer, sizeof *timer}, place = {next, sizeof *next};
+    uint32_t refused = connection_refusal_with_two(connection, NULL, 0, where, place), answer = refused;
+    if (refused == TCPCORE_DONE)
+        answer = tcp_c_connection_tick(handle_in(connection), now, &found, &at);
+    put(refused, where, connection_at(connection), NULL, 0, &found);
+    put(refused, place, connection_at(connection), NULL, 0, &at);
+    return answer;
+}
+
 uint32_t tcpcore_connection_arrive(tcpcore_connection *connection, uint64_t now, tcpcore_addr src, tcpcore_addr dst, const void *bytes,
                                    size_t length, struct tcpcore_arrive_report *report)
 {
@@ -806,6 +840,18 @@ uint32_t tcpcore_connection_arrive(tcpcore_connection *connection, uint64_t now,
     uint32_t refused = connection_refusal_with(connection, bytes, length, place), answer = refused;
     if (refused == TCPCORE_DONE)
         answer = tcp_c_connection_arrive(handle_in(connection), now, &src, &dst, front(bytes), length, &found);
+    put(refused, place, connection_at(connection), bytes, length, &found);
+    return answer;
+}
+
+uint32_t tcpcore_connection_arrive_vouched(tcpcore_connection *connection, uint64_t now, tcpcore_addr src, tcpcore_addr dst,
+                                           const void *bytes, size_t length, struct tcpcore_arrive_report *report)
+{
+    struct tcpcore_arrive_report found = {0};
+    struct place place = {report, sizeof *report};
+    uint32_t refused = connection_refusal_with(connection, bytes, length, place), answer = refused;
+    if (refused == TCPCORE_DONE)
+        answer = tcp_c_connection_arrive_vouched(handle_in(connection), now, &src, &dst, front(bytes), length, &found);
     put(refused, place, connection_at(connection), bytes, length, &found);
     return answer;
 }

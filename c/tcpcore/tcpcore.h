@@ -130,7 +130,7 @@ extern "C" {
 #endif
 
 /* The version of this header: it grows with each change of a struct, a call or an answer. */
-#define TCPCORE_VERSION 12
+#define TCPCORE_VERSION 13
 
 /* The answers; tcpcore_strerror has a text for each. */
 enum {
@@ -422,6 +422,21 @@ struct tcpcore_arrive_report {
     uint32_t reserved[9];
 };
 
+/* How far a guard reaches by default, two of the greatest windows, and what stands for no guard (RFC 5961, 5.2). */
+#define TCPCORE_GUARD UINT32_C(2097152)
+#define TCPCORE_NO_GUARD UINT32_MAX
+
+/* How bytes come in by tcpcore_arrive_by. {0} is with a guard of TCPCORE_GUARD, and their checksum is summed. */
+struct tcpcore_intake {
+    /* How far the guard reaches, in sequence numbers, as in the rules of a connection: TCPCORE_GUARD or more. 0 is
+       TCPCORE_GUARD, and TCPCORE_NO_GUARD is none. */
+    uint32_t guard;
+    /* Whether a device has found their checksum right, so that it isn't summed (RFC 9293, 3.1): 0 is no, anything else yes. */
+    uint32_t is_vouched;
+    /* 0. Fields of later versions take their place from here: the struct's size stays. */
+    uint32_t reserved[6];
+};
+
 /* What a segment is that an end emits. */
 enum {
     TCPCORE_KIND_NONE = 0,           /* none is due */
@@ -685,6 +700,17 @@ uint32_t tcpcore_arrive_vouched_with_report(tcpcore_end *end, tcpcore_addr src, 
                                             size_t length, struct tcpcore_arrive_report *report);
 
 /*
+ * As tcpcore_arrive_with_report, past a guard against segments of somebody who sees nothing of the connection (RFC 5961, 1.1 and 5.2),
+ * and summed or not, as *intake says. A segment that would be taken is dropped, and an acknowledgement is due, where it acknowledges what
+ * lies more than the guard's reach before SND.UNA; and where it comes while the window is shut, unless its sequence number is within the
+ * reach before RCV.NXT, or within the receive buffer and a FIN from there on. Its rule is then TCPCORE_RULE_UNACCEPTABLE. The other calls
+ * of an end have no guard, as RFC 9293 has none. Of version 13.
+ *   As tcpcore_arrive; never BAD_CHECKSUM where a device has found the checksum right. NULL of `intake`, too.
+ */
+uint32_t tcpcore_arrive_by(tcpcore_end *end, tcpcore_addr src, tcpcore_addr dst, const void *bytes, size_t length,
+                           const struct tcpcore_intake *intake, struct tcpcore_arrive_report *report);
+
+/*
  * Writes the segment that is due to `out`, checksum and all (RFC 9293, 3.7, 3.8 and 3.10).
  *   DONE: it takes the first *length bytes of `out`, and is for address *to; more may be due. What lies behind it in `out` stays.
  *   NOT_DUE: none. ROOM: `room` is below TCPCORE_EMIT_ROOM. NO_END; NULL; LENGTH; OVERLAP; COPIED.
@@ -856,11 +882,12 @@ uint32_t tcpcore_time_wait_status(const struct tcpcore_time_wait *time_wait, uin
  *   that an end has by the same name answers and does the same.
  *
  *   1. Make and open it: tcpcore_connection_connect or tcpcore_connection_listen.
- *   2. Wait for a segment, or until the time of tcpcore_connection_poll_at.
+ *   2. Wait for a segment, or until the time of tcpcore_connection_poll_at, which tcpcore_connection_tick reports as well.
  *   3. Hand each segment in by tcpcore_connection_arrive. Where it answers TCPCORE_EMIT_FIRST emit until nothing is due, and hand the
  *      same segment in again.
  *   4. Call what the user wants: send, receive, close. Then emit until tcpcore_connection_emit answers TCPCORE_NOT_DUE.
- *   5. Call tcpcore_connection_timeout. Where it answers TCPCORE_DONE emit again until nothing is due. Go on with 2.
+ *   5. Call tcpcore_connection_timeout, or tcpcore_connection_tick. Where it answers TCPCORE_DONE emit again until nothing is due. Go on
+ *      with 2.
  *   6. Free it once `phase` is TCPCORE_PHASE_CLOSED, and nothing is due: tcpcore_connection_free.
  *
  *   Left to the caller are congestion control (`window` of tcpcore_connection_emit) and delayed acknowledgements: who has some of the
@@ -878,8 +905,8 @@ typedef struct tcpcore_connection {
 /* The time that stands for none: of a limit that there is none, of tcpcore_connection_poll_at that no timer runs. */
 #define TCPCORE_NEVER UINT64_MAX
 
-/* The rules of a connection: how the retransmission timeout is made (RFC 6298, 2 and 5), and how long the end waits (RFC 9293, 3.8.3).
-   Times are microseconds. */
+/* The rules of a connection: how the retransmission timeout is made (RFC 6298, 2 and 5), how long the end waits (RFC 9293, 3.8.3), and
+   what its guard keeps out (RFC 5961, 5.2). Times are microseconds. */
 struct tcpcore_connection_rules {
     /* The timeout before any round trip was measured: 1 s (RFC 6298, 2.1). */
     uint64_t first;
@@ -902,15 +929,20 @@ struct tcpcore_connection_rules {
     uint64_t fin_wait_2;
     /* After so many timeouts in a row the path is suspect, and before them no end is given up: 3 or more (RFC 9293, 3.8.3). */
     uint32_t suspect_after;
+    /* The guard against segments of somebody who sees nothing of the connection (RFC 5961, 5.2): how many sequence numbers
+       behind SND.UNA the acknowledgement of a segment may lie that is taken, and while the window is shut how many behind
+       RCV.NXT its own number may. TCPCORE_GUARD or more, two of the greatest windows: below it, what the peer sent may be
+       kept out. 0 is TCPCORE_GUARD, and TCPCORE_NO_GUARD is none. */
+    uint32_t guard;
     /* 0. Fields of later versions take their place from here: the struct's size stays. */
-    uint32_t reserved[13];
+    uint32_t reserved[12];
 };
 
 /* The values of the standards, with a clock of milliseconds, 60 s as the greatest timeout, 3 minutes for a SYN, a user timeout of 5
-   minutes, and FIN-WAIT-2 without a limit:
+   minutes, FIN-WAIT-2 without a limit, and the guard:
        struct tcpcore_connection_rules rules = TCPCORE_CONNECTION_RULES_DEFAULT; */
 #define TCPCORE_CONNECTION_RULES_DEFAULT \
-    {1000000, 1000000, 60000000, 1000, 3000000, 240000000, 180000000, 300000000, TCPCORE_NEVER, 3, {0}}
+    {1000000, 1000000, 60000000, 1000, 3000000, 240000000, 180000000, 300000000, TCPCORE_NEVER, 3, TCPCORE_GUARD, {0}}
 
 /* What tcpcore_connection_emit reports of the segment that it wrote. */
 struct tcpcore_connection_segment {
@@ -976,14 +1008,28 @@ uint32_t tcpcore_connection_poll_at(const tcpcore_connection *connection, uint64
 uint32_t tcpcore_connection_timeout(tcpcore_connection *connection, uint64_t now, uint32_t *timer);
 
 /*
+ * It is `now`: tcpcore_connection_timeout, and then tcpcore_connection_poll_at, in one call, for a caller who has emitted all that was due
+ * and asks what is next. Of version 13.
+ *   DONE: emit, and call it again. NOT_DUE: none has expired, and *next is when one does. NO_END; NULL; OVERLAP; COPIED.
+ */
+uint32_t tcpcore_connection_tick(tcpcore_connection *connection, uint64_t now, uint32_t *timer, uint64_t *next);
+
+/*
  * A TCP segment of `length` bytes has come from `src` to `dst` at `now` (RFC 9293, 3.10.7), with the report of
- * tcpcore_arrive_with_report.
+ * tcpcore_arrive_with_report. What the guard of the rules keeps out is dropped, and an acknowledgement is due, as of tcpcore_arrive_by.
  *   As tcpcore_arrive. EMIT_FIRST: a timer has expired, and what was due then has to go out first; nothing changed. Emit until NOT_DUE,
  *   and hand the segment in again. WITHHELD: a reset that counts as lost, in TIME-WAIT (RFC 1337, 3), and in CLOSING and LAST-ACK while
  *   bytes are unread, which it would discard; nothing changed. There is nothing to do.
  */
 uint32_t tcpcore_connection_arrive(tcpcore_connection *connection, uint64_t now, tcpcore_addr src, tcpcore_addr dst, const void *bytes,
                                    size_t length, struct tcpcore_arrive_report *report);
+
+/*
+ * As tcpcore_connection_arrive, of a segment whose checksum a device has found right: it isn't summed. Of version 13.
+ *   As tcpcore_connection_arrive; never BAD_CHECKSUM.
+ */
+uint32_t tcpcore_connection_arrive_vouched(tcpcore_connection *connection, uint64_t now, tcpcore_addr src, tcpcore_addr dst,
+                                           const void *bytes, size_t length, struct tcpcore_arrive_report *report);
 
 /*
  * Writes the segment that is due at `now` to `out`, checksum and all (RFC 9293, 3.7, 3.8 and 3.10). What ends more than `window` numbers
@@ -1047,7 +1093,9 @@ const char *tcpcore_strerror(uint32_t answer);
 
 /*
  * The TCPCORE_VERSION with which tcpcore.c was compiled. A program that loads a shared library looks that this isn't below its
- * own. While the soname stays, later versions add calls, answers, and fields in the place of reserved words, and change nothing.
+ * own. While the soname stays, later versions add calls, answers, and fields in the place of reserved words. What a program that is
+ * built already gets otherwise is in CHANGELOG.md. An older library passes over a newer field: who counts on the guard looks that this
+ * is 13 or more.
  */
 uint32_t tcpcore_version(void);
 

@@ -30,6 +30,11 @@ def micros(time):
     return None if time is None else round(1e6 * time)
 
 
+def is_last_fin(segment, rcv_nxt):
+    """Whether it has the FIN whose number is the one before RCV.NXT (RFC 9293, 3.10.7.4, eighth)."""
+    return segment.has(FIN) and (segment.seq + len(segment.text) + 1) % 2**32 == rcv_nxt
+
+
 class Wired:
     """The second program's end by the names that the second driver has for what it asks of one."""
 
@@ -120,7 +125,7 @@ class SecondConnection(Second):
         self.passes(micros(now))
         words = end.arrive(packed(src), packed(dst), data)
         report = end.report
-        if rests and report.rule in OF_CONNECTION and flags & FIN:
+        if rests and report.rule in OF_CONNECTION and is_last_fin(Segment(data), end.rcv_nxt):
             self.deadlines.pop("time-wait", None)
         if report.rule in OF_CONNECTION and (report.brought != Brought.NOTHING or report.window_taken):
             self.left = None

@@ -1,11 +1,13 @@
-// Connections of tcpcore.hpp under hostile calls, drawn from a seed: any call but peer, set_user_timeout and resend_first, in any order and at any time, of objects that were moved
+// Connections of tcpcore.hpp under hostile calls, drawn from a seed: any call, in any order and at any time, of objects that were moved
 // from, too; segments that were damaged, cut or come from elsewhere; configs and rules out of their ranges. A call throws `refused` alone,
-// and by an answer that the header has for it. 'hostile SEED CALLS' makes so many; without words it makes 20,000.
+// and by an answer that the header has for it: of a connection that is there never that there is none. 'hostile SEED CALLS' makes so many;
+// without words it makes 20,000.
 #include "tcpcore.hpp"
 
 #include <algorithm>
 #include <cstdio>
 #include <cstdlib>
+#include <cstring>
 #include <random>
 #include <vector>
 
@@ -28,6 +30,7 @@ struct hostile {
     std::optional<tcpcore::connection> ends[2];
     std::vector<std::vector<unsigned char>> seen;
     std::uint64_t micros = 0, refusals = 0, moved = 0;
+    bool is_making = false;
 
     tcpcore::connection::time now() const
     {
@@ -43,6 +46,7 @@ struct hostile {
         config.runs = static_cast<std::uint16_t>(any(rarely() ? 65536 : 9));
         auto rules = tcpcore::default_rules();
         rules.least = rarely() ? 0 : 1 + any(2000000), rules.user = any(2) ? TCPCORE_NEVER : any(1u << 31);
+        rules.guard = any(3) ? TCPCORE_GUARD : any(2) ? TCPCORE_NO_GUARD : static_cast<std::uint32_t>(any(5000));
         ends[side].reset();
         ends[side] = any(2) ? tcpcore::connection::listen(config, rules, now())
                             : tcpcore::connection::connect(config, rules, addrs[1 - side], static_cast<std::uint16_t>(2 - side), now());
@@ -55,7 +59,8 @@ struct hostile {
         if (any(6) == 0 && !bytes.empty()) bytes[any(bytes.size())] ^= static_cast<unsigned char>(1 << any(8));
         if (rarely()) bytes.resize(any(70000));
         std::size_t from = rarely() ? any(3) : 1 - side, to = rarely() ? any(3) : side;
-        auto [answer, report] = it.arrive(now(), addrs[from], addrs[to], bytes.data(), bytes.size());
+        auto [answer, report] = any(4) ? it.arrive(now(), addrs[from], addrs[to], bytes.data(), bytes.size())
+                                       : it.arrive_vouched(now(), addrs[from], addrs[to], bytes.data(), bytes.size());
         check(answer <= TCPCORE_BAD_PADDING || (answer >= TCPCORE_DROPPED && answer <= TCPCORE_WITHHELD), "arrive answers what it may");
         check(answer == TCPCORE_DONE || answer == TCPCORE_DROPPED || report.acked == 0, "nothing is acknowledged by what isn't taken");
     }
@@ -64,7 +69,7 @@ struct hostile {
     {
         unsigned char out[TCPCORE_EMIT_ROOM], text[5000] = {};
         std::size_t length = any(sizeof text);
-        switch (any(12)) {
+        switch (any(14)) {
         case 0: case 1: case 2:
             arrive(it, side);
             break;
@@ -86,11 +91,25 @@ struct hostile {
         case 9: {
             auto at = it.poll_at();
             if (at && any(2)) micros = std::max<std::uint64_t>(micros, std::chrono::duration_cast<std::chrono::microseconds>(at->time_since_epoch()).count());
-            check(it.timeout(now()).value_or(0) <= TCPCORE_TIMER_USER, "a timer is one of four");
+            check((any(2) ? it.timeout(now()) : it.tick(now()).first).value_or(0) <= TCPCORE_TIMER_USER, "a timer is one of four");
             break;
         }
         case 10:
             it.acknowledge(now());
+            break;
+        case 11: {
+            const auto peer = it.peer();
+            auto is_peer = [&](const tcpcore_addr &addr) { return std::memcmp(&addr, &peer->first, sizeof addr) == 0; };
+            check(!peer || std::any_of(addrs, addrs + 3, is_peer), "a peer is one that a segment came from");
+            break;
+        }
+        case 12:
+            if (any(2))
+                it.resend_first(now());
+            else if (any(2))
+                it.set_user_timeout(std::nullopt);
+            else
+                it.set_user_timeout(std::chrono::microseconds(static_cast<std::int64_t>(drawn())));
             break;
         default:
             any(12) == 0 ? it.abort(now()) : any(4) == 0 ? it.close(now()) : it.acknowledge(now());
@@ -105,7 +124,8 @@ struct hostile {
         std::size_t side = any(2);
         micros += any(std::uint64_t(1) << any(20));
         try {
-            if (!ends[side] || any(3000) == 0) return make(side);
+            is_making = !ends[side] || any(3000) == 0;
+            if (is_making) return make(side);
             if (rarely()) {
                 // It goes on from where it was moved to, and what it was moved from refuses each call.
                 tcpcore::connection other = std::move(*ends[side]);
@@ -121,7 +141,8 @@ struct hostile {
             call(*ends[side], side);
         } catch (const tcpcore::refused &refused) {
             bool is_call = refused.answer >= TCPCORE_NOT_OPEN && refused.answer <= TCPCORE_NOT_CONNECTED;
-            check(is_call || (refused.answer >= TCPCORE_BAD_CAPACITY && refused.answer <= TCPCORE_BAD_RULES), "a refusal has one of the answers");
+            bool is_of_config = refused.answer >= TCPCORE_BAD_CAPACITY && refused.answer <= TCPCORE_BAD_RULES;
+            check(is_making ? is_of_config : is_call, "a refusal has one of the answers");
             refusals++;
         }
         if (seen.size() > 64) seen.erase(seen.begin(), seen.begin() + 32);

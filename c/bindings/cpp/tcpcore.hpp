@@ -175,6 +175,14 @@ public:
         std::uint32_t answer = taken_by(tcpcore_arrive_vouched_with_report(raw(), src, dst, segment, length, &reported));
         return {answer, reported};
     }
+    // The same past a guard, and summed or not, as `intake` says: {} is with a guard of TCPCORE_GUARD, and summed.
+    std::pair<std::uint32_t, struct tcpcore_arrive_report> arrive_by(tcpcore_addr src, tcpcore_addr dst, const void *segment, std::size_t length,
+                                                                     const struct tcpcore_intake &intake)
+    {
+        struct tcpcore_arrive_report reported;
+        std::uint32_t answer = taken_by(tcpcore_arrive_by(raw(), src, dst, segment, length, &intake, &reported));
+        return {answer, reported};
+    }
     bool timer(std::uint32_t timer) { return found(tcpcore_timer(raw(), timer)); }
     struct tcpcore_status status() const
     {
@@ -222,6 +230,13 @@ private:
         auto count = std::chrono::duration_cast<std::chrono::microseconds>(at.time_since_epoch()).count();
         return count < 0 ? 0 : static_cast<std::uint64_t>(count);
     }
+    // TCPCORE_NEVER is none, and a time that `time` can't tell the last one.
+    static std::optional<time> time_of(std::uint64_t at)
+    {
+        if (at == TCPCORE_NEVER) return std::nullopt;
+        auto last = std::chrono::duration_cast<std::chrono::microseconds>(time::max().time_since_epoch()).count();
+        return time(std::chrono::microseconds(at < static_cast<std::uint64_t>(last) ? static_cast<decltype(last)>(at) : last));
+    }
 
 public:
     // Opens a connection to this address and port: the SYN is due.
@@ -250,6 +265,14 @@ public:
         std::uint32_t answer = tcpcore_connection_arrive(raw(), micros(now), src, dst, segment, length, &reported);
         return {detail::taken_by(answer), reported};
     }
+    // The same of a segment whose checksum a device has found right: it isn't summed.
+    [[nodiscard]] std::pair<std::uint32_t, struct tcpcore_arrive_report> arrive_vouched(time now, tcpcore_addr src, tcpcore_addr dst,
+                                                                                       const void *segment, std::size_t length)
+    {
+        struct tcpcore_arrive_report reported;
+        std::uint32_t answer = tcpcore_connection_arrive_vouched(raw(), micros(now), src, dst, segment, length, &reported);
+        return {detail::taken_by(answer), reported};
+    }
     // Writes the segment that is due, if one is: its length is 0 where none was. What ends more than `window` numbers past SND.UNA waits,
     // unless nothing before it is in flight.
     struct tcpcore_connection_segment emit(time now, unsigned char (&out)[TCPCORE_EMIT_ROOM], std::uint64_t window = UINT64_MAX)
@@ -262,9 +285,7 @@ public:
     {
         std::uint64_t at;
         detail::done(tcpcore_connection_poll_at(raw(), &at));
-        if (at == TCPCORE_NEVER) return std::nullopt;
-        auto last = std::chrono::duration_cast<std::chrono::microseconds>(time::max().time_since_epoch()).count();
-        return time(std::chrono::microseconds(at < static_cast<std::uint64_t>(last) ? static_cast<decltype(last)>(at) : last));
+        return time_of(at);
     }
     // It is `now`: the timer that has expired, if one has, whose rule was applied. Then emit until nothing is due.
     std::optional<std::uint32_t> timeout(time now)
@@ -272,6 +293,15 @@ public:
         std::uint32_t timer;
         if (!detail::found(tcpcore_connection_timeout(raw(), micros(now), &timer))) return std::nullopt;
         return timer;
+    }
+
+    // timeout and then poll_at in one call, for a caller who has emitted all that was due: the timer, and when to call next.
+    std::pair<std::optional<std::uint32_t>, std::optional<time>> tick(time now)
+    {
+        std::uint32_t timer;
+        std::uint64_t next;
+        bool has_expired = detail::found(tcpcore_connection_tick(raw(), micros(now), &timer, &next));
+        return {has_expired ? std::optional<std::uint32_t>(timer) : std::nullopt, time_of(next)};
     }
 
     // As of an end.

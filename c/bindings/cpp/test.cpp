@@ -361,6 +361,7 @@ static void a_connection_refuses()
     std::size_t length = b.emit(now, ack).length;
     CHECK(length == 20 && b.peek()->first.length == 1000 && b.consume(now, 400) == 400);
     now = *a.poll_at();
+    CHECK(a.tick(now - 1us) == std::pair(std::optional<std::uint32_t>(), std::optional(now)));
     CHECK(!a.timeout(now - 1us) && a.timeout(now) == TCPCORE_TIMER_RETRANSMIT);
     CHECK(a.arrive(now, B, A, ack, length).first == TCPCORE_EMIT_FIRST);
     while (a.emit(now, out).length > 0) continue;
@@ -375,6 +376,46 @@ static void a_connection_refuses()
     CHECK(b.arrive(now, A, B, out, 20).first == TCPCORE_DONE && b.status().ending == TCPCORE_ENDING_RESET);
     tcpcore::connection moved = std::move(a);
     CHECK(moved.is_closed() && answer_of([&] { a.status(); }) == TCPCORE_NULL && answer_of([&] { a.peer(); }) == TCPCORE_NULL);
+}
+
+// A segment of somebody who knows the peer's address and port and this end's, without a checksum (RFC 9293, 3.1).
+static std::vector<unsigned char> blind(std::uint32_t seq, std::uint32_t ack, std::string_view text)
+{
+    std::vector<unsigned char> segment = {0, 7, 0, 7};
+    for (std::uint32_t number : {seq, ack})
+        for (int shift = 24; shift >= 0; shift -= 8) segment.push_back(static_cast<unsigned char>(number >> shift));
+    segment.insert(segment.end(), {5 << 4, 0x10, 4, 0, 0, 0, 0, 0});
+    segment.insert(segment.end(), text.begin(), text.end());
+    return segment;
+}
+
+// An acknowledgement more than the guard's reach behind SND.UNA comes with nothing that is taken (RFC 5961, 5.2); without a guard it does
+// (RFC 9293, 3.10.7.4, fifth). What isn't vouched for is summed.
+static void a_guard_keeps_out_what_is_blind()
+{
+    using namespace std::chrono_literals;
+    tcpcore::connection::time now(5s);
+    for (std::uint32_t guard : {std::uint32_t(TCPCORE_GUARD), std::uint32_t(0), TCPCORE_NO_GUARD}) {
+        struct tcpcore_connection_rules rules = tcpcore::default_rules();
+        CHECK(rules.guard == TCPCORE_GUARD);
+        rules.guard = guard;
+        tcpcore::connection a = tcpcore::connection::connect(config(A, 7), rules, B, 7, now);
+        tcpcore::connection b = tcpcore::connection::listen(config(B, 7), rules, now);
+        unsigned char out[TCPCORE_EMIT_ROOM];
+        std::uint32_t seq = 0, una = 0;
+        for (int turn = 0; turn < 2; turn++) {
+            while (std::size_t length = a.emit(now, out).length) CHECK(b.arrive(now, A, B, out, length).first == TCPCORE_DONE);
+            while (std::size_t length = b.emit(now, out).length) {
+                for (int at = 0; at < 4; at++) seq = seq << 8 | out[4 + at], una = una << 8 | out[8 + at];
+                CHECK(a.arrive(now, B, A, out, length).first == TCPCORE_DONE);
+            }
+        }
+        auto old = blind(seq + 1, una - TCPCORE_GUARD - 1, "x"), edge = blind(seq + 1, una - TCPCORE_GUARD, "xy");
+        CHECK(a.arrive(now, B, A, old.data(), old.size()).first == TCPCORE_BAD_CHECKSUM);
+        std::uint32_t wanted = guard == TCPCORE_NO_GUARD ? TCPCORE_DONE : TCPCORE_DROPPED;
+        CHECK(a.arrive_vouched(now, B, A, old.data(), old.size()).first == wanted);
+        CHECK(a.arrive_vouched(now, B, A, edge.data(), edge.size()).first == TCPCORE_DONE && a.status().unread == 2);
+    }
 }
 
 // RFC 6298, 2.4 and 5.5: after a round trip of 0 the timer expires 1, 3 and 7 s after what is lost; RFC 9293, 3.8.3: a user timeout that is
@@ -461,6 +502,7 @@ int main()
     over_a_lossy_link();
     a_connection_refuses();
     a_user_timeout_is_set();
+    a_guard_keeps_out_what_is_blind();
     CHECK(tcpcore::build().find("machine code") != std::string_view::npos || tcpcore::build().find("portable C") == 0);
     a = tcpcore::end(config(A, 9));
     CHECK(a.status().phase == TCPCORE_PHASE_CLOSED);

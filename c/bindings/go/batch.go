@@ -13,39 +13,58 @@ import "unsafe"
 type Batch struct {
 	bytes   []byte
 	records []C.struct_batch_record
-	used    int // of bytes
-	count   int // of records
+	taken   C.struct_batch_taken // of both; C counts what it emits
 }
 
 // Reset empties the batch. What Segment lent is written over by what comes next.
-func (batch *Batch) Reset() { batch.used, batch.count = 0, 0 }
+func (batch *Batch) Reset() { batch.taken.used, batch.taken.count = 0, 0 }
 
 // Len is the number of segments.
-func (batch *Batch) Len() int { return batch.count }
+func (batch *Batch) Len() int { return int(batch.taken.count) }
 
 // Add appends a copy of a segment.
 func (batch *Batch) Add(segment []byte) {
-	batch.grow(len(segment))
-	copy(batch.bytes[batch.used:], segment)
-	batch.records[batch.count] = C.struct_batch_record{at: C.size_t(batch.used), length: C.size_t(len(segment))}
-	batch.used, batch.count = batch.used+len(segment), batch.count+1
+	if !batch.has(len(segment)) {
+		batch.grow(len(segment))
+	}
+	taken := &batch.taken
+	copy(batch.bytes[taken.used:], segment)
+	batch.records[taken.count] = C.struct_batch_record{at: taken.used, length: C.size_t(len(segment))}
+	taken.used, taken.count = taken.used+C.size_t(len(segment)), taken.count+1
 }
 
-// grow makes room for a record and so many bytes.
+// has is whether there is room for a record and so many bytes.
+func (batch *Batch) has(more int) bool {
+	taken := &batch.taken
+	return taken.count < taken.most && taken.room-taken.used >= C.size_t(more)
+}
+
+// grow makes that room.
 func (batch *Batch) grow(more int) {
-	if len(batch.bytes)-batch.used < more || len(batch.bytes) == 0 {
+	taken := &batch.taken
+	if taken.room-taken.used < C.size_t(more) || taken.room == 0 {
 		bytes := make([]byte, 2*len(batch.bytes)+more+8*EmitRoom)
-		copy(bytes, batch.bytes[:batch.used])
-		batch.bytes = bytes
+		copy(bytes, batch.bytes[:taken.used])
+		batch.bytes, taken.room = bytes, C.size_t(len(bytes))
 	}
-	if len(batch.records) == batch.count {
-		records := make([]C.struct_batch_record, 2*batch.count+16)
+	if taken.count == taken.most {
+		records := make([]C.struct_batch_record, 2*len(batch.records)+16)
 		copy(records, batch.records)
-		batch.records = records
+		batch.records, taken.most = records, C.size_t(len(records))
 	}
 }
 
-func (batch *Batch) record(i int) *C.struct_batch_record { return &batch.records[:batch.count][i] }
+// first is the first record, also of an empty batch.
+func (batch *Batch) first() *C.struct_batch_record {
+	if len(batch.records) == 0 {
+		batch.grow(0)
+	}
+	return &batch.records[0]
+}
+
+func (batch *Batch) record(i int) *C.struct_batch_record {
+	return &batch.records[:batch.taken.count][i]
+}
 
 // Segment lends segment i, until the next Reset, Add, or call that fills the batch.
 func (batch *Batch) Segment(i int) []byte {
@@ -84,7 +103,7 @@ func (end *End) Turn(src, dst Addr, in, out *Batch) error {
 	if in == out {
 		return Refused(C.TCPCORE_OVERLAP)
 	}
-	return end.turn(src, dst, in, out, in.count == 0)
+	return end.turn(src, dst, in, out, in.Len() == 0)
 }
 
 // Exchanged is what the user's calls within an Exchange did: how many bytes of the text were accepted, as Send tells, and how many were
@@ -94,14 +113,13 @@ type Exchanged struct {
 	Ended     bool
 }
 
-// add counts what the user's calls did, and tells what they were refused with.
-func (exchanged *Exchanged) add(sent, got C.struct_batch_count) error {
-	exchanged.Sent, exchanged.Got = exchanged.Sent+int(sent.count), exchanged.Got+int(got.count)
-	exchanged.Ended = exchanged.Ended || got.answer == C.TCPCORE_END_OF_STREAM
-	if got.answer < C.TCPCORE_NOTHING && got.answer != C.TCPCORE_DONE {
-		return done(got.answer)
+// exchanged is what the user's calls did by what C has told, and what they were refused with.
+func exchanged(sent, got *C.struct_batch_count) (Exchanged, error) {
+	did := Exchanged{int(sent.count), int(got.count), got.answer == C.TCPCORE_END_OF_STREAM}
+	if got.answer != C.TCPCORE_DONE && got.answer < C.TCPCORE_NOTHING {
+		return did, Refused(got.answer)
 	}
-	return done(sent.answer)
+	return did, done(sent.answer)
 }
 
 // Exchange is a whole turn of an end in one call of C: Arrive for each segment of `in`, with Emit until nothing is due behind each one that
@@ -110,61 +128,73 @@ func (exchanged *Exchanged) add(sent, got C.struct_batch_count) error {
 // appended to `out`, another Batch than `in`. The error is the first of: that there is no end, as after Free, then nothing was done; what
 // Receive tells; and what Send tells.
 func (end *End) Exchange(src, dst Addr, in, out *Batch, text, read []byte) (Exchanged, error) {
-	var exchanged Exchanged
+	return end.exchange(src, dst, in, out, text, nil, C.size_t(len(text)), read)
+}
+
+// ExchangeTexts is Exchange for many small writes: each of `texts`, another Batch than `out`, is a Send with an Emit behind it, and behind
+// the last one all that is due goes out. So each has a segment of its own where nothing else was due and the peer's window has room for
+// it. Behind one that isn't taken whole none is sent: Sent tells how many bytes were.
+func (end *End) ExchangeTexts(src, dst Addr, in, out, texts *Batch, read []byte) (Exchanged, error) {
+	if texts == out {
+		return Exchanged{}, Refused(C.TCPCORE_OVERLAP)
+	}
+	return end.exchange(src, dst, in, out, texts.bytes, texts.first(), texts.taken.count, read)
+}
+
+// exchange sends so many texts, which lie where their records say; without records one of so many bytes.
+func (end *End) exchange(src, dst Addr, in, out *Batch, text []byte, records *C.struct_batch_record, count C.size_t,
+	read []byte) (Exchanged, error) {
 	if in == out {
-		return exchanged, Refused(C.TCPCORE_OVERLAP)
+		return Exchanged{}, Refused(C.TCPCORE_OVERLAP)
 	}
-	var refused error
-	for next, goesOn := C.size_t(0), false; ; goesOn = true {
-		out.grow(EmitRoom)
-		made := C.batch_exchange(end.raw, src.c(), dst.c(), bytesOf(in.bytes), recordsOf(in.records), next, C.size_t(in.count), is(goesOn),
-			bytesOf(text), C.size_t(len(text)), bytesOf(read), C.size_t(len(read)), bytesOf(out.bytes), C.size_t(len(out.bytes)),
-			recordsOf(out.records), C.size_t(len(out.records)), C.size_t(out.used), C.size_t(out.count))
-		out.used, out.count, next = int(made.told.used), int(made.told.count), made.told.next
-		if made.is_made == 1 {
-			if err := exchanged.add(made.sent, made.got); refused == nil {
-				refused = err
-			}
-			text, read = nil, nil
+	told := &end.told
+	*told = C.struct_batch_told{}
+	for {
+		if !out.has(EmitRoom) {
+			out.grow(EmitRoom)
 		}
-		if made.told.is_full == 0 {
-			if err := done(made.told.answer); err != nil {
-				return exchanged, err
-			}
-			return exchanged, refused
+		C.batch_exchange(end.raw, src.c(), dst.c(), bytesOf(in.bytes), recordsOf(in.records), in.taken.count,
+			bytesOf(text), records, count, bytesOf(read), C.size_t(len(read)),
+			bytesOf(out.bytes), recordsOf(out.records), &out.taken, told)
+		if told.emit_first == 0 {
+			break
 		}
 	}
+	did, refused := exchanged(&told.sent, &told.got)
+	if told.answer != C.TCPCORE_DONE {
+		refused = Refused(told.answer)
+	}
+	return did, refused
 }
 
 var none Batch
 
-// turn calls C, and again where `out` has to grow before more can be emitted.
+// turn calls C, and again where `out` has to grow before more can be emitted. Where `emits` it emits before anything arrives.
 func (end *End) turn(src, dst Addr, in, out *Batch, emits bool) error {
-	from, to, next := in, out, C.size_t(0)
+	from, to := in, out
 	if in == nil {
 		from = &none
 	}
 	if out == nil {
 		to = &none
 	}
+	told := &end.told
+	*told = C.struct_batch_told{emit_first: is(emits)}
 	for {
 		if out != nil {
-			out.grow(EmitRoom)
+			if !out.has(EmitRoom) {
+				out.grow(EmitRoom)
+			}
 		}
-		told := C.batch_turn(end.raw, src.c(), dst.c(), bytesOf(from.bytes), recordsOf(from.records), next, C.size_t(from.count),
-			is(out != nil), is(emits), bytesOf(to.bytes), C.size_t(len(to.bytes)), recordsOf(to.records), C.size_t(len(to.records)),
-			C.size_t(to.used), C.size_t(to.count))
-		if out != nil {
-			out.used, out.count = int(told.used), int(told.count)
+		C.batch_turn(end.raw, src.c(), dst.c(), bytesOf(from.bytes), recordsOf(from.records), from.taken.count, is(out != nil),
+			bytesOf(to.bytes), recordsOf(to.records), &to.taken, told)
+		if told.emit_first == 0 {
+			return done(told.answer)
 		}
-		if told.is_full == 0 {
-			return done(C.uint32_t(told.answer))
-		}
-		next, emits = told.next, true
 	}
 }
 
-func is(so bool) C.int {
+func is(so bool) C.uint32_t {
 	if so {
 		return 1
 	}

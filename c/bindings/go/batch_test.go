@@ -3,7 +3,6 @@ package tcpcore
 import (
 	"bytes"
 	"errors"
-	"io"
 	"math/rand"
 	"reflect"
 	"testing"
@@ -31,6 +30,16 @@ func emitEach(end *End) (out []emitted) {
 		}
 		out = append(out, emitted{to, string(room[:length])})
 	}
+}
+
+// emitOne is one call of Emit.
+func emitOne(end *End) []emitted {
+	var room [EmitRoom]byte
+	to, length := end.Emit(&room)
+	if length == 0 {
+		return nil
+	}
+	return []emitted{{to, string(room[:length])}}
 }
 
 // turnEach is Turn by single calls, or ArriveAll.
@@ -165,158 +174,35 @@ func TestBatchIsTheCalls(t *testing.T) {
 	}
 }
 
-// exchangeEach is Exchange by single calls.
-func exchangeEach(end *End, src, dst Addr, segments []string, text, read []byte) (answers []arrived, out []emitted, done Exchanged, refused error) {
-	for _, segment := range segments {
-		atOnce, err := end.Arrive(src, dst, []byte(segment))
-		answers = append(answers, arrived{atOnce, err})
-		if atOnce {
-			out = append(out, emitEach(end)...)
-		}
-	}
-	if len(read) > 0 {
-		done.Got, refused = end.Receive(read)
-	}
-	if done.Ended = refused == io.EOF; done.Ended {
-		refused = nil
-	}
-	if len(text) > 0 {
-		sent, err := end.Send(text)
-		if done.Sent = sent; refused == nil {
-			refused = err
-		}
-	}
-	return answers, append(out, emitEach(end)...), done, refused
-}
-
-// So it is with whole turns, until both users have read the end of the stream, and behind it, where all is refused.
-func TestExchangeIsTheCalls(t *testing.T) {
-	moved, ended, refused := 0, 0, 0
-	for seed := int64(0); seed < 20; seed++ {
-		random := rand.New(rand.NewSource(seed))
-		one, other := connected(t)
-		third, fourth := connected(t)
-		each, once, addrs := []*End{one, other}, []*End{third, fourth}, []Addr{a, b}
-		var in, out Batch
-		waiting, text, read := [2][]string{}, make([]byte, 5000), [2][]byte{make([]byte, 5000), make([]byte, 5000)}
-		random.Read(text)
-		for step := 0; step < 600; step++ {
-			i := random.Intn(2)
-			if step > 400 && random.Intn(20) == 0 && each[i].Close() != once[i].Close() {
-				t.Fatal(seed, step)
-			}
-			if timer := uint32(random.Intn(8)); timer < 2 && each[i].Timer(timer) != once[i].Timer(timer) {
-				t.Fatal(seed, step, timer)
-			}
-			sends, reads, segments := random.Intn(3)*random.Intn(2500), random.Intn(2)*random.Intn(5000), waiting[i]
-			if step > 400 {
-				reads = 5000
-			}
-			answers, out1, done1, err1 := exchangeEach(each[i], addrs[1-i], addrs[i], segments, text[:sends], read[0][:reads])
-			in.Reset()
-			out.Reset()
-			for _, segment := range segments {
-				in.Add([]byte(segment))
-			}
-			done2, err2 := once[i].Exchange(addrs[1-i], addrs[i], &in, &out, text[:sends], read[1][:reads])
-			if done1 != done2 || err1 != err2 || !bytes.Equal(read[0][:done1.Got], read[1][:done1.Got]) || out.Len() != len(out1) {
-				t.Fatal(seed, step, done1, done2, err1, err2, len(out1), out.Len())
-			}
-			for k, it := range answers {
-				if it != (arrived{in.AtOnce(k), in.Err(k)}) {
-					t.Fatal(seed, step, k, it)
-				}
-			}
-			for k, it := range out1 {
-				if it != (emitted{out.To(k), string(out.Segment(k))}) {
-					t.Fatal(seed, step, k)
-				}
-			}
-			waiting[i] = nil
-			waiting[1-i] = append(waiting[1-i], spoiled(random, out1)...)
-			if moved += done1.Got; done1.Ended {
-				ended++
-			}
-			if err1 != nil {
-				refused++
-			}
-			if each[i].Status() != once[i].Status() || each[i].Timers() != once[i].Timers() {
-				t.Fatal(seed, step, each[i].Status(), once[i].Status())
-			}
-		}
-		for _, end := range append(each, once...) {
-			end.Free()
-		}
-	}
-	// Text, ends of streams and refused calls were among them.
-	if moved < 1000000 || ended < 20 || refused < 100 {
-		t.Fatal(moved, ended, refused)
-	}
-}
-
-// A turn whose batch fills up goes on where it stopped: a whole window of text goes out of one Exchange, and is read by another.
-func TestExchangeGrows(t *testing.T) {
+// openedByBatches is two ends of such capacities, the first of which has yet to acknowledge the other's SYN: the segment for it is in the
+// batch `back`, and the batch `there` is empty.
+func openedByBatches(t *testing.T, capacity uint64, shift int8) (one, other *End, there, back *Batch) {
 	config := DefaultConfig(a, 7, 1)
+	config.SendCapacity, config.RecvCapacity, config.Shift = capacity, capacity, shift
 	one, err := New(config)
 	if err != nil {
 		t.Fatal(err)
 	}
-	defer one.Free()
 	config.Addr = b
-	other, err := New(config)
-	if err != nil {
+	if other, err = New(config); err != nil {
 		t.Fatal(err)
 	}
-	defer other.Free()
-	var there, back Batch
-	if other.Listen() != nil || one.Connect(b, 7) != nil || one.EmitAll(&there) != nil || other.Turn(a, b, &there, &back) != nil {
+	there, back = &Batch{}, &Batch{}
+	if other.Listen() != nil || one.Connect(b, 7) != nil || one.EmitAll(there) != nil || other.Turn(a, b, there, back) != nil {
 		t.Fatal("not open")
 	}
 	there.Reset()
-	text, got := make([]byte, 65535), make([]byte, 65535)
-	rand.New(rand.NewSource(2)).Read(text)
-	told, err := one.Exchange(b, a, &back, &there, text, nil)
-	// The acknowledgement of the SYN,ACK goes out at once, and then 44 segments of 1,460 bytes and one of 1,295.
-	if told != (Exchanged{Sent: len(text)}) || err != nil || there.Len() != 46 || len(there.Segment(45)) != 20+1295 {
-		t.Fatal(told, err, there.Len())
-	}
-	back.Reset()
-	told, err = other.Exchange(a, b, &there, &back, nil, got)
-	if told != (Exchanged{Got: len(text)}) || err != nil || back.Len() != 1 || !bytes.Equal(text, got) {
-		t.Fatal(told, err, back.Len())
-	}
-	if _, err = one.Exchange(b, a, &back, &back, nil, nil); err != Refused(38) {
-		t.Fatal(err)
-	}
-	one.Free()
-	if _, err = one.Exchange(b, a, &back, &there, text, got); err != Refused(31) {
-		t.Fatal(err)
-	}
+	return
 }
 
 // An end that has a whole window to send fills a batch far beyond its first memory, which keeps what it has and is written once.
 func TestBatchGrows(t *testing.T) {
-	config := DefaultConfig(a, 7, 1)
-	config.SendCapacity, config.RecvCapacity, config.Shift = 1<<20, 1<<20, 5
-	one, err := New(config)
-	if err != nil {
-		t.Fatal(err)
-	}
+	one, other, batch, back := openedByBatches(t, 1<<20, 5)
 	defer one.Free()
-	config.Addr = b
-	other, err := New(config)
-	if err != nil {
-		t.Fatal(err)
-	}
 	defer other.Free()
-	var batch, back Batch
-	if other.Listen() != nil || one.Connect(b, 7) != nil || one.EmitAll(&batch) != nil || other.Turn(a, b, &batch, &back) != nil {
-		t.Fatal("not open")
-	}
-	batch.Reset()
 	text, got := make([]byte, 1<<20-1), make([]byte, 1<<20)
 	rand.New(rand.NewSource(1)).Read(text)
-	if taken, err := one.Send(text); taken != len(text) || err != nil || one.Turn(b, a, &back, &batch) != nil {
+	if taken, err := one.Send(text); taken != len(text) || err != nil || one.Turn(b, a, back, batch) != nil {
 		t.Fatal(taken, err)
 	}
 	// The window of a SYN isn't scaled (RFC 7323, 2.2): 44 segments of 1,460 bytes and 1,295 bytes are 65,535. Then the rest is due, 673
@@ -327,11 +213,11 @@ func TestBatchGrows(t *testing.T) {
 		if batch.Len() != flight.segments || len(batch.Segment(0)) != 1480 || len(batch.Segment(last)) != 20+flight.last || batch.To(last) != b {
 			t.Fatal(batch.Len(), len(batch.Segment(batch.Len()-1)))
 		}
-		if err := other.Turn(a, b, &batch, &back); err != nil || back.Len() != 1 || back.To(0) != a {
+		if err := other.Turn(a, b, batch, back); err != nil || back.Len() != 1 || back.To(0) != a {
 			t.Fatal(err, back.Len())
 		}
 		batch.Reset()
-		if err := one.Turn(b, a, &back, &batch); err != nil {
+		if err := one.Turn(b, a, back, batch); err != nil {
 			t.Fatal(err)
 		}
 	}
@@ -348,7 +234,7 @@ func TestBatchKeepsItsMemory(t *testing.T) {
 	one, other := connected(t)
 	defer one.Free()
 	defer other.Free()
-	var there, back Batch
+	var there, back, small Batch
 	var room [EmitRoom]byte
 	text, read := make([]byte, 2000), make([]byte, 5000)
 	batched := func() {
@@ -372,6 +258,18 @@ func TestBatchKeepsItsMemory(t *testing.T) {
 			t.Fatal(count, err, there, back)
 		}
 	}
+	texts := func() {
+		there.Reset()
+		small.Reset()
+		small.Add(text[:1])
+		small.Add(text[:2])
+		_, err := one.ExchangeTexts(b, a, &back, &there, &small, nil)
+		back.Reset()
+		told, same := other.Exchange(a, b, &there, &back, nil, read)
+		if err != nil || same != nil || told.Got != 3 || there.Len() != 2 {
+			t.Fatal(err, same, told, there.Len())
+		}
+	}
 	exchanged := func() {
 		there.Reset()
 		_, err := one.Exchange(b, a, &back, &there, text, nil)
@@ -381,7 +279,7 @@ func TestBatchKeepsItsMemory(t *testing.T) {
 			t.Fatal(err, same, told, there.Len(), back.Len())
 		}
 	}
-	for name, run := range map[string]func(){"batched": batched, "single": single, "exchanged": exchanged} {
+	for name, run := range map[string]func(){"batched": batched, "single": single, "exchanged": exchanged, "texts": texts} {
 		if count := testing.AllocsPerRun(100, run); count != 0 {
 			t.Error(name, count)
 		}

@@ -47,8 +47,14 @@ const (
 // Never is a limit of Rules that isn't there.
 const Never time.Duration = math.MaxInt64
 
-// Rules is how the retransmission timeout of a connection is made (RFC 6298, 2 and 5), and how long it waits (RFC 9293, 3.8.3). Whole
-// microseconds count, and a negative duration is 0. DefaultRules has the values of the standards.
+// Guard is how far a guard reaches by default, two of the greatest windows, and NoGuard is none.
+const (
+	Guard   uint32 = C.TCPCORE_GUARD
+	NoGuard uint32 = C.TCPCORE_NO_GUARD
+)
+
+// Rules is how the retransmission timeout of a connection is made (RFC 6298, 2 and 5), how long it waits (RFC 9293, 3.8.3), and what its
+// guard keeps out (RFC 5961, 5.2). Whole microseconds count, and a negative duration is 0. DefaultRules has the values of the standards.
 type Rules struct {
 	// First is the timeout before any round trip was measured: 1 s (RFC 6298, 2.1).
 	First time.Duration
@@ -70,13 +76,17 @@ type Rules struct {
 	FinWait2 time.Duration
 	// After SuspectAfter timeouts in a row the path is suspect, and before them no connection is given up: 3 or more (RFC 9293, 3.8.3).
 	SuspectAfter uint32
+	// Guard is that against segments of somebody who sees nothing of the connection (RFC 5961, 5.2): how many sequence numbers behind SND.UNA
+	// the acknowledgement of a segment may lie that is taken, and while the window is shut how many behind RCV.NXT its own number may. It is
+	// the constant Guard or more: below it, what the peer sent may be kept out. 0 is Guard, and NoGuard is none.
+	Guard uint32
 }
 
 // DefaultRules has the values of the standards, with a clock of milliseconds, 60 s as the greatest timeout, 3 minutes for a SYN, a user
-// timeout of 5 minutes, and FIN-WAIT-2 without a limit.
+// timeout of 5 minutes, FIN-WAIT-2 without a limit, and the guard.
 func DefaultRules() Rules {
 	return Rules{First: time.Second, Least: time.Second, Greatest: time.Minute, Granularity: time.Millisecond, AfterSyn: 3 * time.Second,
-		TimeWait: 4 * time.Minute, Handshake: 3 * time.Minute, User: 5 * time.Minute, FinWait2: Never, SuspectAfter: 3}
+		TimeWait: 4 * time.Minute, Handshake: 3 * time.Minute, User: 5 * time.Minute, FinWait2: Never, SuspectAfter: 3, Guard: Guard}
 }
 
 // micros is a duration in C; a negative one is none.
@@ -99,7 +109,7 @@ func (rules Rules) c() C.struct_tcpcore_connection_rules {
 	return C.struct_tcpcore_connection_rules{first: micros(rules.First), least: micros(rules.Least), greatest: micros(rules.Greatest),
 		granularity: micros(rules.Granularity), after_syn: micros(rules.AfterSyn), time_wait: micros(rules.TimeWait),
 		handshake: limit(rules.Handshake), user: limit(rules.User), fin_wait_2: limit(rules.FinWait2),
-		suspect_after: C.uint32_t(rules.SuspectAfter)}
+		suspect_after: C.uint32_t(rules.SuspectAfter), guard: C.uint32_t(rules.Guard)}
 }
 
 // Connection is one end of one TCP connection, with its clock: an end that keeps its own timers. These are the retransmission timeout by
@@ -127,6 +137,7 @@ type Connection struct {
 	raw   *C.tcpcore_connection // at the front of the block
 	block unsafe.Pointer
 	began time.Time
+	told  C.struct_connection_told // of the last turn
 }
 
 // Connect opens a connection to this address and port (RFC 9293, 3.10.1): its SYN is due.
@@ -188,9 +199,15 @@ func (connection *Connection) timeOf(at uint64) time.Time {
 
 // Arrive says that a segment has come from one address to the other (RFC 9293, 3.10.7), without its IPv4 header. The error is nil where it
 // was taken, else what became of it. ErrEmitFirst is told between a Timeout that found a timer and the end of what it made due; a caller
-// that emits all of that behind the Timeout never meets it.
+// that emits all of that behind the Timeout never meets it. What the Guard of the Rules keeps out is passed over, and an acknowledgement is due.
 func (connection *Connection) Arrive(now time.Time, src, dst Addr, segment []byte) (ArriveReport, error) {
 	told := C.connection_arrive(connection.raw, connection.since(now), src.c(), dst.c(), bytesOf(segment), C.size_t(len(segment)))
+	return arriveReport(&told.report), done(told.answer)
+}
+
+// ArriveVouched is Arrive of a segment whose checksum a device has found right: it isn't summed.
+func (connection *Connection) ArriveVouched(now time.Time, src, dst Addr, segment []byte) (ArriveReport, error) {
+	told := C.connection_arrive_vouched(connection.raw, connection.since(now), src.c(), dst.c(), bytesOf(segment), C.size_t(len(segment)))
 	return arriveReport(&told.report), done(told.answer)
 }
 
@@ -326,31 +343,41 @@ type Turned struct {
 // and the segment is handed in again. What is emitted is appended to `out`, another Batch than `in`, whose Err and AtOnce tell of each
 // segment. The error is the first of: ErrNoEnd behind Free, then nothing was done; what Receive tells; and what Send tells.
 func (connection *Connection) Exchange(now time.Time, src, dst Addr, in, out *Batch, text, read []byte) (Turned, error) {
-	var turned Turned
+	return connection.exchange(now, src, dst, in, out, text, nil, C.size_t(len(text)), read)
+}
+
+// ExchangeTexts is Exchange for many small writes, as that of an End.
+func (connection *Connection) ExchangeTexts(now time.Time, src, dst Addr, in, out, texts *Batch, read []byte) (Turned, error) {
+	if texts == out {
+		return Turned{}, Refused(C.TCPCORE_OVERLAP)
+	}
+	return connection.exchange(now, src, dst, in, out, texts.bytes, texts.first(), texts.taken.count, read)
+}
+
+// exchange sends texts as that of an End.
+func (connection *Connection) exchange(now time.Time, src, dst Addr, in, out *Batch, text []byte, records *C.struct_batch_record,
+	count C.size_t, read []byte) (Turned, error) {
 	if in == out {
-		return turned, Refused(C.TCPCORE_OVERLAP)
+		return Turned{}, Refused(C.TCPCORE_OVERLAP)
 	}
-	var refused error
-	for next, goesOn := C.size_t(0), false; ; goesOn = true {
-		out.grow(EmitRoom)
-		made := C.connection_exchange(connection.raw, connection.since(now), C.uint64_t(connection.Window), src.c(), dst.c(), bytesOf(in.bytes),
-			recordsOf(in.records), next, C.size_t(in.count), is(goesOn), bytesOf(text), C.size_t(len(text)), bytesOf(read), C.size_t(len(read)),
-			bytesOf(out.bytes), C.size_t(len(out.bytes)), recordsOf(out.records), C.size_t(len(out.records)), C.size_t(out.used),
-			C.size_t(out.count))
-		out.used, out.count, next = int(made.told.used), int(made.told.count), made.told.next
-		turned.Expired |= uint32(made.expired)
-		if made.is_made == 1 {
-			if err := turned.add(made.sent, made.got); refused == nil {
-				refused = err
-			}
-			text, read = nil, nil
+	told := &connection.told
+	*told = C.struct_connection_told{}
+	for {
+		if !out.has(EmitRoom) {
+			out.grow(EmitRoom)
 		}
-		if err := done(made.told.answer); err != nil {
-			return turned, err
-		}
-		if made.told.is_full == 0 {
-			turned.PollAt, turned.Closed = connection.timeOf(uint64(made.poll_at)), made.phase == C.TCPCORE_PHASE_CLOSED
-			return turned, refused
+		C.connection_exchange(connection.raw, connection.since(now), C.uint64_t(connection.Window), src.c(), dst.c(),
+			bytesOf(in.bytes), recordsOf(in.records), in.taken.count, bytesOf(text), records, count,
+			bytesOf(read), C.size_t(len(read)), bytesOf(out.bytes), recordsOf(out.records), &out.taken, told)
+		if told.batch.emit_first == 0 {
+			break
 		}
 	}
+	did, refused := exchanged(&told.batch.sent, &told.batch.got)
+	turned := Turned{Exchanged: did, Expired: uint32(told.expired)}
+	if told.batch.answer != C.TCPCORE_DONE {
+		return turned, Refused(told.batch.answer)
+	}
+	turned.PollAt, turned.Closed = connection.timeOf(uint64(told.poll_at)), told.phase == C.TCPCORE_PHASE_CLOSED
+	return turned, refused
 }

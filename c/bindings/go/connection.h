@@ -12,8 +12,9 @@ struct connection_made {
 };
 
 /* Makes a connection in a block of which its struct is the front: one that listens, or one to this address and port. */
-static inline struct connection_made connection_make(const tcpcore_config *config, const struct tcpcore_connection_rules *rules, int listens,
-                                                     tcpcore_addr addr, uint16_t port, uint64_t now, unsigned char *block, size_t length)
+static inline struct connection_made connection_make(const tcpcore_config *config, const struct tcpcore_connection_rules *rules,
+                                                     uint32_t listens, tcpcore_addr addr, uint16_t port, uint64_t now,
+                                                     unsigned char *block, size_t length)
 {
     struct connection_made made = {(tcpcore_connection *)(void *)block, 0};
     const tcpcore_connection none = TCPCORE_CONNECTION_INIT;
@@ -34,6 +35,14 @@ static inline struct connection_arrived connection_arrive(tcpcore_connection *co
 {
     struct connection_arrived told;
     told.answer = tcpcore_connection_arrive(connection, now, src, dst, bytes, length, &told.report);
+    return told;
+}
+
+static inline struct connection_arrived connection_arrive_vouched(tcpcore_connection *connection, uint64_t now, tcpcore_addr src,
+                                                                  tcpcore_addr dst, const unsigned char *bytes, size_t length)
+{
+    struct connection_arrived told;
+    told.answer = tcpcore_connection_arrive_vouched(connection, now, src, dst, bytes, length, &told.report);
     return told;
 }
 
@@ -125,13 +134,12 @@ static inline struct batch_status connection_status(const tcpcore_connection *co
     return told;
 }
 
-/* A turn of a connection: how far it has come, as of a batch; the answers of its user's calls, which were made where `is_made`; the timers
-   that expired, bit 1 << t for timer t; and behind the turn what poll_at reports, and the phase. */
-struct connection_turned {
-    struct batch_told told;
-    struct batch_count sent, got;
+/* A turn of a connection: how far it has come, as of a batch; the timers that expired, bit 1 << t for timer t; and behind the turn what
+   poll_at reports, and the phase. */
+struct connection_told {
+    struct batch_told batch;
     uint64_t poll_at;
-    uint32_t is_made, expired, phase;
+    uint32_t expired, phase;
 };
 
 /* A turn's connection, when it is, and where what is emitted goes. */
@@ -141,103 +149,123 @@ struct connection_turn {
     struct batch out;
 };
 
-/* Emits until nothing is due, which is DONE, or until the batch is full. */
-static inline uint32_t connection_emit_all(struct connection_turn *turn, uint32_t *is_full)
+/* Emits until nothing is due, which is DONE, or until the batch is full; but no more than `most` segments. */
+static inline uint32_t connection_emit_due(struct connection_turn *turn, struct batch_told *told, size_t most)
 {
     struct batch *out = &turn->out;
     struct tcpcore_connection_segment segment;
-    for (;;) {
-        if (out->count == out->most || out->room - out->used < TCPCORE_EMIT_ROOM) {
-            *is_full = 1;
+    for (size_t left = most; left > 0; left--) {
+        if (!batch_has_room(out)) {
+            told->emit_first = 1;
             return TCPCORE_DONE;
         }
-        uint32_t answer = tcpcore_connection_emit(turn->raw, turn->now, turn->window, out->bytes + out->used, TCPCORE_EMIT_ROOM, &segment);
+        unsigned char *place = out->bytes + out->taken.used;
+        uint32_t answer = tcpcore_connection_emit(turn->raw, turn->now, turn->window, place, TCPCORE_EMIT_ROOM, &segment);
         if (answer != TCPCORE_DONE)
             return answer == TCPCORE_NOT_DUE ? TCPCORE_DONE : answer;
-        struct batch_record *record = &out->records[out->count++];
-        record->at = out->used;
+        struct batch_record *record = &out->records[out->taken.count++];
+        record->at = out->taken.used;
         record->length = (size_t)segment.length;
         record->to = segment.to;
-        out->used += record->length;
+        out->taken.used += record->length;
     }
+    return TCPCORE_DONE;
 }
 
 /* Hands in the segments from `next` on, and emits behind each that has to be answered at once; first where a timer has expired. */
 static inline uint32_t connection_arrive_all(struct connection_turn *turn, tcpcore_addr src, tcpcore_addr dst, const unsigned char *bytes,
-                                             struct batch_record *records, size_t *next, size_t count, uint32_t *is_full)
+                                             struct batch_record *records, size_t count, struct batch_told *told)
 {
     struct tcpcore_arrive_report report;
     uint32_t answer = TCPCORE_DONE;
-    while (*next < count && answer == TCPCORE_DONE && !*is_full) {
-        struct batch_record *record = &records[*next];
+    size_t next = told->next;
+    while (next < count && answer == TCPCORE_DONE && !told->emit_first) {
+        struct batch_record *record = &records[next];
         record->answer = tcpcore_connection_arrive(turn->raw, turn->now, src, dst, bytes + record->at, record->length, &report);
         record->at_once = report.at_once;
         if (batch_is_refused(record->answer))
             return record->answer;
         if (record->answer != TCPCORE_EMIT_FIRST)
-            ++*next;
+            next++;
         if (record->answer == TCPCORE_EMIT_FIRST || record->at_once)
-            answer = connection_emit_all(turn, is_full);
+            answer = connection_emit_due(turn, told, SIZE_MAX);
     }
+    told->next = next;
     return answer;
 }
 
+/* Where a turn goes on, what had no room. */
+static inline uint32_t connection_emit_first(struct connection_turn *turn, struct batch_told *told)
+{
+    if (!told->emit_first)
+        return TCPCORE_DONE;
+    told->emit_first = 0;
+    return connection_emit_due(turn, told, SIZE_MAX);
+}
+
 /* Has each timer that has expired do what it does, and emits behind it. */
-static inline uint32_t connection_expire(struct connection_turn *turn, uint32_t *expired, uint32_t *is_full)
+static inline uint32_t connection_expire(struct connection_turn *turn, uint32_t *expired, struct batch_told *told)
 {
     uint32_t timer, answer = TCPCORE_DONE;
-    while (answer == TCPCORE_DONE && !*is_full) {
+    while (answer == TCPCORE_DONE && !told->emit_first) {
         answer = tcpcore_connection_timeout(turn->raw, turn->now, &timer);
         if (answer == TCPCORE_NOT_DUE)
             return TCPCORE_DONE;
         if (answer == TCPCORE_DONE) {
             *expired |= UINT32_C(1) << timer;
-            answer = connection_emit_all(turn, is_full);
+            answer = connection_emit_due(turn, told, SIZE_MAX);
         }
     }
     return answer;
 }
 
-/* The steps of a turn, up to the first that is refused or has no more room; then the turn goes on by another call, which emits first. */
-static inline void connection_steps(struct connection_turn *turn, struct connection_turned *turned, tcpcore_addr src, tcpcore_addr dst,
-                                    const unsigned char *bytes, struct batch_record *records, size_t count, int goes_on,
-                                    const unsigned char *text, size_t length, unsigned char *read, size_t room)
+/* The calls of the user, and what is due behind them, as batch_use has them. */
+static inline uint32_t connection_use(struct connection_turn *turn, const struct batch_texts *texts, unsigned char *read, size_t room,
+                                      struct batch_told *told)
 {
-    struct batch_told *told = &turned->told;
-    if (goes_on)
-        told->answer = connection_emit_all(turn, &told->is_full);
-    if (told->answer == TCPCORE_DONE && !told->is_full)
-        told->answer = connection_arrive_all(turn, src, dst, bytes, records, &told->next, count, &told->is_full);
-    if (told->answer != TCPCORE_DONE || told->is_full)
-        return;
-    if (room > 0)
-        turned->got = connection_receive(turn->raw, turn->now, read, room);
-    if (length > 0)
-        turned->sent = connection_send(turn->raw, turn->now, text, length);
-    turned->is_made = 1;
-    told->answer = connection_emit_all(turn, &told->is_full);
-    if (told->answer == TCPCORE_DONE && !told->is_full)
-        told->answer = connection_expire(turn, &turned->expired, &told->is_full);
+    size_t next = told->next_text, count = texts->records ? texts->count : texts->count > 0;
+    if (!told->is_read) {
+        told->is_read = 1;
+        if (room > 0)
+            told->got.answer = tcpcore_connection_receive(turn->raw, turn->now, read, room, &told->got.count);
+        if (count == 0)
+            return connection_emit_due(turn, told, SIZE_MAX);
+    }
+    uint32_t answer = TCPCORE_DONE;
+    while (next < count && answer == TCPCORE_DONE && !told->emit_first) {
+        size_t length, taken;
+        const unsigned char *text = batch_text(texts, next, &length);
+        told->sent.answer = tcpcore_connection_send(turn->raw, turn->now, text, length, &taken);
+        told->sent.count += taken;
+        next = taken < length ? count : next + 1;
+        answer = connection_emit_due(turn, told, next < count ? 1 : SIZE_MAX);
+    }
+    told->next_text = next;
+    return answer;
 }
 
-/* A turn: what arrived, the user's calls, each where its length isn't 0, what is due, and the timers. */
-static inline struct connection_turned connection_exchange(tcpcore_connection *connection, uint64_t now, uint64_t window, tcpcore_addr src,
-                                                           tcpcore_addr dst, const unsigned char *bytes, struct batch_record *records,
-                                                           size_t next, size_t count, int goes_on, const unsigned char *text,
-                                                           size_t length, unsigned char *read, size_t room, unsigned char *out_bytes,
-                                                           size_t out_room, struct batch_record *out_records, size_t out_most,
-                                                           size_t out_used, size_t out_count)
+/* A turn: what arrived, the user's calls, what is due, and the timers; up to the first that is refused or has no more room. */
+static inline void connection_exchange(tcpcore_connection *connection, uint64_t now, uint64_t window, tcpcore_addr src, tcpcore_addr dst,
+                                       const unsigned char *bytes, struct batch_record *records, size_t count, const unsigned char *text,
+                                       const struct batch_record *text_records, size_t text_count, unsigned char *read, size_t room,
+                                       unsigned char *out_bytes, struct batch_record *out_records, struct batch_taken *taken,
+                                       struct connection_told *told)
 {
-    struct connection_turn turn = {connection, now, window, {out_bytes, out_records, out_room, out_most, out_used, out_count}};
-    struct connection_turned turned = {{TCPCORE_DONE, 0, next, 0, 0}, {0, TCPCORE_DONE}, {0, TCPCORE_DONE}, TCPCORE_NEVER, 0, 0, 0};
-    connection_steps(&turn, &turned, src, dst, bytes, records, count, goes_on, text, length, read, room);
-    turned.told.used = turn.out.used;
-    turned.told.count = turn.out.count;
-    if (turned.told.answer == TCPCORE_DONE) {
-        turned.poll_at = connection_poll_at(connection).at;
-        turned.phase = connection_status(connection).status.phase;
+    struct batch out = {out_bytes, out_records, {taken->room, taken->most, taken->used, taken->count}};
+    struct batch_texts texts = {text, text_records, text_count};
+    struct connection_turn turn = {connection, now, window, out};
+    uint32_t answer = connection_emit_first(&turn, &told->batch);
+    if (answer == TCPCORE_DONE)
+        answer = connection_arrive_all(&turn, src, dst, bytes, records, count, &told->batch);
+    if (answer == TCPCORE_DONE && !told->batch.emit_first)
+        answer = connection_use(&turn, &texts, read, room, &told->batch);
+    if (answer == TCPCORE_DONE && !told->batch.emit_first)
+        answer = connection_expire(&turn, &told->expired, &told->batch);
+    if (answer == TCPCORE_DONE && !told->batch.emit_first) {
+        told->poll_at = connection_poll_at(connection).at;
+        told->phase = connection_status(connection).status.phase;
     }
-    return turned;
+    batch_end(&turn.out, taken, answer, &told->batch);
 }
 
 #endif

@@ -1,10 +1,8 @@
 package tcpcore
 
 import (
-	"bytes"
+	"encoding/binary"
 	"errors"
-	"io"
-	"math/rand"
 	"reflect"
 	"testing"
 	"time"
@@ -42,8 +40,11 @@ func emittedBy(connection *Connection, now time.Time) (out []emitted) {
 }
 
 // established is two connections that are open.
-func established(t *testing.T) [2]*Connection {
-	both := opened(t, DefaultRules())
+func established(t *testing.T) [2]*Connection { return establishedBy(t, DefaultRules()) }
+
+// establishedBy is the same with these rules.
+func establishedBy(t *testing.T, rules Rules) [2]*Connection {
+	both := opened(t, rules)
 	for turn := 0; turn < 3; turn++ {
 		for _, it := range emittedBy(both[turn%2], began) {
 			if _, err := both[1-turn%2].Arrive(began, [2]Addr{a, b}[turn%2], it.to, []byte(it.segment)); err != nil {
@@ -55,181 +56,6 @@ func established(t *testing.T) [2]*Connection {
 		t.Fatal(both[0].Status(), both[1].Status())
 	}
 	return both
-}
-
-// onTheWay is a segment that comes to a side at a time.
-type onTheWay struct {
-	at      time.Time
-	side    int
-	segment string
-}
-
-// link delays each segment by 20 ms, and by up to `jitter` more, and loses some of a hundred; `expired` has the timers of both sides.
-type link struct {
-	random       *rand.Rand
-	jitter, loss int
-	way          []onTheWay
-	now          time.Time
-	expired      []uint32
-}
-
-func (it *link) put(side int, out []emitted) {
-	for _, sent := range out {
-		more := time.Duration(it.random.Intn(it.jitter+1)) * time.Millisecond
-		if it.random.Intn(100) >= it.loss {
-			it.way = append(it.way, onTheWay{it.now.Add(20*time.Millisecond + more), 1 - side, sent.segment})
-		}
-	}
-}
-
-// come is what has come to a side by now.
-func (it *link) come(side int) (segments []string) {
-	left := []onTheWay{}
-	for _, its := range it.way {
-		if its.side == side && !its.at.After(it.now) {
-			segments = append(segments, its.segment)
-		} else {
-			left = append(left, its)
-		}
-	}
-	it.way = left
-	return
-}
-
-// goesOn lets time go on to the next arrival or deadline, unless there is none.
-func (it *link) goesOn(deadlines [2]time.Time) bool {
-	next, times := time.Time{}, deadlines[:]
-	for _, its := range it.way {
-		times = append(times, its.at)
-	}
-	for _, at := range times {
-		if !at.IsZero() && (next.IsZero() || at.Before(next)) {
-			next = at
-		}
-	}
-	if next.After(it.now) {
-		it.now = next
-	}
-	return !next.IsZero()
-}
-
-// user sends its text, closes, and reads.
-type user struct {
-	text, got []byte
-	closing   bool
-}
-
-// turnSingly is Exchange by single calls, as its comment says.
-func turnSingly(it *Connection, now time.Time, src, dst Addr, segments []string, text, read []byte) (answers []arrived, out []emitted, turned Turned, refused error) {
-	for i := 0; i < len(segments); {
-		report, err := it.Arrive(now, src, dst, []byte(segments[i]))
-		if err == ErrEmitFirst || report.AtOnce {
-			out = append(out, emittedBy(it, now)...)
-		}
-		if err != ErrEmitFirst {
-			answers, i = append(answers, arrived{report.AtOnce, err}), i+1
-		}
-	}
-	if len(read) > 0 {
-		turned.Got, refused = it.Receive(now, read)
-	}
-	if turned.Ended = refused == io.EOF; turned.Ended {
-		refused = nil
-	}
-	if len(text) > 0 {
-		sent, err := it.Send(now, text)
-		if turned.Sent = sent; refused == nil {
-			refused = err
-		}
-	}
-	out = append(out, emittedBy(it, now)...)
-	for {
-		timer, expired := it.Timeout(now)
-		if !expired {
-			break
-		}
-		turned.Expired |= 1 << timer
-		out = append(out, emittedBy(it, now)...)
-	}
-	turned.PollAt, turned.Closed = it.PollAt(), it.Status().Phase == Closed
-	return
-}
-
-// turnAtOnce is Exchange, with what it was given and gave as turnSingly has it.
-func turnAtOnce(it *Connection, now time.Time, src, dst Addr, segments []string, text, read []byte, in, out *Batch) (answers []arrived, sent []emitted, turned Turned, refused error) {
-	in.Reset()
-	out.Reset()
-	for _, segment := range segments {
-		in.Add([]byte(segment))
-	}
-	turned, refused = it.Exchange(now, src, dst, in, out, text, read)
-	for i := 0; i < in.Len(); i++ {
-		answers = append(answers, arrived{in.AtOnce(i), in.Err(i)})
-	}
-	for i := 0; i < out.Len(); i++ {
-		sent = append(sent, emitted{out.To(i), string(out.Segment(i))})
-	}
-	return
-}
-
-// carries carries a text each way, to the end of both connections: each turn is made by single calls of one pair, and by Exchange of
-// another, which is the same.
-func carries(t *testing.T, seed int64, jitter, loss int, rules Rules) *link {
-	both, beside := opened(t, rules), opened(t, rules)
-	wire := &link{random: rand.New(rand.NewSource(seed)), jitter: jitter, loss: loss, now: began}
-	users, deadlines, read := [2]user{}, [2]time.Time{}, [2][]byte{make([]byte, 20000), make([]byte, 20000)}
-	texts := [2][]byte{make([]byte, 125000), make([]byte, 125000)}
-	for side := range users {
-		defer both[side].Free()
-		defer beside[side].Free()
-		wire.random.Read(texts[side])
-		users[side].text = texts[side]
-	}
-	var in, out Batch
-	for first := true; first || wire.goesOn(deadlines); first = false {
-		for side := range both {
-			segments := wire.come(side)
-			for again := true; again; segments = nil {
-				it, user := both[side], &users[side]
-				text := user.text
-				if it.Status().Phase < Open && side == 1 {
-					text = nil
-				}
-				answers, sent, turned, err := turnSingly(it, wire.now, addrs[1-side], addrs[side], segments, text, read[0])
-				answers2, sent2, turned2, err2 := turnAtOnce(beside[side], wire.now, addrs[1-side], addrs[side], segments, text, read[1], &in, &out)
-				if !reflect.DeepEqual(answers, answers2) || !reflect.DeepEqual(sent, sent2) || turned != turned2 || err != err2 {
-					t.Fatal(seed, wire.now, side, turned, turned2, err, err2, len(sent), len(sent2), answers, answers2)
-				}
-				if !bytes.Equal(read[0][:turned.Got], read[1][:turned.Got]) || it.Status() != beside[side].Status() {
-					t.Fatal(seed, wire.now, side)
-				}
-				if err != nil && err != ErrEnded && err != ErrClosing {
-					t.Fatal(seed, err)
-				}
-				wire.put(side, sent)
-				user.text, user.got = user.text[turned.Sent:], append(user.got, read[0][:turned.Got]...)
-				for timer := uint32(0); timer < 4; timer++ {
-					if turned.Expired>>timer&1 == 1 {
-						wire.expired = append(wire.expired, timer)
-					}
-				}
-				again = turned.Got > 0
-				if !user.closing && len(user.text) == 0 && it.Status().Phase >= Open {
-					user.closing, again = true, true
-					if it.Close(wire.now) != nil || beside[side].Close(wire.now) != nil {
-						t.Fatal(seed, "not closed")
-					}
-				}
-				deadlines[side] = turned.PollAt
-			}
-		}
-	}
-	for side := range both {
-		if status := both[side].Status(); status.Phase != Closed || status.Ending != Orderly || !bytes.Equal(users[side].got, texts[1-side]) {
-			t.Fatal(seed, side, status, len(users[side].got))
-		}
-	}
-	return wire
 }
 
 var addrs = [2]Addr{a, b}
@@ -452,6 +278,72 @@ func TestConnectionRefused(t *testing.T) {
 		if found := refusal(call); found != ErrNoEnd {
 			t.Fatal(at, found)
 		}
+	}
+}
+
+// blind is a segment of somebody who knows the server's address and port and the client's, without a checksum (RFC 9293, 3.1).
+func blind(seq, ack uint32, text string) []byte {
+	segment := []byte{0, 2, 0, 1}
+	segment = binary.BigEndian.AppendUint32(segment, seq)
+	segment = binary.BigEndian.AppendUint32(segment, ack)
+	return append(append(segment, 5<<4, 0x10, 4, 0, 0, 0, 0, 0), text...)
+}
+
+// TestConnectionGuard: an acknowledgement more than the guard's reach behind SND.UNA comes with nothing that is taken (RFC 5961, 5.2); without a
+// guard it does (RFC 9293, 3.10.7.4, fifth). What isn't vouched for is summed.
+func TestConnectionGuard(t *testing.T) {
+	for _, it := range []struct {
+		guard, reach uint32
+		wanted       error
+	}{{Guard, Guard, ErrDropped}, {0, Guard, ErrDropped}, {5000000, 5000000, ErrDropped}, {NoGuard, Guard, nil}} {
+		rules := DefaultRules()
+		if rules.Guard != Guard {
+			t.Fatal(rules)
+		}
+		rules.Guard = it.guard
+		client := establishedBy(t, rules)[0]
+		if _, err := client.Arrive(began, b, a, blind(5001, 1001, "x")); err != Refused(3) {
+			t.Fatal(err)
+		}
+		if _, err := client.ArriveVouched(began, b, a, blind(5001, 1000-it.reach, "x")); err != it.wanted {
+			t.Fatal(it, err)
+		}
+		if _, err := client.ArriveVouched(began, b, a, blind(5001, 1001-it.reach, "xy")); err != nil {
+			t.Fatal(it, err)
+		}
+	}
+}
+
+// TestArriveBy: an end's guard is that of each call.
+func TestArriveBy(t *testing.T) {
+	var ends [2]*End
+	for side, config := range []Config{DefaultConfig(a, 1, 1000), DefaultConfig(b, 2, 5000)} {
+		end, err := New(config)
+		if err != nil {
+			t.Fatal(err)
+		}
+		ends[side] = end
+	}
+	if err := ends[1].Listen(); err != nil {
+		t.Fatal(err)
+	}
+	if err := ends[0].Connect(b, 2); err != nil {
+		t.Fatal(err)
+	}
+	var room [EmitRoom]byte
+	for turn := 0; turn < 3; turn++ {
+		to, length := ends[turn%2].Emit(&room)
+		if _, err := ends[1-turn%2].ArriveBy([2]Addr{a, b}[turn%2], to, room[:length], Guard, false); err != nil {
+			t.Fatal(err)
+		}
+	}
+	first := uint32(1000)
+	old := blind(5001, first-Guard, "x")
+	if _, err := ends[0].ArriveBy(b, a, old, Guard, true); err != ErrDropped {
+		t.Fatal(err)
+	}
+	if _, err := ends[0].ArriveBy(b, a, old, NoGuard, true); err != nil {
+		t.Fatal(err)
 	}
 }
 

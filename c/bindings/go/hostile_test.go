@@ -113,9 +113,23 @@ func (it *hostile) exchange(side int, in, out *Batch) {
 		in.Add(it.bytes())
 	}
 	text, read := make([]byte, it.random.Intn(3000)), make([]byte, it.random.Intn(3000))
-	turned, err := it.ends[side].Exchange(it.now, addrs[1-side], addrs[side], in, out, text, read)
+	var turned Turned
+	var err error
+	most := len(text)
+	if it.random.Intn(2) == 0 {
+		turned, err = it.ends[side].Exchange(it.now, addrs[1-side], addrs[side], in, out, text, read)
+	} else {
+		var texts Batch
+		most = 0
+		for i := it.random.Intn(5); i > 0; i-- {
+			piece := text[:it.random.Intn(len(text)+1)]
+			texts.Add(piece)
+			most += len(piece)
+		}
+		turned, err = it.ends[side].ExchangeTexts(it.now, addrs[1-side], addrs[side], in, out, &texts, read)
+	}
 	it.may(side, "Exchange", err, ErrEnded, ErrClosing, ErrNotConnected, ErrStreamFull)
-	if turned.Sent > len(text) || turned.Got > len(read) || (it.freed[side] && (err != ErrNoEnd || out.Len() > 0)) {
+	if turned.Sent > most || turned.Got > len(read) || (it.freed[side] && (err != ErrNoEnd || out.Len() > 0)) {
 		it.t.Fatal(turned, err)
 	}
 	for i := 0; i < out.Len(); i++ {
@@ -136,7 +150,11 @@ func (it *hostile) call(side int) {
 	length := it.random.Intn(5000)
 	switch it.random.Intn(12) {
 	case 0, 1, 2:
-		_, err := end.Arrive(now, addrs[1-side], addrs[side], it.bytes())
+		arrive := end.Arrive
+		if it.random.Intn(4) == 0 {
+			arrive = end.ArriveVouched
+		}
+		_, err := arrive(now, addrs[1-side], addrs[side], it.bytes())
 		it.may(side, "Arrive", err, Refused(1), Refused(2), Refused(3), Refused(4), Refused(5), Refused(6), ErrDropped, ErrNotMine, ErrEmitFirst, ErrWithheld)
 	case 3, 4, 5:
 		end.Window = uint64(it.random.Intn(3)-1) * uint64(length)
@@ -192,6 +210,13 @@ func (it *hostile) use(end *Connection, side int, now time.Time) {
 		it.may(side, "Abort", end.Abort(now), ErrEnded)
 	case 2, 3, 4:
 		it.may(side, "Close", end.Close(now), ErrEnded, ErrClosing)
+	case 5, 6:
+		it.may(side, "SetUserTimeout", end.SetUserTimeout(time.Duration(it.random.Int63()-1<<40)))
+	case 7, 8:
+		it.panics(side, func() { end.ResendFirst(now) })
+	case 9, 10:
+		_, _, err := end.Peer()
+		it.may(side, "Peer", err, ErrNotConnected)
 	default:
 		it.may(side, "Acknowledge", end.Acknowledge(now))
 	}

@@ -76,10 +76,7 @@ func found(answer C.uint32_t) bool {
 // Addr is an IPv4 address.
 type Addr [4]byte
 
-func (addr Addr) c() (found C.tcpcore_addr) {
-	*(*Addr)(unsafe.Pointer(&found)) = addr
-	return
-}
+func (addr Addr) c() C.tcpcore_addr { return *(*C.tcpcore_addr)(unsafe.Pointer(&addr)) }
 
 // Runs is how many runs of bytes an end keeps out of order, and how many of the peer's it remembers, where its Config has 0; MaxRuns is the
 // greatest number.
@@ -121,6 +118,7 @@ func LeastShift(recvCapacity uint64) int8 {
 type End struct {
 	raw   *C.tcpcore_end // in the block
 	block unsafe.Pointer
+	told  C.struct_batch_told // of the last turn
 }
 
 func (config Config) c() C.tcpcore_config {
@@ -320,6 +318,15 @@ func (end *End) ArriveWithReport(src, dst Addr, segment []byte) (ArriveReport, e
 func (end *End) ArriveVouchedWithReport(src, dst Addr, segment []byte) (ArriveReport, error) {
 	var told C.struct_tcpcore_arrive_report
 	err := done(C.tcpcore_arrive_vouched_with_report(end.raw, src.c(), dst.c(), front(segment), C.size_t(len(segment)), &told))
+	return arriveReport(&told), err
+}
+
+// ArriveBy is ArriveWithReport past a guard of this reach, as Rules has it: NoGuard is none, and 0 is the constant Guard. A segment for which
+// a device vouches isn't summed. What the guard keeps out is passed over, and an acknowledgement is due (RFC 5961, 5.2).
+func (end *End) ArriveBy(src, dst Addr, segment []byte, guard uint32, vouched bool) (ArriveReport, error) {
+	var told C.struct_tcpcore_arrive_report
+	intake := C.struct_tcpcore_intake{guard: C.uint32_t(guard), is_vouched: C.uint32_t(is(vouched))}
+	err := done(C.tcpcore_arrive_by(end.raw, src.c(), dst.c(), front(segment), C.size_t(len(segment)), &intake, &told))
 	return arriveReport(&told), err
 }
 

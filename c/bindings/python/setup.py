@@ -29,8 +29,9 @@ def package():
     folder = HERE / "out/tcpcore"
     folder.mkdir(parents=True, exist_ok=True)
     core = HERE.parents[1] / "tcpcore"
-    for text, name in (("tcpcore.py", "__init__.py"), ("datagrams.py", "datagrams.py"), ("simulator.py", "simulator.py")):
-        shutil.copy(core / text, folder / name)
+    shutil.copy(core / "tcpcore.py", folder / "__init__.py")
+    for name in ("_connections", "_ends", "_library", "_records", "datagrams", "simulator"):
+        shutil.copy(core / f"{name}.py", folder)
     (folder / "py.typed").touch()
     return "out/tcpcore"
 

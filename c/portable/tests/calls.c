@@ -281,7 +281,10 @@ static void arrive(struct side *from, struct side *to)
         reported(tcpcore_arrive_vouched(&to->end, from->addr, kept.to, kept.bytes, kept.length));
     else if (next(8) == 0)
         reported(tcpcore_arrive_vouched_with_report(&to->end, from->addr, kept.to, kept.bytes, kept.length, &taken));
-    else if (next(2))
+    else if (next(8) == 0) {
+        struct tcpcore_intake intake = {next(2) ? 0 : next(2) ? TCPCORE_NO_GUARD : next(5000), next(2), {0}};
+        reported(tcpcore_arrive_by(&to->end, from->addr, kept.to, kept.bytes, kept.length, &intake, &taken));
+    } else if (next(2))
         reported(tcpcore_arrive(&to->end, from->addr, kept.to, kept.bytes, kept.length));
     else if (next(2))
         reported(tcpcore_arrive_with_at_once(&to->end, from->addr, kept.to, kept.bytes, kept.length, &taken.at_once));

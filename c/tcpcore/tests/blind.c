@@ -8,18 +8,28 @@
  *     acknowledgement is taken by 2^31 + flight + 1 numbers.
  * The count of segments up to the first that is let in is distributed geometrically: its standard deviation is its mean, nearly,
  * and that of the mean of ROUNDS of them is that by the square root of ROUNDS. Each mean has to lie within four of these.
+ *
+ * With a guard (RFC 5961, 5.2) the same segments are let in by far fewer numbers: at a shut window by reach + capacity + 2 sequence
+ * numbers and by as many acknowledgements as are in flight; at an open one by reach + flight + 1 acknowledgements. Of MILLIONS million
+ * segments of either kind (the number that the program is given, or 2) those that are let in are counted: so many as the counts of
+ * numbers have at most, and four of their standard deviations, and a segment.
  */
 #include "carry.h"
 #include "check.h"
 #include "sums.h"
 #include "tcpcore.h"
 
+#include <stdlib.h>
 #include <string.h>
 
 enum { LARGE = 1 << 20, SMALL = 1000, TEXT = 1460, HEADER = 20, ROUNDS = 1024, ACK = 0x10 };
 
 /* Four times the square root of ROUNDS. */
 static const uint64_t FOUR_DEVIATIONS = 128;
+
+/* A guard that reaches as far as two buffers of 65,535 bytes, and how many segments are tried past one. */
+enum { SHORT_REACH = 1 << 17, USUAL = 65535 };
+static uint64_t segments = 2000000;
 
 static const tcpcore_addr A = {{10, 0, 0, 1}}, B = {{10, 0, 0, 2}};
 static const uint16_t PORTS[2] = {1, 2};
@@ -164,9 +174,57 @@ static void at_an_open_window(void)
     within("text at an open window", sum, ((UINT64_C(1) << 33) + (LARGE + TEXT - 1) / 2) / (LARGE + TEXT - 1));
 }
 
-int main(void)
+/* A new connection at whose end A a window of 0 or of `window` is open, and all of its buffer is in flight, or nothing. */
+static void begin(int is_shut, size_t window)
+{
+    if (is_shut) {
+        open_connection(SMALL, SMALL);
+        send_into_the_void();
+    } else {
+        open_connection(window, 0);
+    }
+}
+
+/* Of `segments` guesses so many are let in past a guard of this reach. The connection begins anew behind each. */
+static uint64_t let_in(int is_shut, size_t window, uint32_t reach)
+{
+    static unsigned char segment[HEADER + TEXT];
+    struct tcpcore_intake intake = {.guard = reach};
+    struct tcpcore_arrive_report taken;
+    size_t length = is_shut ? HEADER : HEADER + TEXT;
+    uint64_t count = 0;
+    begin(is_shut, window);
+    for (uint64_t at = 0; at < segments; at++) {
+        guess(segment, length);
+        tcpcore_arrive_by(&a, B, A, segment, length, &intake, &taken);
+        if (taken.acked == 0 && taken.brought != TCPCORE_BROUGHT_IN_ORDER && taken.brought != TCPCORE_BROUGHT_HELD)
+            continue;
+        count++;
+        free_both();
+        begin(is_shut, window);
+    }
+    free_both();
+    return count;
+}
+
+/* At most so many as `numbers` sequence numbers and `acks` acknowledgements let in, of 2^64 pairs. */
+static void past_a_guard(const char *what, int is_shut, size_t window, uint32_t reach, uint64_t numbers, uint64_t acks)
+{
+    double one_in = 4294967296.0 / (double)numbers * (4294967296.0 / (double)acks), most = (double)segments / one_in;
+    double over = (double)let_in(is_shut, window, reach) - most - 1;
+    fprintf(stderr, "%s: %.0f of %llu, at most %.2f by the law\n", what, over + most + 1, (unsigned long long)segments, most);
+    CHECK(over <= 0 || over * over <= 16 * most, 1);
+    printf("%s: one in %.0f by the law at most\n", what, one_in);
+}
+
+int main(int count, char **words)
 {
     at_a_shut_window();
     at_an_open_window();
+    if (count == 2)
+        segments = 1000000 * strtoull(words[1], NULL, 10);
+    past_a_guard("an acknowledgement at a shut window past a guard of 2^17", 1, 0, SHORT_REACH, SHORT_REACH + SMALL + 2, LARGE);
+    past_a_guard("text at a window of 2^20 past a guard of 2^17", 0, LARGE, SHORT_REACH, LARGE + TEXT - 1, SHORT_REACH + 1);
+    past_a_guard("text at a window of 65,535 past the default guard", 0, USUAL, 0, USUAL + TEXT - 1, TCPCORE_GUARD + 1);
     return 0;
 }

@@ -2,94 +2,7 @@
  * The test of a connection's calls: what each answers and reports, in each phase; misuse, as misuse.c has it of a plain end; and the room
  * that it takes. Times are microseconds.
  */
-#include "check.h"
-#include "tcpcore.h"
-
-#include <string.h>
-
-enum { SECOND = 1000000, CAPACITY = 1000 };
-
-static const tcpcore_addr HERE = {{10, 0, 0, 1}}, THERE = {{10, 0, 0, 2}}, NOWHERE = {{0, 0, 0, 0}};
-static const struct tcpcore_connection_rules RULES = TCPCORE_CONNECTION_RULES_DEFAULT;
-static const size_t HUGE_LENGTH = (size_t)PTRDIFF_MAX + 1;
-static unsigned char blocks[2][TCPCORE_CONNECTION_MEMORY(CAPACITY, CAPACITY)];
-static tcpcore_connection a = TCPCORE_CONNECTION_INIT, b = TCPCORE_CONNECTION_INIT;
-
-static tcpcore_config good_config(tcpcore_addr addr)
-{
-    return (tcpcore_config){
-        .addr = addr, .port = 9, .mss = 1460, .isn = 1, .send_capacity = CAPACITY, .recv_capacity = CAPACITY, .limit = TCPCORE_LIMIT,
-        .sack = 1};
-}
-
-static uint32_t connects(const tcpcore_config *config, const struct tcpcore_connection_rules *rules)
-{
-    return tcpcore_connection_connect(&a, config, rules, THERE, 9, 0, blocks[0], sizeof *blocks);
-}
-
-static int are_all(const void *at, size_t size, unsigned char value)
-{
-    const unsigned char *bytes = at;
-    size_t i = 0;
-    while (i < size && bytes[i] == value)
-        i++;
-    return i == size;
-}
-
-static struct tcpcore_status status_of(const tcpcore_connection *connection)
-{
-    struct tcpcore_status status;
-    CHECK(tcpcore_connection_status(connection, &status), TCPCORE_DONE);
-    return status;
-}
-
-static uint64_t poll_at(const tcpcore_connection *connection)
-{
-    uint64_t at = 7;
-    CHECK(tcpcore_connection_poll_at(connection, &at), TCPCORE_DONE);
-    return at;
-}
-
-/* Both ends, opened at 0. */
-static void open_both(void)
-{
-    tcpcore_config config = good_config(HERE);
-    CHECK(connects(&config, &RULES), TCPCORE_DONE);
-    config = good_config(THERE);
-    CHECK(tcpcore_connection_listen(&b, &config, &RULES, 0, blocks[1], sizeof *blocks), TCPCORE_DONE);
-}
-
-static void free_both(void)
-{
-    CHECK(tcpcore_connection_free(&a), TCPCORE_DONE);
-    CHECK(tcpcore_connection_free(&b), TCPCORE_DONE);
-    CHECK(are_all(&a, sizeof a, 0), 1);
-}
-
-/* Hands all that is due to the other end; how many segments that is. */
-static size_t carry(tcpcore_connection *from, tcpcore_addr src, tcpcore_connection *to, uint64_t now)
-{
-    unsigned char bytes[TCPCORE_EMIT_ROOM];
-    struct tcpcore_connection_segment segment;
-    struct tcpcore_arrive_report report;
-    size_t count = 0;
-    while (tcpcore_connection_emit(from, now, UINT64_MAX, bytes, sizeof bytes, &segment) == TCPCORE_DONE) {
-        CHECK(tcpcore_connection_arrive(to, now, src, segment.to, bytes, segment.length, &report), TCPCORE_DONE);
-        count++;
-    }
-    return count;
-}
-
-/* ESTABLISHED at both ends. */
-static void establish(uint64_t now)
-{
-    open_both();
-    CHECK(carry(&a, HERE, &b, now), 1);
-    CHECK(carry(&b, THERE, &a, now), 1);
-    CHECK(carry(&a, HERE, &b, now), 1);
-    CHECK(status_of(&a).phase, TCPCORE_PHASE_ESTABLISHED);
-    CHECK(status_of(&b).phase, TCPCORE_PHASE_ESTABLISHED);
-}
+#include "connection.h"
 
 /* Each call but those that make and free answers `wanted`, reports 0, and leaves the buffers as they are. */
 static void every_call(tcpcore_connection *connection, uint32_t wanted)
@@ -113,7 +26,14 @@ static void every_call(tcpcore_connection *connection, uint32_t wanted)
     CHECK(at, 0);
     CHECK(tcpcore_connection_timeout(connection, 0, &timer), wanted);
     CHECK(timer, 0);
+    timer = 7, at = 7;
+    CHECK(tcpcore_connection_tick(connection, 0, &timer, &at), wanted);
+    CHECK(timer, 0);
+    CHECK(at, 0);
     CHECK(tcpcore_connection_arrive(connection, 0, THERE, HERE, "short", 5, &report), wanted);
+    CHECK(are_all(&report, sizeof report, 0), 1);
+    memset(&report, 7, sizeof report);
+    CHECK(tcpcore_connection_arrive_vouched(connection, 0, THERE, HERE, "short", 5, &report), wanted);
     CHECK(are_all(&report, sizeof report, 0), 1);
     CHECK(tcpcore_connection_emit(connection, 0, UINT64_MAX, buffer, sizeof buffer, &segment), wanted);
     CHECK(are_all(&segment, sizeof segment, 0), 1);
@@ -218,6 +138,8 @@ static void refused_pointers(void)
     size_t count;
     tcpcore_addr addr;
     uint16_t port;
+    uint32_t timer;
+    uint64_t at;
     void *over = &a;
     open_both();
     tcpcore_connection was = a;
@@ -225,12 +147,23 @@ static void refused_pointers(void)
     CHECK(tcpcore_connection_poll_at(&a, over), TCPCORE_OVERLAP);
     CHECK(tcpcore_connection_timeout(&a, 0, NULL), TCPCORE_NULL);
     CHECK(tcpcore_connection_timeout(&a, 0, over), TCPCORE_OVERLAP);
+    CHECK(tcpcore_connection_tick(&a, 0, NULL, &at), TCPCORE_NULL);
+    CHECK(tcpcore_connection_tick(&a, 0, &timer, NULL), TCPCORE_NULL);
+    CHECK(tcpcore_connection_tick(&a, 0, over, &at), TCPCORE_OVERLAP);
+    CHECK(tcpcore_connection_tick(&a, 0, &timer, over), TCPCORE_OVERLAP);
+    CHECK(tcpcore_connection_tick(&a, 0, (uint32_t *)(void *)&at, &at), TCPCORE_OVERLAP);
     CHECK(tcpcore_connection_arrive(&a, 0, THERE, HERE, buffer, 20, NULL), TCPCORE_NULL);
     CHECK(tcpcore_connection_arrive(&a, 0, THERE, HERE, NULL, 20, &report), TCPCORE_NULL);
     CHECK(tcpcore_connection_arrive(&a, 0, THERE, HERE, NULL, 0, &report), TCPCORE_TOO_SHORT);
     CHECK(tcpcore_connection_arrive(&a, 0, THERE, HERE, buffer, HUGE_LENGTH, &report), TCPCORE_LENGTH);
     CHECK(tcpcore_connection_arrive(&a, 0, THERE, HERE, &report, 20, &report), TCPCORE_OVERLAP);
     CHECK(tcpcore_connection_arrive(&a, 0, THERE, HERE, &a, sizeof a, &report), TCPCORE_OVERLAP);
+    CHECK(tcpcore_connection_arrive_vouched(&a, 0, THERE, HERE, buffer, 20, NULL), TCPCORE_NULL);
+    CHECK(tcpcore_connection_arrive_vouched(&a, 0, THERE, HERE, NULL, 20, &report), TCPCORE_NULL);
+    CHECK(tcpcore_connection_arrive_vouched(&a, 0, THERE, HERE, NULL, 0, &report), TCPCORE_TOO_SHORT);
+    CHECK(tcpcore_connection_arrive_vouched(&a, 0, THERE, HERE, buffer, HUGE_LENGTH, &report), TCPCORE_LENGTH);
+    CHECK(tcpcore_connection_arrive_vouched(&a, 0, THERE, HERE, &report, 20, &report), TCPCORE_OVERLAP);
+    CHECK(tcpcore_connection_arrive_vouched(&a, 0, THERE, HERE, &a, sizeof a, &report), TCPCORE_OVERLAP);
     CHECK(tcpcore_connection_emit(&a, 0, UINT64_MAX, buffer, sizeof buffer, NULL), TCPCORE_NULL);
     CHECK(tcpcore_connection_emit(&a, 0, UINT64_MAX, NULL, sizeof buffer, &segment), TCPCORE_NULL);
     CHECK(tcpcore_connection_emit(&a, 0, UINT64_MAX, NULL, 0, &segment), TCPCORE_ROOM);
@@ -343,10 +276,15 @@ static void expires(void)
     struct tcpcore_connection_segment segment;
     struct tcpcore_arrive_report report;
     uint32_t timer = 7;
+    uint64_t next = 7;
     open_both();
     CHECK(tcpcore_connection_emit(&a, 0, UINT64_MAX, first, sizeof first, &segment), TCPCORE_DONE);
     CHECK(tcpcore_connection_timeout(&a, SECOND - 1, &timer), TCPCORE_NOT_DUE);
     CHECK(timer, 0);
+    timer = 7;
+    CHECK(tcpcore_connection_tick(&a, SECOND - 1, &timer, &next), TCPCORE_NOT_DUE);
+    CHECK(timer, 0);
+    CHECK(next, SECOND);
     timer = 7;
     CHECK(tcpcore_connection_timeout(&a, SECOND, &timer), TCPCORE_DONE);
     CHECK(timer, TCPCORE_TIMER_RETRANSMIT);
@@ -381,18 +319,6 @@ static void peers(void)
     free_both();
 }
 
-/* Sends text at 5 s that is lost, of so many bytes in each of two segments. */
-static void lose_text(void)
-{
-    unsigned char bytes[TCPCORE_EMIT_ROOM];
-    struct tcpcore_connection_segment segment;
-    size_t count;
-    for (int i = 0; i < 2; i++) {
-        CHECK(tcpcore_connection_send(&a, 5 * SECOND, "hello", 5, &count), TCPCORE_DONE);
-        CHECK(tcpcore_connection_emit(&a, 5 * SECOND, UINT64_MAX, bytes, sizeof bytes, &segment), TCPCORE_DONE);
-    }
-}
-
 /* A round trip of 0 makes a timeout of a second, which doubles (RFC 6298, 2.4 and 5.5): it expires after 1, 3 and 7 s, and then the path is
    suspect. The user timeout counts from when the text was sent (RFC 9293, 3.8.3). */
 static void user_timeouts(void)
@@ -400,12 +326,14 @@ static void user_timeouts(void)
     unsigned char bytes[TCPCORE_EMIT_ROOM];
     struct tcpcore_connection_segment segment;
     uint32_t timer;
+    uint64_t next;
     establish(0);
     lose_text();
     CHECK(tcpcore_connection_set_user_timeout(&a, 10 * SECOND), TCPCORE_DONE);
     for (uint64_t after = 1; after <= 7; after = 2 * after + 1) {
         CHECK(poll_at(&a), (5 + after) * SECOND);
-        CHECK(tcpcore_connection_timeout(&a, (5 + after) * SECOND, &timer), TCPCORE_DONE);
+        CHECK(tcpcore_connection_tick(&a, (5 + after) * SECOND, &timer, &next), TCPCORE_DONE);
+        CHECK(next, poll_at(&a));
         CHECK(timer, TCPCORE_TIMER_RETRANSMIT);
         while (tcpcore_connection_emit(&a, (5 + after) * SECOND, UINT64_MAX, bytes, sizeof bytes, &segment) == TCPCORE_DONE)
             continue;

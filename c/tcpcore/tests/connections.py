@@ -5,6 +5,7 @@ import copy
 import os
 import pickle
 import random
+import struct
 import sys
 
 sys.path.insert(0, os.path.dirname(os.path.dirname(os.path.realpath(__file__))))
@@ -163,6 +164,33 @@ def peers():
     check(raised(Refused, b.peer) != "nothing", True)
 
 
+def blind(seq, ack, text=b""):
+    """A segment of somebody who knows B's address and port, and A's, without a checksum (RFC 9293, 3.1)."""
+    return struct.pack("!HHIIBBHHH", 2, 1, seq % 2**32, ack % 2**32, 5 << 4, 0x10, 1000, 0, 0) + text
+
+
+def guards():
+    """An acknowledgement more than the guard's reach behind SND.UNA comes with nothing that is taken (RFC 5961, 5.2); without a guard it does
+    (RFC 9293, 3.10.7.4, fifth)."""
+    check(Rules().guard, tcpcore.GUARD)
+    for rules, reach in ((Rules(), 1 << 21), (Rules(guard=5_000_000), 5_000_000), (Rules(guard=None), None)):
+        a, _ = pair(rules=rules)
+        una, behind = 1001, 1 << 21 if reach is None else reach
+        check(a.arrive(0.0, B, A, blind(5001, una, b"x")), Answer.BAD_CHECKSUM)
+        check(a.arrive_vouched(0.0, B, A, blind(5001, una - behind - 1, b"x")), Answer.DONE if reach is None else Answer.DROPPED)
+        check(a.status().unread, 1 if reach is None else 0)
+        check(a.arrive_vouched(0.0, B, A, blind(5002 if reach is None else 5001, una - behind, b"y")), Answer.DONE)
+    for guard, wanted in ((tcpcore.GUARD, Answer.DROPPED), (None, Answer.DONE)):
+        a, b = End(CONFIGS[0]), End(CONFIGS[1])
+        b.listen()
+        a.connect(B, 2)
+        for source, src, target in ((a, A, b), (b, B, a), (a, A, b)):
+            for to, segment in source.emit_all():
+                check(target.arrive_by(src, to, segment)[0], Answer.DONE)
+        check(a.arrive_by(B, A, blind(5001, 1001, b"x"), guard)[0], Answer.BAD_CHECKSUM)
+        check(a.arrive_by(B, A, blind(5001, 1000 - (1 << 21), b"x"), guard, is_vouched=True)[0], wanted)
+
+
 def time_wait():
     """RFC 9293, 3.4.2, and RFC 1337, 3."""
     a, b = pair(rules=Rules(time_wait=2.5))
@@ -291,7 +319,7 @@ ODD = (None, -1, 0, 1 << 70, 0.5, float("nan"), "x", "10.0.0.1", b"", bytes(20),
 def hostile():
     """Any calls with any arguments: refused, or raised as a fault of the arguments. TCPCORE_CALLS in the environment says how many calls."""
     chance, calls = random.Random(11), int(os.environ.get("TCPCORE_CALLS", "16000"))
-    names = ("poll_at", "timeout", "arrive", "arrive_with_report", "transmit", "emit", "emit_all", "send", "receive", "peek", "consume", "acknowledge", "close", "abort", "status", "free")
+    names = ("poll_at", "timeout", "arrive", "arrive_with_report", "arrive_vouched", "transmit", "emit", "emit_all", "send", "receive", "peek", "consume", "acknowledge", "close", "abort", "status", "free")
     faults, done = (Refused, ValueError, TypeError), 0
     for turn in range(calls // 40):
         now, ends = 0.0, list(pair())
@@ -323,6 +351,7 @@ def main():
     later_limits()
     first_again()
     peers()
+    guards()
     time_wait()
     orders()
     reports()

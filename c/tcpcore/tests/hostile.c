@@ -1,9 +1,10 @@
 /*
- * Connections under hostile calls, drawn from a seed: any call but peer, set_user_timeout and resend_first, in any order, at times that go
- * on, go back and end; segments that were damaged, cut, made anew with a right checksum, or come from elsewhere; lengths that are too
- * long, pointers that are NULL or lie over the struct, structs that were copied or freed, configs and rules out of their ranges. Each call
- * answers what the header says of it, writes zeros where it refuses, and changes nothing then. 'hostile SEED CALLS' makes so many; without
- * words it makes 20,000.
+ * Connections under hostile calls, drawn from a seed: any call, in any order, at times that go on, go back and end; segments that were
+ * damaged, cut, made anew with a right checksum, vouched for, or come from elsewhere; lengths that are too long, pointers that are NULL or
+ * lie over the struct, structs that were copied or freed, configs and rules out of their ranges, guards of any reach. Each call answers
+ * what the header says of it: NO_END, NULL, LENGTH, COPIED and OVERLAP where it was called so, and never else. It writes zeros where it
+ * refuses, and changes nothing then.
+ * 'hostile SEED CALLS' makes so many; without words it makes 20,000.
  */
 #include "check.h"
 #include "sums.h"
@@ -46,11 +47,23 @@ static int is_zero(const void *at, size_t length)
     return 1;
 }
 
+/* What of the call that is being made isn't as it should be: which of the boundary's answers it may have, and whether it must have one. */
+static struct {
+    int null, length, copied, overlap, no_end, must;
+} odd;
+
+static void is_odd(int *why, int must)
+{
+    *why = 1;
+    odd.must |= must;
+}
+
 /* A length: short, long, or one that no buffer has. */
 static size_t any_length(size_t most)
 {
     switch (any(20)) {
     case 0:
+        is_odd(&odd.length, 1);
         return SIZE_MAX - any(3);
     case 1:
         return 0;
@@ -59,33 +72,59 @@ static size_t any_length(size_t most)
     }
 }
 
-/* The connection that a call is given: a side's, and at times none, a copy or garbage. */
+static const tcpcore_connection NO_CONNECTION = TCPCORE_CONNECTION_INIT;
+
+/* The connection that a call is given: a side's, and at times none, a copy or garbage. A call begins with it. */
 static tcpcore_connection *any_end(size_t side)
 {
     static tcpcore_connection copy, garbage = {{7, 7, 7}};
-    if (!rarely())
-        return &ends[side];
-    copy = ends[side];
-    return any(3) == 0 ? NULL : any(2) == 0 ? &copy : &garbage;
+    tcpcore_connection *end = &ends[side];
+    memset(&odd, 0, sizeof odd);
+    if (rarely()) {
+        copy = ends[side];
+        end = any(3) == 0 ? NULL : any(2) == 0 ? &copy : &garbage;
+    }
+    if (!end)
+        is_odd(&odd.null, 1);
+    else if (memcmp(end, &NO_CONNECTION, sizeof NO_CONNECTION) == 0)
+        is_odd(&odd.no_end, 1);
+    else if (end != &ends[side])
+        is_odd(&odd.copied, 1);
+    return end;
 }
 
-/* Where a call with this struct is to write: at `right`, and at times nowhere or over the struct. */
-static void *any_place(void *right, tcpcore_connection *end) { return !rarely() ? right : any(2) == 0 ? NULL : (void *)end; }
+/* Where a call with this struct reads or writes so many bytes: at `right`, and at times nowhere or over the struct. */
+static void *any_buffer(void *right, size_t length, tcpcore_connection *end)
+{
+    void *at = !rarely() ? right : any(2) == 0 ? NULL : (void *)end;
+    if (!at)
+        is_odd(&odd.null, length > 0);
+    else if (at == end)
+        is_odd(&odd.overlap, length > 0);
+    return at;
+}
 
-static const uint32_t CALLS[] = {TCPCORE_NO_END, TCPCORE_NULL, TCPCORE_LENGTH, TCPCORE_COPIED, TCPCORE_OVERLAP};
+/* Where it writes what it has found. */
+static void *any_place(void *right, tcpcore_connection *end) { return any_buffer(right, 1, end); }
 
-/* The answer is one of the boundary's, or of these. */
+/* Whether the answer is one of the boundary's that this call may have. */
+static int is_refused(uint32_t answer)
+{
+    return (answer == TCPCORE_NO_END && odd.no_end) || (answer == TCPCORE_NULL && odd.null) || (answer == TCPCORE_LENGTH && odd.length) ||
+           (answer == TCPCORE_COPIED && odd.copied) || (answer == TCPCORE_OVERLAP && odd.overlap);
+}
+
+/* The answer is one of the boundary's where it has to be, and else one of these. */
 static void answers(const char *name, uint32_t answer, const uint32_t *others, size_t count)
 {
-    for (size_t i = 0; i < sizeof CALLS / sizeof *CALLS; i++)
-        if (answer == CALLS[i])
-            goto found;
-    for (size_t i = 0; i < count; i++)
-        if (answer == others[i])
-            goto found;
-    printf("hostile: %s answers %u\n", name, (unsigned)answer);
-    exit(1);
-found:
+    int is_right = is_refused(answer);
+    for (size_t i = 0; i < count && !odd.must; i++)
+        is_right |= answer == others[i];
+    if (!is_right) {
+        printf("hostile: %s answers '%s', called with [%s%s%s%s%s]\n", name, tcpcore_strerror(answer), odd.no_end ? " no end" : "",
+               odd.null ? " NULL" : "", odd.length ? " a length" : "", odd.copied ? " a copy" : "", odd.overlap ? " an overlap" : "");
+        exit(1);
+    }
     counts[answer]++;
 }
 
@@ -113,9 +152,13 @@ static void make(size_t side)
     rules.user = any(4) == 0 ? TCPCORE_NEVER : any(UINT64_C(1) << 32);
     rules.fin_wait_2 = any(2) == 0 ? TCPCORE_NEVER : any(UINT64_C(1) << 32);
     rules.suspect_after = (uint32_t)any(4);
+    rules.guard = any(3) == 0 ? TCPCORE_NO_GUARD : any(3) == 0 ? (uint32_t)any(5000) : TCPCORE_GUARD;
     tcpcore_connection was = ends[side], *end = any_end(side);
-    void *block = any_place(blocks[side], end);
     size_t length = rarely() ? any_length(sizeof *blocks) : sizeof *blocks;
+    void *block = any_buffer(blocks[side], length, end);
+    /* Where there is none it makes one. */
+    if (odd.no_end)
+        odd.must = length > 0 && (odd.null || odd.length || odd.overlap);
     uint32_t answer = any(2) == 0 ? tcpcore_connection_listen(end, &config, &rules, now, block, length)
                                   : tcpcore_connection_connect(end, &config, &rules, ADDRS[1 - side], (uint16_t)(2 - side), now, block, length);
     ANSWERS("making", answer, TCPCORE_DONE, TCPCORE_IN_USE, TCPCORE_BAD_CAPACITY, TCPCORE_NO_MEMORY, TCPCORE_BAD_MSS, TCPCORE_BAD_SHIFT,
@@ -160,10 +203,13 @@ static void arrive(size_t side)
     size_t length = any_segment(buffer, ADDRS[from], ADDRS[to]);
     tcpcore_connection *end = any_end(side);
     void *place = any_place(&report, end);
-    const void *bytes = any_place(buffer, end);
-    if (rarely())
+    if (rarely()) {
+        is_odd(&odd.length, 1);
         length = SIZE_MAX - any(3);
-    uint32_t answer = tcpcore_connection_arrive(end, now, ADDRS[from], ADDRS[to], bytes, length, place);
+    }
+    const void *bytes = any_buffer(buffer, length, end);
+    uint32_t answer = any(4) == 0 ? tcpcore_connection_arrive_vouched(end, now, ADDRS[from], ADDRS[to], bytes, length, place)
+                                  : tcpcore_connection_arrive(end, now, ADDRS[from], ADDRS[to], bytes, length, place);
     ANSWERS("arrive", answer, TCPCORE_DONE, TCPCORE_TOO_SHORT, TCPCORE_TOO_LONG, TCPCORE_BAD_CHECKSUM, TCPCORE_BAD_OFFSET, TCPCORE_BAD_OPTION,
             TCPCORE_BAD_PADDING, TCPCORE_DROPPED, TCPCORE_NOT_MINE, TCPCORE_EMIT_FIRST, TCPCORE_WITHHELD);
     if (place == &report && answer != TCPCORE_DONE && answer != TCPCORE_DROPPED && answer != TCPCORE_NOT_MINE)
@@ -176,8 +222,9 @@ static void emit(size_t side)
     struct segment *it = &kept[kept_count % KEPT];
     struct tcpcore_connection_segment segment;
     tcpcore_connection *end = any_end(side);
-    void *place = any_place(&segment, end), *out = any_place(it->bytes, end);
+    void *place = any_place(&segment, end);
     size_t room = rarely() ? any_length(TCPCORE_EMIT_ROOM) : TCPCORE_EMIT_ROOM;
+    void *out = any_buffer(it->bytes, room, end);
     uint32_t answer = tcpcore_connection_emit(end, now, WINDOWS[any(5)], out, room, place);
     ANSWERS("emit", answer, TCPCORE_DONE, TCPCORE_NOT_DUE, TCPCORE_ROOM);
     if (answer != TCPCORE_DONE) {
@@ -193,7 +240,7 @@ static void send(size_t side)
 {
     tcpcore_connection *end = any_end(side);
     size_t taken = 7, length = any_length(5000), *place = any_place(&taken, end);
-    const void *text = any_place(buffer, end);
+    const void *text = any_buffer(buffer, length, end);
     uint32_t answer = tcpcore_connection_send(end, now, text, length, place);
     ANSWERS("send", answer, TCPCORE_DONE, TCPCORE_ENDED, TCPCORE_NOT_CONNECTED, TCPCORE_CLOSING, TCPCORE_STREAM_FULL);
     CHECK(place != &taken || (answer == TCPCORE_DONE ? taken <= length : taken == 0), 1);
@@ -204,17 +251,16 @@ static void receive(size_t side)
     static unsigned char read[5000];
     tcpcore_connection *end = any_end(side);
     size_t count = 7, room = any_length(sizeof read), *place = any_place(&count, end);
-    void *out = any_place(read, end);
+    void *out = any_buffer(read, room, end);
     uint32_t answer = tcpcore_connection_receive(end, now, out, room, place);
     ANSWERS("receive", answer, TCPCORE_DONE, TCPCORE_NOTHING, TCPCORE_END_OF_STREAM, TCPCORE_ENDED, TCPCORE_NOT_OPEN);
     CHECK(place != &count || (answer == TCPCORE_DONE ? count <= room : count == 0), 1);
 }
 
-static void lend(size_t side)
+static void peek(size_t side)
 {
     struct tcpcore_lent lent;
     tcpcore_connection *end = any_end(side);
-    size_t count = 7, most = any_length(5000), *place = any_place(&count, end);
     uint32_t answer = tcpcore_connection_peek(end, any_place(&lent, end));
     ANSWERS("peek", answer, TCPCORE_DONE, TCPCORE_NOTHING, TCPCORE_END_OF_STREAM, TCPCORE_ENDED, TCPCORE_NOT_OPEN);
     if (answer == TCPCORE_DONE) {
@@ -223,23 +269,88 @@ static void lend(size_t side)
         if (lent.second.length > 0)
             memcpy(buffer + lent.first.length, lent.second.at, lent.second.length);
     }
-    answer = tcpcore_connection_consume(end, now, most, place);
+}
+
+static void consume(size_t side)
+{
+    tcpcore_connection *end = any_end(side);
+    size_t count = 7, most = any(20) == 0 ? SIZE_MAX : any(5000), *place = any_place(&count, end);
+    uint32_t answer = tcpcore_connection_consume(end, now, most, place);
     ANSWERS("consume", answer, TCPCORE_DONE, TCPCORE_ENDED, TCPCORE_NOT_OPEN);
     CHECK(place != &count || (answer == TCPCORE_DONE ? count <= most : count == 0), 1);
 }
 
-static void timeout(size_t side)
+static void lend(size_t side) { any(2) == 0 ? peek(side) : consume(side); }
+
+static void poll_at(size_t side)
 {
     tcpcore_connection *end = any_end(side);
-    uint64_t at = 7, *at_place = any_place(&at, end);
-    uint32_t timer = 7, *place = any_place(&timer, end);
-    uint32_t answer = tcpcore_connection_poll_at(end, at_place);
+    uint64_t at = 7, *place = any_place(&at, end);
+    uint32_t answer = tcpcore_connection_poll_at(end, place);
     ANSWERS("poll_at", answer, TCPCORE_DONE);
+    CHECK(place != &at || answer == TCPCORE_DONE || at == 0, 1);
     if (answer == TCPCORE_DONE && any(2) == 0 && at != TCPCORE_NEVER && at > now)
         now = at;
-    answer = tcpcore_connection_timeout(end, now, place);
+}
+
+static void tick(size_t side)
+{
+    tcpcore_connection *end = any_end(side);
+    uint32_t timer = 7, *place = any_place(&timer, end);
+    uint64_t next = 7, *next_place = any_place(&next, end);
+    uint32_t answer = tcpcore_connection_tick(end, now, place, next_place);
+    ANSWERS("tick", answer, TCPCORE_DONE, TCPCORE_NOT_DUE);
+    CHECK(place != &timer || (answer == TCPCORE_DONE ? timer <= TCPCORE_TIMER_USER : timer == 0), 1);
+    CHECK(next_place != &next || answer == TCPCORE_DONE || answer == TCPCORE_NOT_DUE || next == 0, 1);
+}
+
+static void timeout(size_t side)
+{
+    if (any(3) == 0) {
+        tick(side);
+        return;
+    }
+    poll_at(side);
+    tcpcore_connection *end = any_end(side);
+    uint32_t timer = 7, *place = any_place(&timer, end);
+    uint32_t answer = tcpcore_connection_timeout(end, now, place);
     ANSWERS("timeout", answer, TCPCORE_DONE, TCPCORE_NOT_DUE);
     CHECK(place != &timer || (answer == TCPCORE_DONE ? timer <= TCPCORE_TIMER_USER : timer == 0), 1);
+}
+
+static int is_one_of_ours(tcpcore_addr addr)
+{
+    for (size_t i = 0; i < sizeof ADDRS / sizeof *ADDRS; i++)
+        if (memcmp(&addr, &ADDRS[i], sizeof addr) == 0)
+            return 1;
+    return 0;
+}
+
+/* The peer that it was opened to, or whose SYN it took: no call looks at what an address means, so it may be 0.0.0.0. */
+static void peer(size_t side)
+{
+    tcpcore_addr addr = {{7, 7, 7, 7}};
+    uint16_t port = 7;
+    tcpcore_connection *end = any_end(side);
+    tcpcore_addr *addr_place = any_place(&addr, end);
+    uint16_t *port_place = any_place(&port, end);
+    uint32_t answer = tcpcore_connection_peer(end, addr_place, port_place);
+    ANSWERS("peer", answer, TCPCORE_DONE, TCPCORE_NOT_CONNECTED);
+    if (answer == TCPCORE_DONE)
+        CHECK(is_one_of_ours(addr), 1);
+    else
+        CHECK((addr_place != &addr || is_zero(&addr, sizeof addr)) && (port_place != &port || port == 0), 1);
+}
+
+/* A call that changes what its timers will do. */
+static void change_timers(size_t side)
+{
+    tcpcore_connection *end = any_end(side);
+    if (any(2) == 0)
+        ANSWERS("set_user_timeout", tcpcore_connection_set_user_timeout(end, any(2) == 0 ? TCPCORE_NEVER : any(UINT64_C(1) << (1 + any(62)))),
+                TCPCORE_DONE);
+    else
+        ANSWERS("resend_first", tcpcore_connection_resend_first(end, now), TCPCORE_DONE, TCPCORE_NO_RULE);
 }
 
 /* A call of the user's without a length. */
@@ -289,13 +400,13 @@ static void is_sound(size_t side)
     CHECK(s.snd_una <= s.snd_nxt && s.rcv_wnd <= CAPACITY && s.released <= s.snd_una, 1);
     /* One that has ended makes room for another. */
     if (s.phase == TCPCORE_PHASE_CLOSED && any(10) == 0)
-        ANSWERS("free", tcpcore_connection_free(end), TCPCORE_DONE);
+        ANSWERS("free", tcpcore_connection_free(any_end(side)), TCPCORE_DONE);
 }
 
 int main(int count, char **words)
 {
     uint64_t seed = count > 2 ? strtoull(words[1], NULL, 10) : 1, calls = count > 2 ? strtoull(words[2], NULL, 10) : 20000;
-    static void (*const STEPS[])(size_t) = {arrive, arrive, arrive, arrive, emit, emit, emit, emit, send, receive, lend, timeout, use};
+    static void (*const STEPS[])(size_t) = {arrive, arrive, arrive, arrive, emit, emit, emit, emit, send, receive, lend, timeout, peer, change_timers, use};
     word = seed * 2654435761u + 88172645463325252u;
     for (uint64_t call = 0; call < calls; call++) {
         size_t side = any(2);
@@ -306,13 +417,14 @@ int main(int count, char **words)
         STEPS[any(sizeof STEPS / sizeof *STEPS)](side);
         is_sound(side);
         /* A connection whose time has ended is made anew, and time goes on from where it was. */
-        if (now > UINT64_C(1) << 62)
-            ANSWERS("free", tcpcore_connection_free(&ends[side]), TCPCORE_DONE);
+        if (now > UINT64_C(1) << 62 && memcmp(&ends[side], &NO_CONNECTION, sizeof NO_CONNECTION) != 0)
+            CHECK(tcpcore_connection_free(&ends[side]), TCPCORE_DONE);
         now = now < was || now > UINT64_C(1) << 62 ? was : now;
     }
     static const uint32_t MET[] = {TCPCORE_DONE, TCPCORE_BAD_CHECKSUM, TCPCORE_ENDED, TCPCORE_COPIED, TCPCORE_OVERLAP, TCPCORE_NULL,
                                    TCPCORE_LENGTH, TCPCORE_NOT_MINE, TCPCORE_DROPPED, TCPCORE_EMIT_FIRST, TCPCORE_END_OF_STREAM,
-                                   TCPCORE_CLOSING, TCPCORE_BAD_RULES, TCPCORE_IN_USE};
+                                   TCPCORE_CLOSING, TCPCORE_BAD_RULES, TCPCORE_IN_USE, TCPCORE_NO_END, TCPCORE_NO_RULE,
+                                   TCPCORE_NOT_CONNECTED};
     for (size_t i = 0; i < sizeof MET / sizeof *MET; i++)
         if (counts[MET[i]] == 0)
             printf("hostile: %s was never met\n", tcpcore_strerror(MET[i]));

@@ -1,28 +1,13 @@
 /* The test of misuse, of what is lent and of the calls for a device that sums: NULL, copied structs, huge lengths, short room, pointers
    over the struct or over the buffer, no end. */
 #include "carry.h"
-#include "check.h"
-#include "tcpcore.h"
+#include "misuse.h"
 
-#include <string.h>
-
-static const tcpcore_addr HERE = {{10, 0, 0, 1}}, THERE = {{10, 0, 0, 2}}, NOWHERE = {{0, 0, 0, 0}};
-static const size_t HUGE_LENGTH = (size_t)PTRDIFF_MAX + 1;
 static unsigned char blocks[2][TCPCORE_MEMORY(1000, 1000)];
-
-static int is_zero(const void *at, size_t size)
-{
-    const unsigned char *bytes = at;
-    unsigned char found = 0;
-    for (size_t i = 0; i < size; i++)
-        found |= bytes[i];
-    return found == 0;
-}
 
 static void make(tcpcore_end *end, tcpcore_addr addr)
 {
-    tcpcore_config config = {.addr = addr, .port = 9, .mss = 1460, .isn = 1, .send_capacity = 1000, .recv_capacity = 1000,
-                             .limit = TCPCORE_LIMIT, .sack = 1};
+    tcpcore_config config = good_config(addr);
     CHECK(tcpcore_new(end, &config, blocks[addr.byte[3] - 1], sizeof *blocks), TCPCORE_DONE);
 }
 
@@ -45,6 +30,9 @@ static void no_parts(const struct tcpcore_parts *parts)
 /* No segment was written: all is 0. */
 static void no_train(const struct tcpcore_train *train) { CHECK(is_zero(train, sizeof *train), 1); }
 
+/* With a guard, and summed. */
+static const struct tcpcore_intake INTAKE = {0};
+
 /* Each call answers `wanted`, tells 0, and leaves the buffer as it is. */
 static void every_call(tcpcore_end *end, uint32_t wanted)
 {
@@ -65,6 +53,9 @@ static void every_call(tcpcore_end *end, uint32_t wanted)
     CHECK(taken, 0);
     CHECK(tcpcore_arrive_vouched(end, THERE, HERE, "short", 5), wanted);
     CHECK(tcpcore_arrive_vouched_with_report(end, THERE, HERE, "short", 5, &report), wanted);
+    CHECK(is_zero(&report, sizeof report), 1);
+    memset(&report, 7, sizeof report);
+    CHECK(tcpcore_arrive_by(end, THERE, HERE, "short", 5, &INTAKE, &report), wanted);
     CHECK(is_zero(&report, sizeof report), 1);
     CHECK(tcpcore_emit_partial(end, buffer, sizeof buffer, &to, &count), wanted);
     CHECK(count, 0);
@@ -118,6 +109,10 @@ static void pointers(tcpcore_end *end)
     CHECK(tcpcore_arrive_vouched_with_report(end, THERE, HERE, NULL, 20, &report), TCPCORE_NULL);
     CHECK(tcpcore_arrive_vouched_with_report(end, THERE, HERE, buffer, 20, NULL), TCPCORE_NULL);
     CHECK(tcpcore_arrive_vouched_with_report(end, THERE, HERE, buffer, HUGE_LENGTH, &report), TCPCORE_LENGTH);
+    CHECK(tcpcore_arrive_by(end, THERE, HERE, NULL, 20, &INTAKE, &report), TCPCORE_NULL);
+    CHECK(tcpcore_arrive_by(end, THERE, HERE, buffer, 20, NULL, &report), TCPCORE_NULL);
+    CHECK(tcpcore_arrive_by(end, THERE, HERE, buffer, 20, &INTAKE, NULL), TCPCORE_NULL);
+    CHECK(tcpcore_arrive_by(end, THERE, HERE, buffer, HUGE_LENGTH, &INTAKE, &report), TCPCORE_LENGTH);
     CHECK(tcpcore_emit_partial(end, NULL, sizeof buffer, &to, &count), TCPCORE_NULL);
     CHECK(tcpcore_emit_partial(end, buffer, sizeof buffer, NULL, &count), TCPCORE_NULL);
     CHECK(tcpcore_emit_partial(end, buffer, sizeof buffer, &to, NULL), TCPCORE_NULL);
@@ -179,6 +174,8 @@ static void overlaps(void)
         CHECK(tcpcore_arrive_vouched(&place.end, THERE, HERE, over, 20), TCPCORE_OVERLAP);
         CHECK(tcpcore_arrive_vouched_with_report(&place.end, THERE, HERE, over, 20, &report), TCPCORE_OVERLAP);
         CHECK(tcpcore_arrive_vouched_with_report(&place.end, THERE, HERE, place.behind, 20, over), TCPCORE_OVERLAP);
+        CHECK(tcpcore_arrive_by(&place.end, THERE, HERE, over, 20, &INTAKE, &report), TCPCORE_OVERLAP);
+        CHECK(tcpcore_arrive_by(&place.end, THERE, HERE, place.behind, 20, &INTAKE, over), TCPCORE_OVERLAP);
         CHECK(tcpcore_emit_partial(&place.end, over, TCPCORE_EMIT_ROOM, &to, &count), TCPCORE_OVERLAP);
         CHECK(tcpcore_emit_acknowledgement(&place.end, over, TCPCORE_EMIT_ROOM, &to, &count), TCPCORE_OVERLAP);
         CHECK(tcpcore_emit_partial(&place.end, place.behind, TCPCORE_EMIT_ROOM, over, &count), TCPCORE_OVERLAP);

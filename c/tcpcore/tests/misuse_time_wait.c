@@ -1,13 +1,7 @@
 /* The test of misuse, of a TIME-WAIT record: NULL, structs that are none, each field out of its range, pointers over the struct, short
    room, unknown timers. */
 #include "carry.h"
-#include "check.h"
-#include "tcpcore.h"
-
-#include <string.h>
-
-static const tcpcore_addr HERE = {{10, 0, 0, 1}}, THERE = {{10, 0, 0, 2}}, NOWHERE = {{0, 0, 0, 0}};
-static const size_t HUGE_LENGTH = (size_t)PTRDIFF_MAX + 1;
+#include "misuse.h"
 
 /* The record of an end whose peer has closed too; an acknowledgement is pending. No end before has one. */
 static struct tcpcore_time_wait record_of_an_end(void)

@@ -1,5 +1,5 @@
 -- What the calls of a connection, an end with its timers, report and do.
-use Rattle.std.specs.Prelude.{◌≡◌, ◌≢◌, ◌↔◌, ◌⊎◌, ℕ, ◌-◌, ◌^◌, ◌==◌, nat_lt, if◌then◌else◌, List, length, IsSome, IsNone, Option, Some, None, Result}
+use Rattle.std.specs.Prelude.{◌≡◌, ◌≢◌, ◌↔◌, ◌⊎◌, ℕ, ◌-◌, ◌^◌, ◌==◌, nat_lt, Bool, if◌then◌else◌, List, length, IsSome, IsNone, Option, Some, None, Result}
 use Rattle.region_heap.specs.declared.region.Region.{Region}
 use Rattle.tcp_timing.specs.declared.rules.Rules.{Rules}
 use Rattle.tcp_timing.specs.Rules.{IsSound}
@@ -9,7 +9,7 @@ use Rattle.tcp_driver.specs.declared.limits.Limits.{Limits}
 use Rattle.tcp_driver.specs.declared.machine.Sent.{Sent}
 use Rattle.tcp_driver.specs.declared.machine.Timer.{Timer}
 use Rattle.tcp_driver.specs.declared.machine.Timer.TheVariants.{Retransmit, Reorder, TimeWait, User}
-use Rattle.tcp_driver.specs.Driver.{Driving, after_emission, after_user, arrival_answer, at, sent_of, written_of}
+use Rattle.tcp_driver.specs.Driver.{Driving, after_emission, after_user, arrival_answer, at, sent_of, way_of, written_of}
 use Rattle.tcp_halves.specs.Config.{config_error_number, HasBadCapacity, HasBadMss, HasBadShift, HasBadLimit, IsGoodConfig}
 use Rattle.tcp_halves.specs.declared.config.ConfigError.TheVariants as faults
 use Rattle.tcp_halves.specs.declared.link.Peer.{Peer}
@@ -20,7 +20,7 @@ use Rattle.tcp_conn.specs.Calls.{after_connect, after_listen}
 use Rattle.tcp_conn.specs.NewEnd.{end_with_runs}
 use Rattle.tcp_conn.specs.State.{State}
 use Rattle.tcp_end.specs.declared.wired.Wired.{Wired}
-use Rattle.tcp_end.specs.Wired.{connected, driven, listening, machine, taken_of}
+use Rattle.tcp_end.specs.Wired.{connected, driven, intake_of, listening, machine, taken_of}
 use Rattle.tcp_c.specs.Answers.{done, bad_rules, bad_runs, emit_first, in_use, little_room, nothing_due, withheld, arrival_number}
 use Rattle.tcp_c.specs.Configs.{config_of, runs_of, HasBadRuns, HasGoodRuns}
 use Rattle.tcp_c.specs.Reports.{brought_number, no_arrive_report, rule_told}
@@ -40,7 +40,11 @@ never = 2 ^ 64 - 1
 abbrev pub limit_of : ℕ → Option ℕ
 limit_of time = if time == never then None else Some time
 
--- THE RULES of the timeout and the limits, of C's record
+-- how far a guard reaches: the greatest number stands for none, and 0 for two of the greatest windows
+abbrev pub reach_of : ℕ → Option ℕ
+reach_of guard = if guard == 2 ^ 32 - 1 then None else (if guard == 0 then Some 2097152 else Some guard)
+
+-- THE RULES of the timeout, and the limits with the guard, of C's record
 abbrev pub rules_of : CConnectionRules → Rules
 rules_of c = record { first = c.first; least = c.least; greatest = c.greatest; granularity = c.granularity; after_syn = c.after_syn }
 
@@ -51,6 +55,7 @@ limits_of c = record {
   handshake = limit_of c.handshake;
   user = limit_of c.user;
   fin_wait_2 = limit_of c.fin_wait_2;
+  guard = reach_of c.guard;
 }
 
 -- ---- AN END IS MADE AND OPENED: to a peer, or for one
@@ -111,9 +116,10 @@ abbrev pub timer_told : Option Timer → ℕ
 timer_told None = 0
 timer_told (Some timer) = timer_number timer
 
--- ---- AN ARRIVAL: what the driver makes of it, with the end's own answer
-abbrev pub taken_by : Driven → List ℕ → List ℕ → List ℕ → Taken reports.Taken
-taken_by d src dst bytes = arrival_answer machine (λ w src dst bytes. taken_of w.end src dst bytes) d.end src dst bytes
+-- ---- AN ARRIVAL, summed or vouched for: what the driver makes of it, with the end's own answer
+abbrev pub taken_by : Bool → Driven → List ℕ → List ℕ → List ℕ → Taken reports.Taken
+taken_by vouched d src dst bytes =
+    arrival_answer machine (λ w src dst bytes way. taken_of (intake_of way) w.end src dst bytes) d.end src dst bytes (way_of d.end vouched)
 
 abbrev pub arrival_told : Taken reports.Taken → ℕ
 arrival_told (Done report found) = arrival_number found.arrival
@@ -132,9 +138,9 @@ taken_report (Done report found) = record {
 taken_report EmitFirst = no_arrive_report
 taken_report Withheld = no_arrive_report
 
-abbrev pub report_told : List ℕ → List ℕ → List ℕ → Option Driven → CArriveReport
-report_told src dst bytes None = no_arrive_report
-report_told src dst bytes (Some d) = taken_report (taken_by d src dst bytes)
+abbrev pub report_told : Bool → List ℕ → List ℕ → List ℕ → Option Driven → CArriveReport
+report_told vouched src dst bytes None = no_arrive_report
+report_told vouched src dst bytes (Some d) = taken_report (taken_by vouched d src dst bytes)
 
 -- ---- AN EMISSION into a buffer of any length
 abbrev pub no_segment : CConnectionSegment

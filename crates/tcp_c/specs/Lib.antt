@@ -4,6 +4,7 @@ pub mod Configs
 pub mod Connections
 pub mod DrivenHeld
 pub mod Held
+pub mod Intakes
 pub mod Lent
 pub mod Pacing
 pub mod Reports

@@ -31,6 +31,8 @@
 //!     uint32_t brought, is_duplicate, window_taken;
 //! } tcp_c_arrive_report;
 //!
+//! typedef struct { uint32_t guard, is_vouched; } tcp_c_intake;
+//!
 //! typedef struct {
 //!     tcp_c_addr to;
 //!     uint32_t kind;
@@ -80,7 +82,7 @@
 //! typedef struct {
 //!     uint64_t first, least, greatest, granularity, after_syn;
 //!     uint64_t time_wait, handshake, user, fin_wait_2;
-//!     uint32_t suspect_after;
+//!     uint32_t suspect_after, guard;
 //! } tcp_c_connection_rules;
 //!
 //! typedef struct {
@@ -109,6 +111,7 @@
 //! uint32_t tcp_c_arrive_with_report(tcp_c_handle *handle, const tcp_c_addr *src, const tcp_c_addr *dst, const uint8_t *bytes, size_t bytes_length, tcp_c_arrive_report *report);
 //! uint32_t tcp_c_arrive_vouched(tcp_c_handle *handle, const tcp_c_addr *src, const tcp_c_addr *dst, const uint8_t *bytes, size_t bytes_length);
 //! uint32_t tcp_c_arrive_vouched_with_report(tcp_c_handle *handle, const tcp_c_addr *src, const tcp_c_addr *dst, const uint8_t *bytes, size_t bytes_length, tcp_c_arrive_report *report);
+//! uint32_t tcp_c_arrive_by(tcp_c_handle *handle, const tcp_c_addr *src, const tcp_c_addr *dst, const uint8_t *bytes, size_t bytes_length, const tcp_c_intake *intake, tcp_c_arrive_report *report);
 //! uint32_t tcp_c_emit(tcp_c_handle *handle, uint8_t *out, size_t out_length, tcp_c_addr *to, size_t *count);
 //! uint32_t tcp_c_emit_partial(tcp_c_handle *handle, uint8_t *out, size_t out_length, tcp_c_addr *to, size_t *count);
 //! uint32_t tcp_c_emit_train(tcp_c_handle *handle, uint8_t *out, size_t out_length, size_t most, tcp_c_train_record *train);
@@ -137,7 +140,9 @@
 //! uint32_t tcp_c_connection_free(tcp_c_connection *handle);
 //! uint32_t tcp_c_connection_poll_at(tcp_c_connection *handle, uint64_t *at);
 //! uint32_t tcp_c_connection_timeout(tcp_c_connection *handle, uint64_t now, uint32_t *timer);
+//! uint32_t tcp_c_connection_tick(tcp_c_connection *handle, uint64_t now, uint32_t *timer, uint64_t *next);
 //! uint32_t tcp_c_connection_arrive(tcp_c_connection *handle, uint64_t now, const tcp_c_addr *src, const tcp_c_addr *dst, const uint8_t *bytes, size_t bytes_length, tcp_c_arrive_report *report);
+//! uint32_t tcp_c_connection_arrive_vouched(tcp_c_connection *handle, uint64_t now, const tcp_c_addr *src, const tcp_c_addr *dst, const uint8_t *bytes, size_t bytes_length, tcp_c_arrive_report *report);
 //! uint32_t tcp_c_connection_emit(tcp_c_connection *handle, uint64_t now, uint64_t window, uint8_t *out, size_t out_length, tcp_c_connection_segment *segment);
 //! uint32_t tcp_c_connection_send(tcp_c_connection *handle, uint64_t now, const uint8_t *text, size_t text_length, size_t *taken);
 //! uint32_t tcp_c_connection_receive(tcp_c_connection *handle, uint64_t now, uint8_t *out, size_t out_length, size_t *count);
@@ -183,6 +188,7 @@ mod connection;
 mod emission;
 mod handle;
 mod held;
+mod intake;
 mod lending;
 mod loose;
 mod making;
@@ -214,10 +220,12 @@ pub use connection::making::{
 };
 pub use connection::rules::NEVER;
 pub use connection::segments::{
-    tcp_c_connection_arrive, tcp_c_connection_emit, tcp_c_connection_resend_first,
+    tcp_c_connection_arrive, tcp_c_connection_arrive_vouched, tcp_c_connection_emit,
+    tcp_c_connection_resend_first,
 };
 pub use connection::timing::{
-    tcp_c_connection_poll_at, tcp_c_connection_set_user_timeout, tcp_c_connection_timeout,
+    tcp_c_connection_poll_at, tcp_c_connection_set_user_timeout, tcp_c_connection_tick,
+    tcp_c_connection_timeout,
 };
 pub use connection::user::{
     tcp_c_connection_abort, tcp_c_connection_acknowledge, tcp_c_connection_close,
@@ -227,13 +235,14 @@ pub use connection::user::{
 pub use emission::{tcp_c_emit, tcp_c_emit_acknowledgement, tcp_c_emit_partial};
 pub use handle::{Handle, MARK_OF_LIVE};
 pub use held::Held;
+pub use intake::tcp_c_arrive_by;
 pub use lending::{tcp_c_consume, tcp_c_peek};
 pub use making::{tcp_c_free, tcp_c_new};
 pub use pacing::tcp_c_resend_first;
 pub use parts::{tcp_c_parts, tcp_c_sent};
 pub use records::{
-    CAddr, CArriveReport, CConfig, CConnectionRules, CConnectionSegment, CLent, CParts, CStatus,
-    CTimeWait, CTrain, CTransmit,
+    CAddr, CArriveReport, CConfig, CConnectionRules, CConnectionSegment, CIntake, CLent, CParts,
+    CStatus, CTimeWait, CTrain, CTransmit,
 };
 pub use reports::{tcp_c_arrive_with_report, tcp_c_next, tcp_c_transmit};
 pub use room::tcp_c_room;

@@ -112,6 +112,17 @@ pub struct CArriveReport {
     pub window_taken: u32,
 }
 
+/// How bytes come in.
+#[repr(C)]
+#[derive(Clone, Copy)]
+pub struct CIntake {
+    /// How far the guard reaches, in sequence numbers, as in the rules of a connection: TCPCORE_GUARD or more. 0 is TCPCORE_GUARD, and
+    /// TCPCORE_NO_GUARD is none.
+    pub guard: u32,
+    /// Whether a device has found their checksum right, so that it isn't summed (RFC 9293, 3.1): 0 is no, anything else yes.
+    pub is_vouched: u32,
+}
+
 /// A segment that was written, or would be.
 #[repr(C)]
 #[derive(Clone, Copy)]
@@ -223,8 +234,8 @@ pub struct CParts {
     pub second_length: usize,
 }
 
-/// The rules of a connection: how the retransmission timeout is made (RFC 6298, 2 and 5), and how long the end waits (RFC 9293,
-/// 3.8.3). Times are microseconds.
+/// The rules of a connection: how the retransmission timeout is made (RFC 6298, 2 and 5), how long the end waits (RFC 9293, 3.8.3), and
+/// what its guard keeps out (RFC 5961, 5.2). Times are microseconds.
 #[repr(C)]
 #[derive(Clone, Copy)]
 pub struct CConnectionRules {
@@ -249,6 +260,11 @@ pub struct CConnectionRules {
     pub fin_wait_2: u64,
     /// After so many timeouts in a row the path is suspect, and before them no end is given up: 3 or more (RFC 9293, 3.8.3).
     pub suspect_after: u32,
+    /// The guard against segments of somebody who sees nothing of the connection (RFC 5961, 5.2): how many sequence numbers behind
+    /// SND.UNA the acknowledgement of a segment may lie that is taken, and while the window is shut how many behind RCV.NXT its own
+    /// number may. TCPCORE_GUARD or more, two of the greatest windows: below it, what the peer sent may be kept out. 0 is
+    /// TCPCORE_GUARD, and TCPCORE_NO_GUARD is none.
+    pub guard: u32,
 }
 
 /// A segment that a connection wrote.

@@ -5,7 +5,7 @@ use Rattle.tcp_driver.specs.declared.machine.Timer.{Timer}
 use Rattle.tcp_driver.specs.declared.machine.Timer.TheVariants.{Retransmit, Reorder, TimeWait, User}
 use Rattle.tcp_driver.specs.Machine.{Machine}
 use Rattle.tcp_driver.specs.Times.{expiring}
-use Rattle.tcp_driver.specs.Driver.{Driving, after_taken, after_time_by, at, expired, is_withheld}
+use Rattle.tcp_driver.specs.Driver.{Driving, after_taken, after_time_by, at, expired, is_withheld, way_of}
 use Rattle.tcp_driver.specs.Calls.{Call, Arrives, Emits, Expires, Uses, SetsUserTimeout, after_call, after_calls, in_burst, all_in_burst, StaysBursting, BurstIsWhole}
 
 -- in a burst nothing is taken
@@ -21,7 +21,7 @@ expires m d some now false e = absurd (cc)
 
 -- so a call does to the end what it does in a burst
 step : {S : Type 0} (m : Machine S) (d : Driving S) (call : Call S) → d.times.bursting ≡ true → (after_call m d call).core ≡ in_burst m call d.core
-step m d (Arrives now src dst bytes) on = arrives d (after_taken m d (at d now) src dst bytes) d.times.bursting (is_withheld m d.core bytes) on
+step m d (Arrives now src dst bytes vouched) on = arrives d (after_taken m d (at d now) src dst bytes (way_of d vouched)) d.times.bursting (is_withheld m d.core bytes) on
 step m d (Emits now window) on = refl
 step m d (Expires now) on = expires m d (expiring d.times (at d now)) (at d now) d.times.bursting on
 step m d (Uses now does) on = refl

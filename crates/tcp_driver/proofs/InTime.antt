@@ -8,7 +8,8 @@ use Rattle.tcp_driver.specs.declared.machine.Timer.TheVariants.{Retransmit, Reor
 use Rattle.tcp_driver.specs.Machine.{Machine}
 use Rattle.tcp_driver.specs.Deadlines.{earlier, kept, no_later}
 use Rattle.tcp_driver.specs.Times.{Times, after_expiry, after_segment, expiring, expiry, opens, restarts, taken, user_deadline}
-use Rattle.tcp_driver.specs.Driver.{Driving, IsTimely, after_taken, after_time_by, at, core_after, following, is_withheld, sent_of}
+use Rattle.tcp_driver.specs.declared.machine.Way.{Way}
+use Rattle.tcp_driver.specs.Driver.{Driving, IsTimely, after_taken, after_time_by, at, core_after, following, is_withheld, sent_of, way_of}
 use Rattle.tcp_driver.specs.Calls.{Call, Arrives, Emits, Expires, Uses, SetsUserTimeout, after_call, after_calls, AllBy, AllEarly, AllGoOn, AllPunctual, ComesInTime, GoesOn, IsEarly, IsPunctual, NoneRestarts, ends_waiting, is_restart, restarts_with, time_of}
 
 -- GOING ON: a deadline, and SND.UNA as the driver has it
@@ -49,14 +50,14 @@ expiry-keeps Reorder t other = (refl, refl)
 expiry-keeps TimeWait t other = (refl, refl)
 expiry-keeps User t other = absurd (cc)
 
-arrive-goes : {S : Type 0} (m : Machine S) (d : Driving S) (now time : ℕ) (src dst bytes : List ℕ) (b : Bool) → Goes m d time
-    → (not b && opens d.times.shut (m.report d.core src dst bytes).window) ≡ false → (m.wants (if b then d else after_taken m d now src dst bytes).core).retransmit ≡ true
-    → m.una (if b then d else after_taken m d now src dst bytes).core ≡ m.una d.core → Goes m (if b then d else after_taken m d now src dst bytes) time
-arrive-goes m d now time src dst bytes true h shut wanted same = h
-arrive-goes m d now time src dst bytes false h shut wanted same =
-    following-goes m (m.arrived d.core src dst bytes)
-    (taken d.times (m.una (m.arrived d.core src dst bytes)) (m.report d.core src dst bytes) now) now (m.una d.core) time
-    (unopened (opens d.times.shut (m.report d.core src dst bytes).window) d.times.deadlines.retransmit shut ∙ h.deadline) h.una wanted same
+arrive-goes : {S : Type 0} (m : Machine S) (d : Driving S) (now time : ℕ) (src dst bytes : List ℕ) (way : Way) (b : Bool) → Goes m d time
+    → (not b && opens d.times.shut (m.report d.core src dst bytes way).window) ≡ false → (m.wants (if b then d else after_taken m d now src dst bytes way).core).retransmit ≡ true
+    → m.una (if b then d else after_taken m d now src dst bytes way).core ≡ m.una d.core → Goes m (if b then d else after_taken m d now src dst bytes way) time
+arrive-goes m d now time src dst bytes way true h shut wanted same = h
+arrive-goes m d now time src dst bytes way false h shut wanted same =
+    following-goes m (m.arrived d.core src dst bytes way)
+    (taken d.times (m.una (m.arrived d.core src dst bytes way)) (m.report d.core src dst bytes way) now) now (m.una d.core) time
+    (unopened (opens d.times.shut (m.report d.core src dst bytes way).window) d.times.deadlines.retransmit shut ∙ h.deadline) h.una wanted same
 
 expire-goes : {S : Type 0} (m : Machine S) (d : Driving S) (now time : ℕ) (which : Option Timer) → ends_waiting which ≡ false → Goes m d time
     → (m.wants (after_time_by m d which now).core).retransmit ≡ true → m.una (after_time_by m d which now).core ≡ m.una d.core
@@ -68,7 +69,7 @@ expire-goes m d now time (Some timer) other h wanted same =
 
 pub next_goes : {S : Type 0} (m : Machine S) (d : Driving S) (time : ℕ) (call : Call S) → Goes m d time → GoesOn m d call → is_restart m d call ≡ false
     → Goes m (after_call m d call) time
-next_goes m d time (Arrives now src dst bytes) h g other = arrive-goes m d (at d now) time src dst bytes (d.times.bursting || is_withheld m d.core bytes) h g.opens g.wanted g.una
+next_goes m d time (Arrives now src dst bytes vouched) h g other = arrive-goes m d (at d now) time src dst bytes (way_of d vouched) (d.times.bursting || is_withheld m d.core bytes) h g.opens g.wanted g.una
 next_goes m d time (Emits now window) h g other =
     let e = segment-keeps (sent_of m d.core window) d.times (at d now) other in
     following-goes m (core_after m d.core window) (after_segment (sent_of m d.core window) d.times (at d now)) (at d now) (m.una d.core) time
@@ -106,7 +107,7 @@ early-by m d now time true e h waits quiet =
 early-by m d now time false e h waits quiet = grind (arith, nat_tests, e)
 
 pub call_early : {S : Type 0} (m : Machine S) (d : Driving S) (time : ℕ) (call : Call S) → Goes m d time → GoesOn m d call → IsEarly time d call
-call_early m d time (Arrives now src dst bytes) h g = tt
+call_early m d time (Arrives now src dst bytes vouched) h g = tt
 call_early m d time (Emits now window) h g = tt
 call_early m d time (Expires now) h g = early-by m d (at d now) time (nat_le time (at d now)) refl h g.waits
 call_early m d time (Uses now does) h g = tt

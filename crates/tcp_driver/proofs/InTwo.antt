@@ -12,7 +12,8 @@ use Rattle.tcp_driver.specs.declared.machine.Timer.TheVariants.{Retransmit, Reor
 use Rattle.tcp_driver.specs.Machine.{Machine}
 use Rattle.tcp_driver.specs.Deadlines.{kept}
 use Rattle.tcp_driver.specs.Times.{Times, after_expiry, after_handshake, after_segment, after_trip, begins_late, expiry, goes_again, opens, restarts, taken}
-use Rattle.tcp_driver.specs.Driver.{Driving, IsTimely, after_taken, after_time_by, at, core_after, following, is_withheld, sent_of}
+use Rattle.tcp_driver.specs.declared.machine.Way.{Way}
+use Rattle.tcp_driver.specs.Driver.{Driving, IsTimely, after_taken, after_time_by, at, core_after, following, is_withheld, sent_of, way_of}
 use Rattle.tcp_driver.specs.Calls.{Call, Arrives, Emits, Expires, Uses, SetsUserTimeout, after_call, after_calls, AllBy, AllGoOn, AllInTime, AllPunctual, ComesInTwo, GoesOn, IsInTime, TimeoutComesInTime, is_restart, restarts_with}
 use Rattle.tcp_driver.proofs.InTime.{Goes, begins, call_by, call_early, in_time, next_goes}
 
@@ -47,12 +48,12 @@ opening-bounded : (g : ℕ) (opening : Bool) (e : Estimate) → Bounded g e → 
 opening-bounded g true e h = record { rules = h.rules; most = timeout-bounded g e.rules e.trip e.rto h.rules h.most }
 opening-bounded g false e h = h
 
-arrive-bounded : {S : Type 0} (m : Machine S) (d : Driving S) (g now : ℕ) (src dst bytes : List ℕ) (b : Bool) → Bounded g d.times.estimate
-    → Bounded g (if b then d else after_taken m d now src dst bytes).times.estimate
-arrive-bounded m d g now src dst bytes true h = h
-arrive-bounded m d g now src dst bytes false h =
-    let una = m.una (m.arrived d.core src dst bytes) in
-    opening-bounded g (opens d.times.shut (m.report d.core src dst bytes).window)
+arrive-bounded : {S : Type 0} (m : Machine S) (d : Driving S) (g now : ℕ) (src dst bytes : List ℕ) (way : Way) (b : Bool) → Bounded g d.times.estimate
+    → Bounded g (if b then d else after_taken m d now src dst bytes way).times.estimate
+arrive-bounded m d g now src dst bytes way true h = h
+arrive-bounded m d g now src dst bytes way false h =
+    let una = m.una (m.arrived d.core src dst bytes way) in
+    opening-bounded g (opens d.times.shut (m.report d.core src dst bytes way).window)
     (after_trip (sample_of d.times.watch una now) (after_handshake (begins_late d.times una) d.times.estimate))
     (trip-bounded g (sample_of d.times.watch una now) (after_handshake (begins_late d.times una) d.times.estimate)
     (handshake-bounded g (begins_late d.times una) d.times.estimate h))
@@ -73,7 +74,7 @@ time-bounded m d g now None h = h
 time-bounded m d g now (Some timer) h = expiry-bounded timer d.times g h
 
 next-bounded : {S : Type 0} (m : Machine S) (d : Driving S) (g : ℕ) (call : Call S) → Bounded g d.times.estimate → Bounded g (after_call m d call).times.estimate
-next-bounded m d g (Arrives now src dst bytes) h = arrive-bounded m d g (at d now) src dst bytes (d.times.bursting || is_withheld m d.core bytes) h
+next-bounded m d g (Arrives now src dst bytes vouched) h = arrive-bounded m d g (at d now) src dst bytes (way_of d vouched) (d.times.bursting || is_withheld m d.core bytes) h
 next-bounded m d g (Emits now window) h = segment-bounded (sent_of m d.core window) d.times (at d now) g h
 next-bounded m d g (Expires now) h = time-bounded m d g (at d now) (expiry d.times (at d now)) h
 next-bounded m d g (Uses now does) h = h
@@ -105,13 +106,13 @@ expiry-flag Reorder t = (refl, refl)
 expiry-flag TimeWait t = (refl, refl)
 expiry-flag User t = (refl, refl)
 
-arrive-flag : {S : Type 0} (m : Machine S) (d : Driving S) (now : ℕ) (src dst bytes : List ℕ) (b : Bool) → d.times.una ≡ m.una d.core
-    → (m.wants (if b then d else after_taken m d now src dst bytes).core).retransmit ≡ true → m.una (if b then d else after_taken m d now src dst bytes).core ≡ m.una d.core
-    → (if b then d else after_taken m d now src dst bytes).times.restarted ≡ d.times.restarted
-arrive-flag m d now src dst bytes true is wanted same = refl
-arrive-flag m d now src dst bytes false is wanted same =
-    following-flag m (m.arrived d.core src dst bytes)
-    (taken d.times (m.una (m.arrived d.core src dst bytes)) (m.report d.core src dst bytes) now) now (m.una d.core) is wanted same
+arrive-flag : {S : Type 0} (m : Machine S) (d : Driving S) (now : ℕ) (src dst bytes : List ℕ) (way : Way) (b : Bool) → d.times.una ≡ m.una d.core
+    → (m.wants (if b then d else after_taken m d now src dst bytes way).core).retransmit ≡ true → m.una (if b then d else after_taken m d now src dst bytes way).core ≡ m.una d.core
+    → (if b then d else after_taken m d now src dst bytes way).times.restarted ≡ d.times.restarted
+arrive-flag m d now src dst bytes way true is wanted same = refl
+arrive-flag m d now src dst bytes way false is wanted same =
+    following-flag m (m.arrived d.core src dst bytes way)
+    (taken d.times (m.una (m.arrived d.core src dst bytes way)) (m.report d.core src dst bytes way) now) now (m.una d.core) is wanted same
 
 time-flag : {S : Type 0} (m : Machine S) (d : Driving S) (now : ℕ) (which : Option Timer) → d.times.una ≡ m.una d.core
     → (m.wants (after_time_by m d which now).core).retransmit ≡ true → m.una (after_time_by m d which now).core ≡ m.una d.core
@@ -123,8 +124,8 @@ time-flag m d now (Some timer) is wanted same =
 
 next-flag : {S : Type 0} (m : Machine S) (d : Driving S) (call : Call S) → d.times.una ≡ m.una d.core → GoesOn m d call → is_restart m d call ≡ false
     → (after_call m d call).times.restarted ≡ d.times.restarted
-next-flag m d (Arrives now src dst bytes) is g other =
-    arrive-flag m d (at d now) src dst bytes (d.times.bursting || is_withheld m d.core bytes) is g.wanted g.una
+next-flag m d (Arrives now src dst bytes vouched) is g other =
+    arrive-flag m d (at d now) src dst bytes (way_of d vouched) (d.times.bursting || is_withheld m d.core bytes) is g.wanted g.una
 next-flag m d (Emits now window) is g other =
     let e = segment-flag (sent_of m d.core window) d.times (at d now) other in
     following-flag m (core_after m d.core window) (after_segment (sent_of m d.core window) d.times (at d now)) (at d now) (m.una d.core) (e.1 ∙ is) g.wanted g.una ∙ e.0
@@ -241,7 +242,7 @@ emit-by m base g late d now window earlier false h is on = other-stands m base g
 
 next-stands : {S : Type 0} (m : Machine S) (base g late : ℕ) (d : Driving S) (call : Call S) (earlier : List (Call S)) → (h : Stands m base g late d earlier)
     → GoesOn m (after_calls m d earlier) call → Stands m base g late d (call ∷ earlier)
-next-stands m base g late d (Arrives now src dst bytes) earlier h on = other-stands m base g late d (Arrives now src dst bytes) earlier h refl on
+next-stands m base g late d (Arrives now src dst bytes vouched) earlier h on = other-stands m base g late d (Arrives now src dst bytes vouched) earlier h refl on
 next-stands m base g late d (Emits now window) earlier h on =
     emit-by m base g late d now window earlier (restarts_with (sent_of m (after_calls m d earlier).core window) (after_calls m d earlier).times) h refl on
 next-stands m base g late d (Expires now) earlier h on = other-stands m base g late d (Expires now) earlier h refl on
@@ -255,7 +256,7 @@ stands m base g late d (call ∷ earlier) h all = next-stands m base g late d ca
 
 -- each `timeout` came before the deadline that stood
 in-time : {S : Type 0} (m : Machine S) (d : Driving S) (time : ℕ) (call : Call S) → Goes m d time → GoesOn m d call → IsInTime d call
-in-time m d time (Arrives now src dst bytes) h on = tt
+in-time m d time (Arrives now src dst bytes vouched) h on = tt
 in-time m d time (Emits now window) h on = tt
 in-time m d time (Expires now) h on =
     λ quiet. let P : Option ℕ → Type 0 = λ o. IfSome o (λ t. at d now < t) in subst P (sym h.deadline) (call_early m d time (Expires now) h on quiet)

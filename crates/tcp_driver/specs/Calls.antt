@@ -4,19 +4,20 @@ use Rattle.tcp_driver.specs.declared.machine.Sent.{Sent}
 use Rattle.tcp_driver.specs.declared.machine.Timer.{Timer}
 use Rattle.tcp_driver.specs.declared.machine.Timer.TheVariants.{Retransmit, User}
 use Rattle.tcp_driver.specs.Times.{Times, expiry, next_expiry, opens, restarts}
-use Rattle.tcp_driver.specs.Driver.{Driving, IsTimely, after_arrival, after_emission, after_time, after_user, after_user_timeout, at, core_after, expired, is_withheld, sent_of}
+use Rattle.tcp_driver.specs.Driver.{Driving, IsTimely, after_arrival, after_emission, after_time, after_user, after_user_timeout, at, core_after, expired, is_withheld, sent_of, way_of}
 use Rattle.tcp_driver.specs.Machine.{Machine}
 
--- each at a time, but the last; an arrival with its source and destination; a user's call with what the end is after it
+-- each at a time, but the last; an arrival with its source and destination, and whether a device
+-- has found its checksum right; a user's call with what the end is after it
 pub data Call (S : Type 0) : Type 0 where
-  Arrives : ℕ → List ℕ → List ℕ → List ℕ → Call S
+  Arrives : ℕ → List ℕ → List ℕ → List ℕ → Bool → Call S
   Emits : ℕ → ℕ → Call S
   Expires : ℕ → Call S
   Uses : ℕ → (S → S) → Call S
   SetsUserTimeout : Option ℕ → Call S
 
 abbrev pub after_call : {S : Type 0} → Machine S → Driving S → Call S → Driving S
-after_call m d (Arrives now src dst bytes) = after_arrival m d (at d now) src dst bytes
+after_call m d (Arrives now src dst bytes vouched) = after_arrival m d (at d now) src dst bytes (way_of d vouched)
 after_call m d (Emits now window) = after_emission m d (at d now) window
 after_call m d (Expires now) = after_time m d (at d now)
 after_call m d (Uses now does) = after_user m d (at d now) (does d.core)
@@ -62,8 +63,8 @@ is_timeout d other = false
 
 -- A WINDOW OPENS with a segment that the driver takes
 abbrev pub is_opening : {S : Type 0} → Machine S → Driving S → Call S → Bool
-is_opening m d (Arrives now src dst bytes) =
-    not (d.times.bursting || is_withheld m d.core bytes) && opens d.times.shut (m.report d.core src dst bytes).window
+is_opening m d (Arrives now src dst bytes vouched) =
+    not (d.times.bursting || is_withheld m d.core bytes) && opens d.times.shut (m.report d.core src dst bytes (way_of d vouched)).window
 is_opening m d other = false
 
 -- THE TIMER GOES ON over a call: the end still wants it, nothing new is acknowledged, no shut window opens, and the call isn't its
@@ -80,7 +81,7 @@ AllGoOn m d (call ∷ earlier) = GoesOn m (after_calls m d earlier) call × AllG
 
 -- when a call is made
 abbrev pub time_of : {S : Type 0} → Driving S → Call S → ℕ
-time_of d (Arrives now src dst bytes) = at d now
+time_of d (Arrives now src dst bytes vouched) = at d now
 time_of d (Emits now window) = at d now
 time_of d (Expires now) = at d now
 time_of d (Uses now does) = at d now

@@ -1,13 +1,14 @@
 -- One end with its times, whatever the end is.
-use Rattle.std.specs.Prelude.{◌≡◌, ℕ, ◌-◌, nat_lt, Bool, false, not, ◌&&◌, ◌||◌, ◌==◌, if◌then◌else◌, List, Option, Some, None, is_some, bit_and, slice_get, min}
+use Rattle.std.specs.Prelude.{◌≡◌, ℕ, ◌-◌, nat_lt, Bool, true, false, not, ◌&&◌, ◌||◌, ◌==◌, if◌then◌else◌, List, Option, Some, None, is_some, bit_and, slice_get, min}
 use Rattle.tcp_timing.specs.declared.rules.Rules.{Rules}
 use Rattle.tcp_driver.specs.declared.driver.Taken.{Taken}
 use Rattle.tcp_driver.specs.declared.driver.Taken.TheVariants.{Done, EmitFirst, Withheld}
 use Rattle.tcp_driver.specs.declared.limits.Limits.{Limits}
 use Rattle.tcp_driver.specs.declared.machine.Sent.{Sent}
 use Rattle.tcp_driver.specs.declared.machine.Timer.{Timer}
+use Rattle.tcp_driver.specs.declared.machine.Way.{Way}
 use Rattle.tcp_driver.specs.Deadlines.{last}
-use Rattle.tcp_driver.specs.Times.{Times, IsSoon, after_expiry, after_segment, expiry, followed, new_times, taken, time_at, with_user_timeout}
+use Rattle.tcp_driver.specs.Times.{Times, IsSoon, after_expiry, after_segment, expiry, followed, new_times, rests, taken, time_at, with_user_timeout}
 use Rattle.tcp_driver.specs.Machine.{Machine}
 
 pub record Driving (S : Type 0) : Type 0 where
@@ -23,6 +24,8 @@ pub record IsTimely {S : Type 0} (m : Machine S) (d : Driving S) : Type 0 where
   pub left : is_some d.times.left ≡ (m.wants d.core).fin_wait_2
   pub reorder : is_some d.times.deadlines.reorder ≡ (m.wants d.core).reorder
   pub time_wait : is_some d.times.deadlines.time_wait ≡ (m.wants d.core).time_wait
+  -- and where it doesn't run nothing is left of an earlier wait
+  pub rests : rests (m.wants d.core).retransmit d.times ≡ true
 
 -- an end that was opened before: its timers run from now on
 abbrev pub new_driving : {S : Type 0} → Machine S → S → Rules → Limits → ℕ → Driving S
@@ -56,19 +59,23 @@ is_reset bytes = has_reset_bit (slice_get bytes 13)
 abbrev pub is_withheld : {S : Type 0} → Machine S → S → List ℕ → Bool
 is_withheld m s bytes = m.ignores_resets s && is_reset bytes
 
+-- IT COMES IN past the guard of the limits, summed, or vouched for by a device
+abbrev pub way_of : {S : Type 0} → Driving S → Bool → Way
+way_of d vouched = record { is_vouched = vouched; guard = d.times.limits.guard }
+
 -- in a burst nothing is taken
-abbrev pub arrival_answer : {S T : Type 0} → Machine S → (S → List ℕ → List ℕ → List ℕ → T) → Driving S → List ℕ → List ℕ → List ℕ → Taken T
-arrival_answer m answer d src dst bytes =
+abbrev pub arrival_answer : {S T : Type 0} → Machine S → (S → List ℕ → List ℕ → List ℕ → Way → T) → Driving S → List ℕ → List ℕ → List ℕ → Way → Taken T
+arrival_answer m answer d src dst bytes way =
     if d.times.bursting then EmitFirst
-    else (if is_withheld m d.core bytes then Withheld else Done (m.report d.core src dst bytes) (answer d.core src dst bytes))
+    else (if is_withheld m d.core bytes then Withheld else Done (m.report d.core src dst bytes way) (answer d.core src dst bytes way))
 
-abbrev pub after_taken : {S : Type 0} → Machine S → Driving S → ℕ → List ℕ → List ℕ → List ℕ → Driving S
-after_taken m d now src dst bytes =
-    following m (m.arrived d.core src dst bytes)
-    (taken d.times (m.una (m.arrived d.core src dst bytes)) (m.report d.core src dst bytes) now) now
+abbrev pub after_taken : {S : Type 0} → Machine S → Driving S → ℕ → List ℕ → List ℕ → List ℕ → Way → Driving S
+after_taken m d now src dst bytes way =
+    following m (m.arrived d.core src dst bytes way)
+    (taken d.times (m.una (m.arrived d.core src dst bytes way)) (m.report d.core src dst bytes way) now) now
 
-abbrev pub after_arrival : {S : Type 0} → Machine S → Driving S → ℕ → List ℕ → List ℕ → List ℕ → Driving S
-after_arrival m d now src dst bytes = if d.times.bursting || is_withheld m d.core bytes then d else after_taken m d now src dst bytes
+abbrev pub after_arrival : {S : Type 0} → Machine S → Driving S → ℕ → List ℕ → List ℕ → List ℕ → Way → Driving S
+after_arrival m d now src dst bytes way = if d.times.bursting || is_withheld m d.core bytes then d else after_taken m d now src dst bytes way
 
 -- ---- AN EMISSION. WHAT ENDS PAST A WINDOW WAITS (RFC 5681, 3.1), where anything before it is in flight
 abbrev pub is_past : ℕ → ℕ → Sent → Bool

@@ -4,6 +4,7 @@ use Rattle.tcp_driver.specs.declared.machine.Report.{Report}
 use Rattle.tcp_driver.specs.declared.machine.Sent.{Sent}
 use Rattle.tcp_driver.specs.declared.machine.Timer.{Timer}
 use Rattle.tcp_driver.specs.declared.machine.Wants.{Wants}
+use Rattle.tcp_driver.specs.declared.machine.Way.{Way}
 
 pub record Machine (S : Type 0) : Type 0 where
   -- the bytes that an emission requires of its buffer
@@ -17,9 +18,9 @@ pub record Machine (S : Type 0) : Type 0 where
   pub ignores_resets : S → Bool
   -- after a timer's expiry
   pub expired : S → Timer → S
-  -- what is reported of an arrival, from an address to an address, and the state after it
-  pub report : S → List ℕ → List ℕ → List ℕ → Report
-  pub arrived : S → List ℕ → List ℕ → List ℕ → S
+  -- what is reported of an arrival, from an address to an address by a way, and the state after it
+  pub report : S → List ℕ → List ℕ → List ℕ → Way → Report
+  pub arrived : S → List ℕ → List ℕ → List ℕ → Way → S
   -- what is due, what is written of it, and the state after its emission
   pub due : S → Option Sent
   pub written : S → List ℕ → List ℕ

@@ -90,9 +90,11 @@ followed t w una now = record t {
 }
 
 -- THE TIMERS STAND where they run as the end wants them already, and nothing was acknowledged: then only time passes
+abbrev pub rests : Bool → Times → Bool
+rests runs t = runs || (t.resent == 0 && not t.restarted)
+
 abbrev pub waits_on : Times → Bool → Bool
-waits_on t runs =
-    is_kept runs t.deadlines.retransmit && (is_kept runs t.since && (runs || (t.resent == 0 && not t.restarted)))
+waits_on t runs = is_kept runs t.deadlines.retransmit && (is_kept runs t.since && rests runs t)
 
 abbrev pub stands : Times → Wants → ℕ → Bool
 stands t w una =

@@ -2,7 +2,7 @@ ghost use Rattle.std.specs.Prelude.{◌≡◌, ◌≤◌, ◌+◌, IfSome, lengt
 ghost use Rattle.tcp_driver.specs.Driver.{is_reset};
 
 use crate::limits::Limits;
-use crate::machine::{Core, Report, Sent, Timer};
+use crate::machine::{Core, Report, Sent, Timer, Way};
 use crate::timers::Timers;
 use std::marker::Model;
 use tcp_timing::{Estimator, Rules};
@@ -37,8 +37,8 @@ impl<C: Core + Drop> Model for Driver<C> {
 }
 
 impl<C: Core + Drop> Driver<C> {
-    ghost use Rattle.std.specs.Prelude.{is_some};
-    ghost use Rattle.tcp_driver.specs.Driver.{after_arrival, after_emission, after_time, after_user, after_user_timeout, arrival_answer, at, new_driving, sent_of, written_of};
+    ghost use Rattle.std.specs.Prelude.{false, is_some, true};
+    ghost use Rattle.tcp_driver.specs.Driver.{after_arrival, after_emission, after_time, after_user, after_user_timeout, arrival_answer, at, new_driving, sent_of, way_of, written_of};
     ghost use Rattle.tcp_driver.specs.Times.{expiry, is_suspect, longest_wait, next_expiry, wants_any};
     ghost use Rattle.tcp_timing.specs.Rules.{IsSound};
 
@@ -67,7 +67,7 @@ impl<C: Core + Drop> Driver<C> {
     }
 
     /// A segment has come at a time, from the IPv4 address `src` to `dst`. In a burst it isn't taken, and some resets count
-    /// as lost.
+    /// as lost. It comes past the guard of the limits.
     pub fn arrive(
         &mut self,
         now: u64,
@@ -75,8 +75,38 @@ impl<C: Core + Drop> Driver<C> {
         dst: [u8; 4],
         bytes: &[u8],
     ) -> Taken<C::Arriving>
-        ensures answer { result ≡ arrival_answer C.machine C.arrival_answer self.old src dst bytes.now }
-        ensures state { self.new ≡ after_arrival C.machine self.old (at self.old now) src dst bytes.now }
+        ensures answer { result ≡ arrival_answer C.machine C.arrival_answer self.old src dst bytes.now (way_of self.old false) }
+        ensures state { self.new ≡ after_arrival C.machine self.old (at self.old now) src dst bytes.now (way_of self.old false) }
+    {
+        self.take(now, src, dst, bytes, false)
+    }
+
+    /// The same of a segment whose checksum a device has found right: it isn't summed (RFC 9293, 3.1).
+    pub fn arrive_vouched(
+        &mut self,
+        now: u64,
+        src: [u8; 4],
+        dst: [u8; 4],
+        bytes: &[u8],
+    ) -> Taken<C::Arriving>
+        ensures answer { result ≡ arrival_answer C.machine C.arrival_answer self.old src dst bytes.now (way_of self.old true) }
+        ensures state { self.new ≡ after_arrival C.machine self.old (at self.old now) src dst bytes.now (way_of self.old true) }
+    {
+        self.take(now, src, dst, bytes, true)
+    }
+
+    /// A segment has come, summed or vouched for. It is compiled into both calls, each of which knows which.
+    #[inline(always)]
+    fn take(
+        &mut self,
+        now: u64,
+        src: [u8; 4],
+        dst: [u8; 4],
+        bytes: &[u8],
+        is_vouched: bool,
+    ) -> Taken<C::Arriving>
+        ensures answer { result ≡ arrival_answer C.machine C.arrival_answer self.old src dst bytes.now (way_of self.old is_vouched) }
+        ensures state { self.new ≡ after_arrival C.machine self.old (at self.old now) src dst bytes.now (way_of self.old is_vouched) }
     {
         if self.timers.is_bursting() {
             return Taken::EmitFirst;
@@ -85,7 +115,11 @@ impl<C: Core + Drop> Driver<C> {
             return Taken::Withheld;
         }
         let now = self.timers.time_at(now);
-        let (report, answer) = self.core.arrive(src, dst, bytes);
+        let way = Way {
+            is_vouched,
+            guard: self.timers.guard(),
+        };
+        let (report, answer) = self.core.arrive(src, dst, bytes, way);
         let una = self.core.una();
         self.timers.take(una, report, now);
         self.timers.follow(self.core.wants(), una, now);
@@ -104,10 +138,14 @@ impl<C: Core + Drop> Driver<C> {
         ensures state { self.new ≡ after_emission C.machine self.old (at self.old now) window }
     {
         let now = self.timers.time_at(now);
-        let sent = self.core.transmit_within(window, out);
+        let Some(sent) = self.core.transmit_within(window, out) else {
+            // Nothing has changed, and the timers run as the end wants them.
+            self.timers.rest(now);
+            return None;
+        };
         self.timers.emitted(sent, now);
         self.timers.follow(self.core.wants(), self.core.una(), now);
-        sent
+        Some(sent)
     }
 
     /// It is `now`: the timer that has expired, if one has. Then a burst begins: until an `emit` finds nothing that may go

@@ -3,7 +3,7 @@
 //!
 //! - [`Core`]: what an end is to it: an end without a clock; [`holds`] says what it holds back.
 //! - [`Driver`]: that end with its timers (RFC 6298, 5; RFC 9293, 3.8.3 and 3.10.8).
-//! - [`Limits`]: how long an end waits before it is given up, and how long TIME-WAIT is.
+//! - [`Limits`]: how long an end waits before it is given up, how long TIME-WAIT is, and how far its guard reaches.
 //! - [`laws`]: what follows, whatever the end is and whatever is called.
 //!
 //! The caller's loop, each turn at some time `now`:
@@ -26,5 +26,5 @@ mod window;
 pub use deadlines::LAST;
 pub use driver::{Driver, Taken};
 pub use limits::Limits;
-pub use machine::{Core, Report, Sent, Timer, Wants};
+pub use machine::{Core, Report, Sent, Timer, Wants, Way};
 pub use window::holds;

@@ -1,7 +1,7 @@
 ghost use Rattle.std.specs.Prelude.{◌≡◌};
 ghost use Rattle.tcp_driver.specs.Limits.{standard};
 
-/// How long an end waits, in microseconds.
+/// How long an end waits, in microseconds, and how far its guard reaches.
 #[derive(Clone, Copy, Debug, PartialEq, Eq)]
 pub struct Limits {
     /// How long TIME-WAIT is: two maximum segment lifetimes (RFC 9293, 3.4.2).
@@ -17,11 +17,16 @@ pub struct Limits {
     /// while something that came is unread. `None` is forever, as the standard has it; a program whose user has nothing more
     /// to wait for may take a minute, as Linux does.
     pub fin_wait_2: Option<u64>,
+    /// The guard against segments of somebody who sees nothing of a connection (RFC 5961, 5.2): how many numbers behind SND.UNA
+    /// the acknowledgement of a segment may lie that is taken, and while the window is shut how many behind RCV.NXT its own
+    /// number may. It has to be two of the greatest windows or more, else what the peer sent may be kept out. `None` is no
+    /// guard, as RFC 9293 has it.
+    pub guard: Option<u32>,
 }
 
 impl Limits {
     /// The values of RFC 9293: 4 minutes of TIME-WAIT, 3 expiries, 3 minutes for a SYN, a user timeout of 5 minutes (3.4.2,
-    /// 3.8.3 and 3.9.1.1), and FIN-WAIT-2 without a limit.
+    /// 3.8.3 and 3.9.1.1), and FIN-WAIT-2 without a limit; and a guard of two of the greatest windows, 2^20 bytes each.
     pub fn standard() -> Limits
         ensures { result ≡ standard }
     {
@@ -31,6 +36,7 @@ impl Limits {
             handshake: Some(180_000_000),
             user: Some(300_000_000),
             fin_wait_2: None,
+            guard: Some(1 << 21),
         }
     }
 }

@@ -1,4 +1,4 @@
-ghost use Rattle.std.specs.Prelude.{◌≡◌, ◌+◌, ◌<◌, ◌≤◌, ◌^◌, IfSome, length, ℕ, List};
+ghost use Rattle.std.specs.Prelude.{◌≡◌, ◌+◌, ◌<◌, ◌≤◌, ◌^◌, IfSome, IsNone, length, ℕ, List};
 
 /// A segment: the address that it goes to, its length in bytes, the position where it begins, and how many numbers it takes
 /// (RFC 9293, 3.4). A position counts from the SYN, which is at 0.
@@ -60,6 +60,15 @@ pub struct Report {
     pub from_peer: bool,
 }
 
+/// How a segment comes in.
+#[derive(Clone, Copy, Debug, PartialEq, Eq)]
+pub struct Way {
+    /// Whether a device has found its checksum right, so that it isn't summed (RFC 9293, 3.1).
+    pub is_vouched: bool,
+    /// How many numbers behind SND.UNA its acknowledgement may lie ([`Limits::guard`](crate::Limits::guard)).
+    pub guard: Option<u32>,
+}
+
 /// An end without a clock (RFC 9293, 3.10): which timers have to run, and what each event leads to.
 pub trait Core {
     /// What `send` answers.
@@ -77,6 +86,7 @@ pub trait Core {
 
     ghost use Rattle.tcp_driver.specs.Driver.{core_after, sent_of, written_of};
     ghost use Rattle.tcp_driver.specs.Machine.{Machine};
+    ghost use Rattle.tcp_driver.specs.declared.machine.Way.{Way};
 
     /// What it does, as functions of its state.
     ghost machine: { Machine Self };
@@ -91,7 +101,7 @@ pub trait Core {
 
     ghost abort_answer: { Self → Self.Aborting };
 
-    ghost arrival_answer: { Self → List ℕ → List ℕ → List ℕ → Self.Arriving };
+    ghost arrival_answer: { Self → List ℕ → List ℕ → List ℕ → Way → Self.Arriving };
 
     /// Which timers have to run.
     fn wants(&self) -> Wants
@@ -114,21 +124,29 @@ pub trait Core {
     fn expire(&mut self, timer: Timer)
         ensures { self.new ≡ machine.expired self.old timer };
 
-    /// A segment has come from the IPv4 address `src` to `dst`: what the driver is told of it, and the end's own answer.
-    fn arrive(&mut self, src: [u8; 4], dst: [u8; 4], bytes: &[u8]) -> (Report, Self::Arriving)
-        ensures report { result.0 ≡ machine.report self.old src dst bytes.now }
-        ensures answer { result.1 ≡ arrival_answer self.old src dst bytes.now }
-        ensures state { self.new ≡ machine.arrived self.old src dst bytes.now };
+    /// A segment has come from the IPv4 address `src` to `dst`, by this way: what the driver is told of it, and the end's own
+    /// answer.
+    fn arrive(
+        &mut self,
+        src: [u8; 4],
+        dst: [u8; 4],
+        bytes: &[u8],
+        way: Way,
+    ) -> (Report, Self::Arriving)
+        ensures report { result.0 ≡ machine.report self.old src dst bytes.now way }
+        ensures answer { result.1 ≡ arrival_answer self.old src dst bytes.now way }
+        ensures state { self.new ≡ machine.arrived self.old src dst bytes.now way };
 
     /// Writes the segment that may go out within a window, in numbers from SND.UNA, if one may: the one that is due, or where
-    /// that waits the acknowledgement alone, if one is pending. [`holds`](crate::holds) says which.
+    /// that waits the acknowledgement alone, if one is pending. [`holds`](crate::holds) says which. Where none may nothing changes.
     fn transmit_within(&mut self, window: u64, out: &mut [u8]) -> Option<Sent>
         requires room { machine.room ≤ length out.old }
         ensures sent { result ≡ sent_of machine self.old window }
         ensures written { out.new ≡ written_of machine self.old window out.old }
         ensures state { self.new ≡ core_after machine self.old window }
         ensures most { IfSome result (λ sent. sent.len ≤ machine.room) }
-        ensures fits { IfSome result (λ sent. sent.start + sent.count < 2 ^ 64) };
+        ensures fits { IfSome result (λ sent. sent.start + sent.count < 2 ^ 64) }
+        ensures idle { IsNone result → self.new ≡ self.old };
 
     /// Of what is in flight the first segment goes out again (RFC 5681, 3.2): whether anything is in flight.
     fn resend_first(&mut self) -> bool

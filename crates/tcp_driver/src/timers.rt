@@ -1,4 +1,4 @@
-ghost use Rattle.std.specs.Prelude.{IfSome, is_some, max, min, ◌≡◌, ◌≤◌, ◌+◌, ◌<◌, ◌*◌, ◌^◌};
+ghost use Rattle.std.specs.Prelude.{IfSome, Some, is_some, max, min, false, true, ◌≡◌, ◌≤◌, ◌+◌, ◌<◌, ◌*◌, ◌^◌};
 ghost use Rattle.tcp_driver.specs.Deadlines.{last};
 ghost use Rattle.tcp_driver.specs.Limits.{limit_of};
 ghost use Rattle.tcp_driver.specs.Times.{goes_again, is_shut, later_by, opens, restarts, round_trip, shut_after, still};
@@ -47,7 +47,7 @@ impl Model for Timers {
 }
 
 impl Timers {
-    ghost use Rattle.tcp_driver.specs.Times.{IsSoon, after_expiry, after_segment, after_window, expiry, first_times, followed, is_suspect, measured, next_expiry, stands, taken, time_at, user_deadline, waits_on, with_user_timeout};
+    ghost use Rattle.tcp_driver.specs.Times.{IsSoon, after_expiry, after_segment, after_window, expiry, first_times, followed, is_suspect, measured, next_expiry, rests, stands, taken, time_at, user_deadline, waits_on, with_user_timeout};
     ghost use Rattle.tcp_timing.specs.Rules.{IsSound};
 
     /// No timer runs.
@@ -89,6 +89,13 @@ impl Timers {
         ensures { result.now ≡ self.now.estimate }
     {
         &self.estimator
+    }
+
+    /// How far the guard reaches.
+    pub fn guard(&self) -> Option<u32>
+        ensures { result ≡ self.now.limits.guard }
+    {
+        self.limits.guard
     }
 
     /// Whether a burst is on.
@@ -142,6 +149,7 @@ impl Timers {
         ensures left { is_some self.new.left ≡ wants.fin_wait_2 }
         ensures reorder { is_some self.new.deadlines.reorder ≡ wants.reorder }
         ensures time_wait { is_some self.new.deadlines.time_wait ≡ wants.time_wait }
+        ensures rests { rests wants.retransmit self.new ≡ true }
     {
         if self.stands(wants, una) {
             self.pass(now);
@@ -163,6 +171,7 @@ impl Timers {
         ensures left { is_some self.new.left ≡ wants.fin_wait_2 }
         ensures reorder { is_some self.new.deadlines.reorder ≡ wants.reorder }
         ensures time_wait { is_some self.new.deadlines.time_wait ≡ wants.time_wait }
+        ensures rests { rests wants.retransmit self.new ≡ true }
     {
         let same = una == self.una;
         let span = if same { self.span } else { self.round_trip() };
@@ -224,6 +233,7 @@ impl Timers {
     }
 
     /// A segment has come: all before `una` is acknowledged after it.
+    #[inline(always)]
     pub fn take(&mut self, una: u64, report: Report, now: u64)
         ensures { self.new ≡ taken self.old una report now }
     {
@@ -245,15 +255,11 @@ impl Timers {
         goes_again(&self.watch, sent) && (sent.start == self.una && !self.restarted)
     }
 
-    /// A segment has gone out, or none was due.
-    pub fn emitted(&mut self, sent: Option<Sent>, now: u64)
-        requires fits { IfSome sent (λ s. s.start + s.count < 2 ^ 64) }
-        ensures { self.new ≡ after_segment sent self.old now }
+    /// A segment has gone out.
+    pub fn emitted(&mut self, sent: Sent, now: u64)
+        requires fits { sent.start + sent.count < 2 ^ 64 }
+        ensures { self.new ≡ after_segment (Some sent) self.old now }
     {
-        let Some(sent) = sent else {
-            self.bursting = false;
-            return;
-        };
         if self.restarts(sent) {
             self.deadlines.retransmit = None;
             self.restarted = true;
@@ -262,6 +268,17 @@ impl Timers {
             self.deadlines.reorder = None;
         }
         self.watch.sent(sent.start, sent.count, now);
+    }
+
+    /// None was due: a burst is over, and else only time passes.
+    pub fn rest(&mut self, now: u64)
+        requires early { now ≤ last }
+        requires later { self.old.clock ≤ now }
+        ensures state { self.new ≡ record self.old { bursting = false; clock = now } }
+        ensures soon { IsSoon self.new }
+    {
+        self.bursting = false;
+        self.clock = now;
     }
 
     /// Whether the retransmission timer has expired so often that the path is suspect.

@@ -57,3 +57,12 @@ under s = record { end = s }
 pub after_within_same : {H : Type 0} (w : Wired H) (window : ℕ) → under (after_within w.end window) ≡ core_after machine w window
 unfolding after_within due_within after_emission after_ack_alone transmit_ack_alone transmit_due
 after_within_same {H = H} w window = same (λ due. under {H = H} (after_due w.end due)) w.end window (due_of w.end)
+
+-- where nothing goes out nothing changes
+idle-by : (s : State) (due : Option Due) → option_map (transmit_of s) due ≡ None → after_due s due ≡ s
+idle-by s None e = refl
+idle-by s (Some due) e = absurd (cc)
+
+pub idle : {H : Type 0} (w : Wired H) (window : ℕ) → transmit_within w.end window ≡ None → under (after_within w.end window) ≡ w
+unfolding transmit_within after_within
+idle {H = H} w window e = ap (under {H = H}) (idle-by w.end (due_within w.end window) e)

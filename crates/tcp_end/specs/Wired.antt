@@ -1,5 +1,5 @@
 -- An end of a connection as a machine without a clock: each function is one of tcp_conn's.
-use Rattle.std.specs.Prelude.{ℕ, ◌-◌, nat_lt, Bool, false, true, not, ◌&&◌, ◌||◌, ◌==◌, bit_and, slice_get, if◌then◌else◌, List, ◌++◌, drop, length, Option, Some, None, option_map, Result, Ok, Err}
+use Rattle.std.specs.Prelude.{ℕ, ◌+◌, ◌-◌, nat_lt, Bool, false, true, not, ◌&&◌, ◌||◌, ◌==◌, if◌then◌else◌, List, ◌++◌, drop, length, Option, Some, None, option_map, Result, Ok, Err}
 use Rattle.tcp_timing.specs.declared.rules.Rules.{Rules}
 use Rattle.tcp_driver.specs.declared.limits.Limits.{Limits}
 use Rattle.tcp_driver.specs.declared.machine.Report.{Report}
@@ -7,11 +7,17 @@ use Rattle.tcp_driver.specs.declared.machine.Sent.{Sent}
 use Rattle.tcp_driver.specs.declared.machine.Timer.{Timer}
 use Rattle.tcp_driver.specs.declared.machine.Timer.TheVariants as timers
 use Rattle.tcp_driver.specs.declared.machine.Wants.{Wants}
+use Rattle.tcp_driver.specs.declared.machine.Way.{Way}
 use Rattle.tcp_driver.specs.Driver.{Driving, new_driving}
 use Rattle.tcp_driver.specs.Machine.{Machine}
+use Rattle.tcp_wire.specs.Flags.{fin, has}
+use Rattle.tcp_wire.specs.Position.{number}
+use Rattle.tcp_wire.specs.Wire.{Content}
+use Rattle.tcp_wire.specs.declared.fault.DecodeError.{DecodeError}
 use Rattle.tcp_halves.specs.declared.link.Peer.{Peer}
 use Rattle.tcp_conn.specs.declared.arrive.brought.Brought.{Brought}
 use Rattle.tcp_conn.specs.declared.arrive.brought.Brought.TheVariants.{Nothing}
+use Rattle.tcp_conn.specs.declared.arrive.guard.Intake.{Intake}
 use Rattle.tcp_conn.specs.declared.arrive.judgement.Judgement.{Judgement}
 use Rattle.tcp_conn.specs.declared.arrive.judgement.Judgement.TheVariants.{TakenShut, Unacceptable}
 use Rattle.tcp_conn.specs.declared.arrive.judgement.Judgement.TheVariants as rules
@@ -22,13 +28,12 @@ use Rattle.tcp_conn.specs.declared.phase.Phase.{Phase}
 use Rattle.tcp_conn.specs.declared.phase.Phase.TheVariants.{Closing, FinWait2, LastAck}
 use Rattle.tcp_conn.specs.declared.phase.Timer.TheVariants.{Retransmit, Reorder, TimeWait}
 use Rattle.tcp_conn.specs.declared.timers.Timers.{Timers}
-use Rattle.tcp_conn.specs.Arrival.{after_arrival, arrival_answer}
-use Rattle.tcp_conn.specs.AtOnce.{answers_at_once}
 use Rattle.tcp_conn.specs.Calls.{after_abort, after_acknowledge, after_close, after_connect, after_listen, after_receive, after_send, opening_answer, received_bytes}
 use Rattle.tcp_conn.specs.Emission.{after_ack_alone, after_emission, buffer_after, buffer_after_ack_alone}
+use Rattle.tcp_conn.specs.Guard.{after_intake, intake_answer, intake_at_once, intake_brought, intake_duplicate, intake_rule, intake_window, reading_of}
 use Rattle.tcp_conn.specs.Phase.{is_time_wait}
 use Rattle.tcp_conn.specs.State.{State}
-use Rattle.tcp_conn.specs.Taking.{brought, bytes_acked, is_duplicate, is_window_taken, rule_of}
+use Rattle.tcp_conn.specs.Taking.{bytes_acked}
 use Rattle.tcp_conn.specs.Timers.{after_resend_first, after_timer, sends_again, timers_wanted}
 use Rattle.tcp_conn.specs.Transmission.{transmit_ack_alone, transmit_due}
 use Rattle.tcp_end.specs.declared.wired.Wired.{Wired}
@@ -66,14 +71,18 @@ waits_for_last_ack other = false
 abbrev pub ignores_resets : State → Bool
 ignores_resets s = is_time_wait s.phase || (waits_for_last_ack s.phase && nat_lt 0 (length s.receiving.inbox.unread))
 
--- WHAT AN ARRIVAL HAS BROUGHT: the window is SND.WND after it, where that was taken from it
-abbrev pub window_after : State → List ℕ → List ℕ → List ℕ → Option ℕ
-window_after s src dst bytes = if is_window_taken s src dst bytes then Some (after_arrival s src dst bytes).sending.snd_wnd else None
+-- A WAY IN of the driver's is one of the end's
+abbrev pub intake_of : Way → Intake
+intake_of way = record { is_vouched = way.is_vouched; guard = way.guard }
 
--- THE PEER'S FIN AGAIN, in TIME-WAIT: a segment of the connection that has the bit FIN (RFC 9293, 3.1 and 3.10.7.4, eighth)
-abbrev pub has_fin_bit : Option ℕ → Bool
-has_fin_bit None = false
-has_fin_bit (Some flags) = not (bit_and flags 1 == 0)
+-- WHAT AN ARRIVAL HAS BROUGHT: the window is SND.WND after it, where that was taken from it
+abbrev pub window_after : Intake → State → List ℕ → List ℕ → List ℕ → Option ℕ
+window_after way s src dst bytes = if intake_window way s src dst bytes then Some (after_intake way s src dst bytes).sending.snd_wnd else None
+
+-- THE PEER'S FIN AGAIN, in TIME-WAIT (RFC 9293, 3.10.7.4, eighth): a segment of the connection whose FIN has the number before RCV.NXT
+abbrev pub is_last_fin : ℕ → Result Content DecodeError → Bool
+is_last_fin rcv_nxt (Ok v) = has fin v.flags && (number v.seq (length v.text + 1) == rcv_nxt)
+is_last_fin rcv_nxt (Err fault) = false
 
 abbrev pub is_of_connection : Option Judgement → Bool
 is_of_connection (Some Unacceptable) = true
@@ -81,39 +90,40 @@ is_of_connection (Some rules.Taken) = true
 is_of_connection (Some TakenShut) = true
 is_of_connection other = false
 
-abbrev pub repeats_fin : State → List ℕ → List ℕ → List ℕ → Bool
-repeats_fin s src dst bytes = is_time_wait s.phase && (is_of_connection (rule_of s src dst bytes) && has_fin_bit (slice_get bytes 13))
+abbrev pub repeats_fin : Intake → State → List ℕ → List ℕ → List ℕ → Bool
+repeats_fin way s src dst bytes =
+    is_time_wait s.phase && (is_of_connection (intake_rule way s src dst bytes) && is_last_fin s.receiving.rcv_nxt (reading_of way src dst bytes))
 
 -- THE PEER IS THERE: a segment of the connection brought text or a FIN, again or not, or its window was taken
 abbrev pub brings_nothing : Brought → Bool
 brings_nothing Nothing = true
 brings_nothing other = false
 
-abbrev pub is_from_peer : State → List ℕ → List ℕ → List ℕ → Bool
-is_from_peer s src dst bytes =
-    is_of_connection (rule_of s src dst bytes) && (not (brings_nothing (brought s src dst bytes)) || is_window_taken s src dst bytes)
+abbrev pub is_from_peer : Intake → State → List ℕ → List ℕ → List ℕ → Bool
+is_from_peer way s src dst bytes =
+    is_of_connection (intake_rule way s src dst bytes) && (not (brings_nothing (intake_brought way s src dst bytes)) || intake_window way s src dst bytes)
 
 -- WHAT THE DRIVER IS TOLD of an arrival
-abbrev pub report : State → List ℕ → List ℕ → List ℕ → Report
-report s src dst bytes = record {
-  acked = bytes_acked s (after_arrival s src dst bytes);
-  is_duplicate = is_duplicate s src dst bytes;
-  at_once = answers_at_once s src dst bytes;
-  window = window_after s src dst bytes;
-  repeats_fin = repeats_fin s src dst bytes;
-  from_peer = is_from_peer s src dst bytes;
+abbrev pub report : Intake → State → List ℕ → List ℕ → List ℕ → Report
+report way s src dst bytes = record {
+  acked = bytes_acked s (after_intake way s src dst bytes);
+  is_duplicate = intake_duplicate way s src dst bytes;
+  at_once = intake_at_once way s src dst bytes;
+  window = window_after way s src dst bytes;
+  repeats_fin = repeats_fin way s src dst bytes;
+  from_peer = is_from_peer way s src dst bytes;
 }
 
--- THE END'S OWN ANSWER: all that `take` reports
-abbrev pub taken_of : State → List ℕ → List ℕ → List ℕ → Taken
-taken_of s src dst bytes = record {
-  arrival = arrival_answer s src dst bytes;
-  at_once = answers_at_once s src dst bytes;
-  rule = rule_of s src dst bytes;
-  acked = bytes_acked s (after_arrival s src dst bytes);
-  is_duplicate = is_duplicate s src dst bytes;
-  window_taken = is_window_taken s src dst bytes;
-  brought = brought s src dst bytes;
+-- THE END'S OWN ANSWER: all that `take_with` reports
+abbrev pub taken_of : Intake → State → List ℕ → List ℕ → List ℕ → Taken
+taken_of way s src dst bytes = record {
+  arrival = intake_answer way s src dst bytes;
+  at_once = intake_at_once way s src dst bytes;
+  rule = intake_rule way s src dst bytes;
+  acked = bytes_acked s (after_intake way s src dst bytes);
+  is_duplicate = intake_duplicate way s src dst bytes;
+  window_taken = intake_window way s src dst bytes;
+  brought = intake_brought way s src dst bytes;
 }
 
 -- what a user's buffer contains after a call of `receive`
@@ -129,8 +139,8 @@ machine = record {
   flight = λ w. w.end.sending.snd_nxt - w.end.sending.snd_una;
   ignores_resets = λ w. ignores_resets w.end;
   expired = λ w timer. record { end = expired w.end timer };
-  report = λ w src dst bytes. report w.end src dst bytes;
-  arrived = λ w src dst bytes. record { end = after_arrival w.end src dst bytes };
+  report = λ w src dst bytes way. report (intake_of way) w.end src dst bytes;
+  arrived = λ w src dst bytes way. record { end = after_intake (intake_of way) w.end src dst bytes };
   due = λ w. option_map sent_by (transmit_due w.end);
   written = λ w out. buffer_after w.end out;
   emitted = λ w. record { end = after_emission w.end };

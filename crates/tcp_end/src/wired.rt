@@ -1,12 +1,13 @@
-ghost use Rattle.std.specs.Prelude.{◌≡◌, slice_get};
+ghost use Rattle.std.specs.Prelude.{◌≡◌};
 ghost use Rattle.tcp_timing.specs.Rules.{IsSound};
-ghost use Rattle.tcp_end.specs.Wired.{connected, has_fin_bit, is_of_connection, listening, sent_by, waits_for_last_ack};
+ghost use Rattle.tcp_conn.specs.Guard.{reading_of};
+ghost use Rattle.tcp_end.specs.Wired.{connected, intake_of, is_last_fin, is_of_connection, listening, sent_by, waits_for_last_ack};
 
 use std::alloc::{Allocator, Global};
-use tcp_conn::{Brought, CallError, Endpoint, Judgement, Phase, Received, Taken, Transmit};
-use tcp_driver::{Core, Driver, Limits, Report, Sent, Timer, Wants};
+use tcp_conn::{Brought, CallError, Endpoint, Intake, Judgement, Phase, Received, Taken, Transmit};
+use tcp_driver::{Core, Driver, Limits, Report, Sent, Timer, Wants, Way};
 use tcp_timing::Rules;
-use tcp_wire::Addr;
+use tcp_wire::{Addr, RawSegment, Seq};
 
 /// An end of a connection, as a driver sees it.
 #[derive(Debug, Drop)]
@@ -58,7 +59,7 @@ pub fn listen<A: Allocator>(
 impl<A: Allocator> Core for Wired<A> {
     ghost use Rattle.tcp_conn.specs.Calls.{abort_answer, close_answer, receive_answer, send_answer};
     ghost use Rattle.tcp_conn.specs.Lending.{consume_answer};
-    ghost use Rattle.tcp_end.specs.Wired.{machine, taken_of};
+    ghost use Rattle.tcp_end.specs.Wired.{intake_of, machine, taken_of};
 
     type Sending = Result<usize, CallError>;
 
@@ -84,7 +85,7 @@ impl<A: Allocator> Core for Wired<A> {
 
     ghost abort_answer = { λ w. abort_answer w.end };
 
-    ghost arrival_answer = { λ w src dst bytes. taken_of w.end src dst bytes };
+    ghost arrival_answer = { λ w src dst bytes way. taken_of (intake_of way) w.end src dst bytes };
 
     fn wants(&self) -> Wants {
         let wanted = self.end.timers_wanted();
@@ -126,9 +127,12 @@ impl<A: Allocator> Core for Wired<A> {
         }
     }
 
-    fn arrive(&mut self, src: [u8; 4], dst: [u8; 4], bytes: &[u8]) -> (Report, Taken) {
+    #[inline(always)]
+    fn arrive(&mut self, src: [u8; 4], dst: [u8; 4], bytes: &[u8], way: Way) -> (Report, Taken) {
         let rests = matches!(self.end.phase(), Phase::TimeWait);
-        let taken = self.end.take(Addr(src), Addr(dst), bytes);
+        let rcv_nxt = self.end.rcv_nxt();
+        let way = intake_of(way);
+        let taken = self.end.take_with(Addr(src), Addr(dst), bytes, way);
         let (_, snd_wnd) = self.end.windows();
         let report = Report {
             acked: taken.acked,
@@ -139,7 +143,9 @@ impl<A: Allocator> Core for Wired<A> {
             } else {
                 None
             },
-            repeats_fin: rests && is_of_connection(taken.rule) && is_fin(bytes),
+            repeats_fin: rests
+                && is_of_connection(taken.rule)
+                && is_last_fin(rcv_nxt, src, dst, bytes, way),
             from_peer: is_of_connection(taken.rule)
                 && (!matches!(taken.brought, Brought::Nothing) || taken.window_taken),
         };
@@ -193,16 +199,32 @@ fn sent_by(sent: Transmit) -> Sent
     }
 }
 
-/// FIN among the flags of a segment (RFC 9293, 3.1).
-const FIN: u8 = 1;
-
-/// Whether a segment has the bit FIN.
-fn is_fin(bytes: &[u8]) -> bool
-    ensures { result ≡ has_fin_bit (slice_get bytes.now 13) }
+/// A way in of the driver's is one of the end's.
+fn intake_of(way: Way) -> Intake
+    ensures { result ≡ intake_of way }
 {
-    match bytes.get(13) {
-        Some(flags) => *flags & FIN != 0,
-        None => false,
+    Intake {
+        is_vouched: way.is_vouched,
+        guard: way.guard,
+    }
+}
+
+/// Whether what comes by this way has the FIN whose number is the one before RCV.NXT. Only TIME-WAIT reads a segment again.
+#[cold]
+fn is_last_fin(rcv_nxt: Seq, src: [u8; 4], dst: [u8; 4], bytes: &[u8], way: Intake) -> bool
+    ensures { result ≡ is_last_fin rcv_nxt.0 (reading_of way src dst bytes.now) }
+{
+    let read = if way.is_vouched {
+        RawSegment::parse_vouched(Addr(src), Addr(dst), bytes)
+    } else {
+        RawSegment::parse(Addr(src), Addr(dst), bytes)
+    };
+    match read {
+        Ok(segment) => {
+            let after = segment.header.seq.plus(segment.text.len() as u32).plus(1);
+            segment.header.flags.is_fin() && after == rcv_nxt
+        }
+        Err(_) => false,
     }
 }
 

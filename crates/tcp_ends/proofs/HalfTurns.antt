@@ -1,6 +1,5 @@
 -- The calls that make half turns make those of the ends inside.
 use Rattle.std.proofs.Common.{◌≡◌, ℕ, zero, suc, Bool, true, false, if◌then◌else◌, List, [], ◌∷◌, ◌++◌, length, Option, Some, None, option_map, refl, ap, sym, subst, ◌∙◌, IfSome, inl, inr}
-use Rattle.std.specs.List.{AllByRecursion}
 use Rattle.tcp_driver.specs.declared.machine.Sent.{Sent}
 use Rattle.tcp_driver.specs.declared.machine.Timer.{Timer as Which}
 use Rattle.tcp_driver.specs.declared.machine.Timer.TheVariants as timers
@@ -17,23 +16,21 @@ use Rattle.tcp_reasm.specs.Reassembly.{default_runs}
 use Rattle.tcp_replay.specs.declared.event.Side.{Side}
 use Rattle.tcp_replay.specs.declared.event.Side.TheVariants.{A, B}
 use Rattle.tcp_replay.specs.Among.{Happening, Happens, Injection, IsBlind, after_happening, after_happenings}
-use Rattle.tcp_replay.specs.Events.{Damage, Deliver, Emit, EventContent, HasBytes, Timer}
-use Rattle.tcp_replay.specs.World.{WorldState, bytes_with_damage, other, world_after_all, world_with_runs}
+use Rattle.tcp_replay.specs.Events.{Damage, Deliver, Emit, EventContent, Timer}
+use Rattle.tcp_replay.specs.World.{WorldState, bytes_with_damage, other}
 use Rattle.tcp_progress.specs.Fair.{GotThrough, IsCalm, NoneDiscarded}
 use Rattle.tcp_progress.specs.Half.{AnswerArrives, AreCalm, Arrives, GetsThroughByHalves, HasBothHalves, HasHalfTurn, HasHalves, HasReadAll, IsCalmNow, SegmentIsAnswered, SendsAt, count_sent, endpoint_at, timeout}
 use Rattle.tcp_progress.specs.Measure.{left_in}
 use Rattle.tcp_ends.specs.Pair as pairs
-use Rattle.tcp_ends.specs.Pair.{Pair, end_of, member_of, new_member, pair_of, party_in, segment_in, world_in}
+use Rattle.tcp_ends.specs.Pair.{Pair, PairCall, end_of, member_of, new_member, pair_of, party_in, segment_in, world_in}
 use Rattle.tcp_ends.specs.Events.{emission_event, event_of, expiry_event, is_lost, unless_lost}
-use Rattle.tcp_ends.specs.Among.{Calls, Incident, Injects, happening_of, happenings_of, happens, injected_unless, pair_after_incident, pair_after_incidents}
+use Rattle.tcp_ends.specs.Among.{AreFairIncidents, Calls, Incident, Injects, IsFairIncident, happening_of, happenings_of, happens, injected_unless, pair_after_incident, pair_after_incidents}
 use Rattle.tcp_ends.specs.Among.{Rests, rests_unless}
 use Rattle.tcp_conn.specs.Timers.{timer_answer}
-use Rattle.tcp_ends.specs.Halves.{AnswerIsBrought, AreCalmIncidents, Comes, IsAnswered, IsBrought, IsCalmExpiry, IsCalmIncident, MakeBothHalves, MakeHalves, MakesHalfTurn, TwoEndsGetThroughByHalves, TwoEndsGetThroughByHalvesWithRuns, expiry_at}
-use Rattle.tcp_progress.proofs.steady.AlwaysSteady.{in-every-world-with-runs}
+use Rattle.tcp_ends.specs.Halves.{AnswerIsBrought, AreCalmIncidents, Comes, IsAnswered, IsBrought, IsCalmCall, IsCalmExpiry, IsCalmIncident, MakeBothHalves, MakeHalves, MakesHalfTurn, TwoEndsGetThroughByHalves, TwoEndsGetThroughByHalvesWithRuns, expiry_at}
 use Rattle.tcp_progress.proofs.turn.BothHalves.{halved-kept}
-use Rattle.tcp_ends.proofs.Projections.{calls-bytes}
-use Rattle.tcp_ends.proofs.Safety.{all_events, opening-bytes, world-is}
-use Rattle.tcp_ends.proofs.Strangers.{happened, incident-is, incidents-are, parties}
+use Rattle.tcp_ends.proofs.Reached.{Reached, all-at, began, calls-at, kept-at}
+use Rattle.tcp_ends.proofs.Strangers.{IncidentPasses, IncidentsPass, happened, incident-is, incidents-are, parties, pass-one, pass-split}
 
 -- LISTS, one after another
 happens-more : (o : Option Happening) (xs ys : List Happening) → happens o (xs ++ ys) ≡ happens o xs ++ ys
@@ -58,12 +55,12 @@ after-one w h = refl
 
 -- the world after a list and one thing more
 world-at : {H : Type 0} (p : Pair H) (before : List Incident) (incident : Incident) (h : Happening)
-    → happening_of (pair_after_incidents p before) incident ≡ Some h
+    → happening_of (pair_after_incidents p before) incident ≡ Some h → IncidentsPass p before → IncidentPasses (pair_after_incidents p before) incident
     → after_happenings (world_in p) (happenings_of p before ++ (h ∷ [])) ≡ world_in (pair_after_incident (pair_after_incidents p before) incident)
-world-at p before incident h e =
+world-at p before incident h e pass passes =
     let q = pair_after_incidents p before in
-    after-append (world_in p) (happenings_of p before) (h ∷ []) ∙ ap (λ w. after_happenings w (h ∷ [])) (sym (incidents-are p before))
-    ∙ after-one (world_in q) h ∙ ap (λ o. happened (world_in q) o) (sym e) ∙ sym (incident-is q incident)
+    after-append (world_in p) (happenings_of p before) (h ∷ []) ∙ ap (λ w. after_happenings w (h ∷ [])) (sym (incidents-are p before pass))
+    ∙ after-one (world_in q) h ∙ ap (λ o. happened (world_in q) o) (sym e) ∙ sym (incident-is q incident passes)
 
 -- an end and the count of its segments
 pub end-in : {H : Type 0} (p : Pair H) (side : Side) → endpoint_at (world_in p) side ≡ end_of (member_of p side)
@@ -74,13 +71,13 @@ count-in : {H : Type 0} (p : Pair H) (side : Side) → count_sent (world_in p) s
 count-in p A = refl
 count-in p B = refl
 
-end-at : {H : Type 0} (p : Pair H) (before : List Incident) (side : Side)
+end-at : {H : Type 0} (p : Pair H) (before : List Incident) (side : Side) → IncidentsPass p before
     → endpoint_at (after_happenings (world_in p) (happenings_of p before)) side ≡ end_of (member_of (pair_after_incidents p before) side)
-end-at p before side = ap (λ w. endpoint_at w side) (sym (incidents-are p before)) ∙ end-in (pair_after_incidents p before) side
+end-at p before side pass = ap (λ w. endpoint_at w side) (sym (incidents-are p before pass)) ∙ end-in (pair_after_incidents p before) side
 
-count-at : {H : Type 0} (p : Pair H) (before : List Incident) (side : Side)
+count-at : {H : Type 0} (p : Pair H) (before : List Incident) (side : Side) → IncidentsPass p before
     → count_sent (after_happenings (world_in p) (happenings_of p before)) side ≡ length (member_of (pair_after_incidents p before) side).sent
-count-at p before side = ap (λ w. count_sent w side) (sym (incidents-are p before)) ∙ count-in (pair_after_incidents p before) side
+count-at p before side pass = ap (λ w. count_sent w side) (sym (incidents-are p before pass)) ∙ count-in (pair_after_incidents p before) side
 
 -- WHAT COMES ARRIVES
 taken-happens : {H : Type 0} (p : Pair H) (side : Side) (k now : ℕ) → is_lost (member_of p (other side)) (segment_in p side k) ≡ false
@@ -140,9 +137,11 @@ unfolding happenings_of happening_of event_of
 emission-first p side now window out list = refl
 
 -- AN ANSWER
-answer : {H : Type 0} (side : Side) (p : Pair H) (list : List Incident) → AnswerIsBrought side p list → AnswerArrives side (world_in p) (happenings_of p list)
-answer side p list r =
+answer : {H : Type 0} (side : Side) (p : Pair H) (list : List Incident) → IncidentsPass p list → AnswerIsBrought side p list
+    → AnswerArrives side (world_in p) (happenings_of p list)
+answer side p list pass r =
     let q = pair_after_incidents p r.before in
+    let front = (pass-split p r.before _ (subst (λ l. IncidentsPass p l) r.form pass)).0 in
     let s = end_of (member_of q side) in
     let h = holds machine (member_of q side).driving.core r.window in
     let g : GoesAs s (due_held h s) r.sent = emits-as s h r.sent r.goes in
@@ -155,10 +154,10 @@ answer side p list r =
       form = ap (λ l. happenings_of p l) r.form ∙ happenings-append p r.before _
           ∙ ap (λ l. happenings_of p r.before ++ l) (emission-first q side r.now r.window r.out r.after);
       due = g.due;
-      sends = sends-at w side s h g.due (end-at p r.before side) g.is;
-      at = ap (λ (x : State). start_of x.sending g.due) (end-at p r.before side) ∙ sym g.start ∙ r.at_next
-          ∙ ap (λ (x : State). x.sending.snd_nxt) (sym (end-at p r.before side));
-      arrives = subst (λ k. Arrives side k after) (sym (count-at p r.before side)) (brought _ side _ r.after r.comes);
+      sends = sends-at w side s h g.due (end-at p r.before side front) g.is;
+      at = ap (λ (x : State). start_of x.sending g.due) (end-at p r.before side front) ∙ sym g.start ∙ r.at_next
+          ∙ ap (λ (x : State). x.sending.snd_nxt) (sym (end-at p r.before side front));
+      arrives = subst (λ k. Arrives side k after) (sym (count-at p r.before side front)) (brought _ side _ r.after r.comes);
     }
 
 -- A SEGMENT
@@ -167,19 +166,22 @@ first-happens : {H : Type 0} (p : Pair H) (incident : Incident) (h : Happening) 
 unfolding happenings_of
 first-happens p incident h list e = ap (λ o. happens o (happenings_of (pair_after_incident p incident) list)) e
 
-pub segment-answered : {H : Type 0} (side : Side) (k : ℕ) (p : Pair H) (list : List Incident) → IsAnswered side k p list → SegmentIsAnswered side k (world_in p) (happenings_of p list)
-segment-answered side k p list r =
+pub segment-answered : {H : Type 0} (side : Side) (k : ℕ) (p : Pair H) (list : List Incident) → IncidentsPass p list → IsAnswered side k p list
+    → SegmentIsAnswered side k (world_in p) (happenings_of p list)
+segment-answered side k p list pass r =
     let q = pair_after_incidents p r.before in
     let call = Calls (pairs.Arrives side k r.now) in
+    let parts = pass-split p r.before (call ∷ r.after) (subst (λ l. IncidentsPass p l) r.form pass) in
+    let rest = pass-one q call r.after parts.1 in
     let e = taken-happens q side k r.now r.taken in
-    let at = world-at p r.before call (Happens (Deliver side k)) e in
+    let at = world-at p r.before call (Happens (Deliver side k)) e parts.0 rest.0 in
     record {
       before = happenings_of p r.before;
       after = happenings_of (pair_after_incident q call) r.after;
       form = ap (λ l. happenings_of p l) r.form ∙ happenings-append p r.before _
           ∙ ap (λ l. happenings_of p r.before ++ l) (first-happens q call (Happens (Deliver side k)) r.after e);
       answered = λ pending. subst (λ w. AnswerArrives (other side) w (happenings_of (pair_after_incident q call) r.after)) (sym at)
-          (answer (other side) (pair_after_incident q call) r.after
+          (answer (other side) (pair_after_incident q call) r.after rest.1
           (r.answered (ap (λ (s : State). s.pending.ack) (sym (ap (λ w. endpoint_at w (other side)) at ∙ end-in (pair_after_incident q call) (other side))) ∙ pending)));
     }
 
@@ -199,13 +201,14 @@ after-two w g h = refl
 
 two-happen : {H : Type 0} (p : Pair H) (side : Side) (first : Incident) (now window : ℕ) (out : List ℕ)
     → happening_of p first ≡ Some (Happens (Timer side Retransmit)) → holds machine (member_of (pair_after_incident p first) side).driving.core window ≡ false
+    → IncidentPasses p first
     → after_happenings (world_in p) (timeout side) ≡ world_in (pair_after_incident (pair_after_incident p first) (Calls (pairs.Emits side now window out)))
-two-happen p side first now window out e f =
+two-happen p side first now window out e f passes =
     let q = pair_after_incident p first in
     let one : after_happening (world_in p) (Happens (Timer side Retransmit)) ≡ world_in q =
-    ap (λ o. happened (world_in p) o) (sym e) ∙ sym (incident-is p first) in
+    ap (λ o. happened (world_in p) o) (sym e) ∙ sym (incident-is p first passes) in
     after-two (world_in p) (Happens (Timer side Retransmit)) (Happens (Emit side)) ∙ ap (λ w. after_happening w (Happens (Emit side))) one
-    ∙ ap (λ o. happened (world_in q) o) (sym (emits-happens q side now window out f)) ∙ sym (incident-is q (Calls (pairs.Emits side now window out)))
+    ∙ ap (λ o. happened (world_in q) o) (sym (emits-happens q side now window out f)) ∙ sym (incident-is q (Calls (pairs.Emits side now window out)) tt)
 
 half-first : {H : Type 0} (p : Pair H) (side : Side) (first : Incident) (now window : ℕ) (out : List ℕ) (list : List Incident)
     → happening_of p first ≡ Some (Happens (Timer side Retransmit)) → holds machine (member_of (pair_after_incident p first) side).driving.core window ≡ false
@@ -217,24 +220,28 @@ half-first p side first now window out list e f =
     ∙ ap (λ l. Happens (Timer side Retransmit) ∷ l) (emission-first q side now window out list)
     ∙ ap (λ h. Happens (Timer side Retransmit) ∷ Happens (emission_event side h) ∷ happenings_of (pair_after_incident q (Calls (pairs.Emits side now window out))) list) f
 
-half : {H : Type 0} (side : Side) (p : Pair H) (list : List Incident) → MakesHalfTurn side p list → HasHalfTurn side (world_in p) (happenings_of p list)
-half side p list r =
+half : {H : Type 0} (side : Side) (p : Pair H) (list : List Incident) → IncidentsPass p list → MakesHalfTurn side p list
+    → HasHalfTurn side (world_in p) (happenings_of p list)
+half side p list pass r =
     let q = pair_after_incidents p r.before in
     let first = r.first in
     let second = Calls (pairs.Emits side r.emits_at r.window r.out) in
     let q1 = pair_after_incident q first in
     let q2 = pair_after_incident q1 second in
+    let parts = pass-split p r.before (first ∷ second ∷ r.after) (subst (λ l. IncidentsPass p l) r.form pass) in
+    let rest = pass-one q first (second ∷ r.after) parts.1 in
+    let rest2 = pass-one q1 second r.after rest.1 in
     let after = happenings_of q2 r.after in
     let w = after_happenings (world_in p) (happenings_of p r.before) in
-    let is_end : endpoint_at w side ≡ end_of (member_of q side) = end-at p r.before side in
+    let is_end : endpoint_at w side ≡ end_of (member_of q side) = end-at p r.before side parts.0 in
     let is_world : after_happenings (world_in p) (happenings_of p r.before ++ timeout side) ≡ world_in q2 =
-    after-append (world_in p) (happenings_of p r.before) (timeout side) ∙ ap (λ v. after_happenings v (timeout side)) (sym (incidents-are p r.before))
-    ∙ two-happen q side r.first r.emits_at r.window r.out r.begins r.goes in
-    let mine = if-some (due_of (after_timer (end_of (member_of q side)) Retransmit)) (λ a. segment-answered side (length (member_of q side).sent) q2 r.after a) r.answered in
+    after-append (world_in p) (happenings_of p r.before) (timeout side) ∙ ap (λ v. after_happenings v (timeout side)) (sym (incidents-are p r.before parts.0))
+    ∙ two-happen q side r.first r.emits_at r.window r.out r.begins r.goes rest.0 in
+    let mine = if-some (due_of (after_timer (end_of (member_of q side)) Retransmit)) (λ a. segment-answered side (length (member_of q side).sent) q2 r.after rest2.1 a) r.answered in
     let at_world = subst (λ v. IfSome (due_of (after_timer (end_of (member_of q side)) Retransmit)) (λ _. SegmentIsAnswered side (length (member_of q side).sent) v after))
     (sym is_world) mine in
     let at_count = subst (λ k. IfSome (due_of (after_timer (end_of (member_of q side)) Retransmit)) (λ _. SegmentIsAnswered side k (after_happenings (world_in p) (happenings_of p r.before ++ timeout side)) after))
-    (sym (count-at p r.before side)) at_world in
+    (sym (count-at p r.before side parts.0)) at_world in
     record {
       before = happenings_of p r.before;
       after = after;
@@ -292,54 +299,92 @@ calm-more : (w : WorldState) (o : Option Happening) (list : List Happening) → 
 calm-more w None list h rest = rest
 calm-more w (Some x) list h rest = (h, rest)
 
-pub calm : {H : Type 0} (p : Pair H) (list : List Incident) → AreCalmIncidents p list → AreCalm (world_in p) (happenings_of p list)
-unfolding AreCalmIncidents happenings_of
-calm p [] h = tt
-calm p (incident ∷ list) h =
+pub calm : {H : Type 0} (p : Pair H) (list : List Incident) → IncidentsPass p list → AreCalmIncidents p list → AreCalm (world_in p) (happenings_of p list)
+unfolding IncidentsPass AreCalmIncidents happenings_of
+calm p [] pass h = tt
+calm p (incident ∷ list) pass h =
     calm-more (world_in p) (happening_of p incident) (happenings_of (pair_after_incident p incident) list) (incident-calm p incident h.0)
-    (subst (λ w. AreCalm w (happenings_of (pair_after_incident p incident) list)) (incident-is p incident) (calm (pair_after_incident p incident) list h.1))
+    (subst (λ w. AreCalm w (happenings_of (pair_after_incident p incident) list)) (incident-is p incident pass.0)
+    (calm (pair_after_incident p incident) list pass.1 h.1))
+
+-- what is calm is fair
+fair-call : {H : Type 0} (p : Pair H) (call : PairCall) → IsCalmCall p call → pairs.CallHasBytes call
+fair-call p (pairs.Arrives from k now) h = tt
+fair-call p (pairs.ArrivesDamaged from k place value now) h = h
+fair-call p (pairs.Emits side now window out) h = tt
+fair-call p (pairs.Expires side now) h = tt
+fair-call p (pairs.Sends side now text) h = absurd h
+fair-call p (pairs.Receives side now out) h = tt
+fair-call p (pairs.Acknowledges side now) h = tt
+fair-call p (pairs.Closes side now) h = tt
+fair-call p (pairs.Aborts side now) h = tt
+fair-call p (pairs.ResendsFirst side now) h = tt
+fair-call p (pairs.SetsUserTimeout side limit) h = tt
+
+fair-calm : {H : Type 0} (p : Pair H) (incident : Incident) → IsCalmIncident p incident → IsFairIncident p incident
+fair-calm p (Calls call) h = fair-call p call h
+fair-calm p (Injects side now i) h = h
+fair-calm p (Rests side) h = tt
+
+pub calm-fair : {H : Type 0} (p : Pair H) (list : List Incident) → AreCalmIncidents p list → AreFairIncidents p list
+unfolding AreCalmIncidents AreFairIncidents
+calm-fair p [] h = tt
+calm-fair p (incident ∷ list) h = (fair-calm p incident h.0, calm-fair (pair_after_incident p incident) list h.1)
+
+pub fair-append : {H : Type 0} (p : Pair H) (xs ys : List Incident) → AreFairIncidents p xs → AreFairIncidents (pair_after_incidents p xs) ys
+    → AreFairIncidents p (xs ++ ys)
+unfolding AreFairIncidents pair_after_incidents
+fair-append p [] ys f g = g
+fair-append p (x ∷ xs) ys f g = (f.0, fair-append (pair_after_incident p x) xs ys f.1 g)
+
+halves-fair : {H : Type 0} (n : ℕ) (p : Pair H) (list : List Incident) → MakeHalves n p list → AreFairIncidents p list
+halves-fair zero p list h = calm-fair p list h
+halves-fair (suc n) p list h =
+    let q = pair_after_incidents p h.0 in
+    subst (λ l. AreFairIncidents p l) (sym h.3) (fair-append p h.0 (h.1 ++ h.2) (calm-fair p h.0 h.4)
+    (fair-append q h.1 h.2 (calm-fair q h.1 h.5.calm) (halves-fair n (pair_after_incidents q h.1) h.2 h.6)))
 
 -- PAIRS OF HALVES
-both-halves : {H : Type 0} (p : Pair H) (list : List Incident) → MakeBothHalves p list → HasBothHalves (world_in p) (happenings_of p list)
-both-halves p list r = record {
-  calm = calm p list r.calm;
+both-halves : {H : Type 0} (p : Pair H) (list : List Incident) → IncidentsPass p list → MakeBothHalves p list → HasBothHalves (world_in p) (happenings_of p list)
+both-halves p list pass r = record {
+  calm = calm p list pass r.calm;
   read = λ side. subst (λ x. HasReadAll x) (sym (parties p side)) (r.read side);
-  half = λ side. half side p list (r.half side);
+  half = λ side. half side p list pass (r.half side);
 }
 
-halves : {H : Type 0} (n : ℕ) (p : Pair H) (list : List Incident) → MakeHalves n p list → HasHalves n (world_in p) (happenings_of p list)
-halves zero p list h = calm p list h
-halves (suc n) p list h =
+halves : {H : Type 0} (n : ℕ) (p : Pair H) (list : List Incident) → IncidentsPass p list → MakeHalves n p list → HasHalves n (world_in p) (happenings_of p list)
+halves zero p list pass h = calm p list pass h
+halves (suc n) p list pass h =
     let before = h.0 in
     let pair = h.1 in
     let after = h.2 in
     let q = pair_after_incidents p before in
     let r = pair_after_incidents q pair in
-    let is_q = incidents-are p before in
+    let parts = pass-split p before (pair ++ after) (subst (λ l. IncidentsPass p l) h.3 pass) in
+    let rest = pass-split q pair after parts.1 in
+    let is_q = incidents-are p before parts.0 in
     let is_r : world_in r ≡ after_happenings (after_happenings (world_in p) (happenings_of p before)) (happenings_of q pair) =
-    incidents-are q pair ∙ ap (λ w. after_happenings w (happenings_of q pair)) is_q in (
+    incidents-are q pair rest.0 ∙ ap (λ w. after_happenings w (happenings_of q pair)) is_q in (
       happenings_of p before,
       happenings_of q pair,
       happenings_of r after,
       ap (λ l. happenings_of p l) h.3 ∙ happenings-append p before (pair ++ after) ∙ ap (λ l. happenings_of p before ++ l) (happenings-append q pair after),
-      calm p before h.4,
-      subst (λ w. HasBothHalves w (happenings_of q pair)) is_q (both-halves q pair h.5),
-      subst (λ w. HasHalves n w (happenings_of r after)) is_r (halves n r after h.6),
+      calm p before parts.0 h.4,
+      subst (λ w. HasBothHalves w (happenings_of q pair)) is_q (both-halves q pair rest.0 h.5),
+      subst (λ w. HasHalves n w (happenings_of r after)) is_r (halves n r after rest.1 h.6),
     )
 
 -- THE LAW
 pub halves_with_runs_lem : (H : Type 0) → TwoEndsGetThroughByHalvesWithRuns H
-halves_with_runs_lem H life a b runs_a runs_b opening_a opening_b x y calls p list least most one two e f bytes is live_a live_b room makes stays =
+halves_with_runs_lem H life a b runs_a runs_b opening_a opening_b x y calls p list least most one two e f lets_a lets_b bytes is live_a live_b room makes stays =
     let start = pair_of life (new_member x) (new_member y) in
-    let events = all_events life opening_a opening_b x y calls in
-    let fits : AllByRecursion HasBytes events = (opening-bytes A opening_a, (opening-bytes B opening_b, calls-bytes start calls bytes)) in
-    let law = in-every-world-with-runs GetsThroughByHalves halved-kept life a b runs_a runs_b events least most one two fits in
-    let world : world_after_all (world_with_runs life a b runs_a runs_b) events ≡ world_in p =
-    world-is life a b runs_a runs_b opening_a opening_b x y calls e f ∙ ap (λ q. world_in q) (sym is) in
-    let here : GetsThroughByHalves (world_in p) = subst (λ w. GetsThroughByHalves w) world law.1 in
-    let end = incidents-are p list in
+    let begun = began life a b runs_a runs_b most one two x y opening_a opening_b lets_a lets_b e f in
+    let reached = subst (λ q. Reached life a b runs_a runs_b q) (sym is) (calls-at life a b runs_a runs_b most one two start calls begun bytes).1 in
+    let pass = (all-at life a b runs_a runs_b most one two p list reached (halves-fair (suc (suc (left_in (world_in p)))) p list makes)).0 in
+    let here : GetsThroughByHalves (world_in p) = halved-kept (world_in p) (kept-at life a b runs_a runs_b most one two p reached least) in
+    let end = incidents-are p list pass in
     subst (λ w. GotThrough (world_in p) w) (sym end)
-    (here live_a live_b room (happenings_of p list) (halves (suc (suc (left_in (world_in p)))) p list makes) (subst (λ w. NoneDiscarded w) end stays))
+    (here live_a live_b room (happenings_of p list) (halves (suc (suc (left_in (world_in p)))) p list pass makes) (subst (λ w. NoneDiscarded w) end stays))
 
 pub by_halves_lem : (H : Type 0) → TwoEndsGetThroughByHalves H
 by_halves_lem H life a b opening_a opening_b x y calls p list = halves_with_runs_lem H life a b default_runs default_runs opening_a opening_b x y calls p list

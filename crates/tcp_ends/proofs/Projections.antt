@@ -3,9 +3,12 @@ use Rattle.std.proofs.Common.{◌≡◌, ℕ, Bool, true, false, List, [], ◌�
 use Rattle.std.specs.List.{AllByRecursion}
 use Rattle.tcp_driver.specs.declared.machine.Timer.{Timer as Which}
 use Rattle.tcp_driver.specs.declared.machine.Timer.TheVariants as timers
-use Rattle.tcp_driver.specs.Driver.{Driving, after_taken, after_time_by, at, holds}
+use Rattle.tcp_driver.specs.Driver.{Driving, after_taken, after_time_by, at, holds, way_of}
 use Rattle.tcp_driver.specs.Times.{expiry}
+use Rattle.tcp_conn.specs.Arrival.{after_arrival}
 use Rattle.tcp_conn.specs.Emission.{emitted_bytes, after_emission}
+use Rattle.tcp_conn.specs.Guard.{after_intake}
+use Rattle.tcp_conn.specs.State.{State}
 use Rattle.tcp_conn.specs.declared.phase.Timer.TheVariants.{Retransmit, Reorder, TimeWait}
 use Rattle.tcp_end.specs.declared.wired.Wired.{Wired}
 use Rattle.tcp_end.specs.Wired.{machine}
@@ -16,9 +19,10 @@ use Rattle.tcp_replay.specs.World.{WorldState, bytes_with_damage, effect_of, oth
 use Rattle.tcp_replay.specs.World.{party_after_acknowledge, party_after_resend_first, party_after_send, party_after_timer, party_out, world_after, world_after_all}
 use Rattle.tcp_ends.specs.Pair as pairs
 use Rattle.tcp_ends.specs.Pair.{CallHasBytes, Member, Pair, PairCall, damage_refusal_in, end_of, member_after_abort, member_after_acknowledge, member_after_close, member_after_emission, member_after_receive, member_after_resend_first, member_after_send}
-use Rattle.tcp_ends.specs.Pair.{member_of, pair_after, pair_after_all, party_in, refusal_in, segment_in, with_member, world_in}
+use Rattle.tcp_ends.specs.Pair.{guard_of, member_of, pair_after, pair_after_all, party_in, refusal_in, segment_in, with_member, world_in}
 use Rattle.tcp_ends.specs.Events.{emission_event, event_of, events_of, expiry_event, is_lost, unless_lost, with_event}
 use Rattle.tcp_ends.specs.Laws.{CallsAreEvents}
+use Rattle.tcp_ends.proofs.Guards.{CallPasses, CallsPass, IsLetIn, comes-as, unguarded-pass, with_end}
 use Rattle.tcp_ends.proofs.Members.{member-out, member-received}
 use Rattle.tcp_ends.proofs.Steps.{after_maybe, step-here, step-nowhere, step-there}
 
@@ -26,8 +30,8 @@ use Rattle.tcp_ends.proofs.Steps.{after_maybe, step-here, step-nowhere, step-the
 emission : {H : Type 0} (p : Pair H) (side : Side) (m : Member H) (h : Bool) → party_in m ≡ party_out (party_in (member_of p side)) (due_for h (end_of (member_of p side)))
     → world_in (with_member p side m) ≡ world_after (world_in p) (emission_event side h)
 unfolding effect_of party_after_emission party_after_ack_alone emitted_bytes after_emission
-emission p side m true e = step-here p m (EmitAcknowledgement side) (record { refusal_is = refl; here_is = sym e; there_is = refl })
-emission p side m false e = step-here p m (Emit side) (record { refusal_is = refl; here_is = sym e; there_is = refl })
+emission p side m true e = step-here p m (EmitAcknowledgement side) (record { refusal_is = refl; here_is = sym e; there_is = λ _. refl })
+emission p side m false e = step-here p m (Emit side) (record { refusal_is = refl; here_is = sym e; there_is = λ _. refl })
 
 -- AN EXPIRY
 abbrev timed : {H : Type 0} → Member H → Option Which → ℕ → Member H
@@ -38,46 +42,62 @@ expires : {H : Type 0} (p : Pair H) (side : Side) (timer : Option Which) (now : 
 unfolding effect_of party_after_timer party_after_abort
 expires p side None now = step-nowhere side p (timed (member_of p side) None now) refl
 expires p side (Some timers.Retransmit) now =
-    step-here p (timed (member_of p side) (Some timers.Retransmit) now) (Timer side Retransmit) (record { refusal_is = refl; here_is = refl; there_is = refl })
+    step-here p (timed (member_of p side) (Some timers.Retransmit) now) (Timer side Retransmit) (record { refusal_is = refl; here_is = refl; there_is = λ _. refl })
 expires p side (Some timers.Reorder) now =
-    step-here p (timed (member_of p side) (Some timers.Reorder) now) (Timer side Reorder) (record { refusal_is = refl; here_is = refl; there_is = refl })
+    step-here p (timed (member_of p side) (Some timers.Reorder) now) (Timer side Reorder) (record { refusal_is = refl; here_is = refl; there_is = λ _. refl })
 expires p side (Some timers.TimeWait) now =
-    step-here p (timed (member_of p side) (Some timers.TimeWait) now) (Timer side TimeWait) (record { refusal_is = refl; here_is = refl; there_is = refl })
+    step-here p (timed (member_of p side) (Some timers.TimeWait) now) (Timer side TimeWait) (record { refusal_is = refl; here_is = refl; there_is = λ _. refl })
 expires p side (Some timers.User) now =
-    step-here p (timed (member_of p side) (Some timers.User) now) (Abort side) (record { refusal_is = refl; here_is = refl; there_is = refl })
+    step-here p (timed (member_of p side) (Some timers.User) now) (Abort side) (record { refusal_is = refl; here_is = refl; there_is = λ _. refl })
 
--- AN ARRIVAL
+-- AN ARRIVAL passes the guard, and so comes as without one
 abbrev taken_by : {H : Type 0} → Member H → Member H → ℕ → List ℕ → Driving (Wired H)
-taken_by m from now bytes = after_taken machine m.driving (at m.driving now) (end_of from).config.addr.0 (end_of m).config.addr.0 bytes
+taken_by m from now bytes =
+    after_taken machine m.driving (at m.driving now) (end_of from).config.addr.0 (end_of m).config.addr.0 bytes (way_of m.driving false)
+
+arrives-as : {H : Type 0} (m from : Member H) (bytes : List ℕ) → IsLetIn m (end_of from).config.addr.0 (end_of m).config.addr.0 bytes
+    → with_end m (after_arrival (end_of m) (end_of from).config.addr.0 (end_of m).config.addr.0 bytes)
+    ≡ with_end m (after_intake (record { is_vouched = false; guard = guard_of m }) (end_of m) (end_of from).config.addr.0 (end_of m).config.addr.0 bytes)
+arrives-as m from bytes h =
+    ap (λ (s : State). with_end m s)
+    (sym (comes-as (guard_of m) (end_of m) (end_of from).config.addr.0 (end_of m).config.addr.0 bytes h))
 
 -- ONE CALL
-pub call-is_event : {H : Type 0} (p : Pair H) (call : PairCall) → world_in (pair_after p call) ≡ after_maybe (world_in p) (event_of p call)
+pub call-is_event : {H : Type 0} (p : Pair H) (call : PairCall) → CallPasses p call → world_in (pair_after p call) ≡ after_maybe (world_in p) (event_of p call)
 unfolding pair_after event_of effect_of party_after_arrival party_after_send party_after_acknowledge party_after_close party_after_abort party_after_resend_first
-call-is_event p (pairs.Arrives from k now) =
+call-is_event p (pairs.Arrives from k now) passes =
     step-there p (Deliver from k) (refusal_in p from k) (is_lost (member_of p (other from)) (segment_in p from k))
-    (taken_by (member_of p (other from)) (member_of p from) now (segment_in p from k)) (record { refusal_is = refl; here_is = refl; there_is = refl })
-call-is_event p (pairs.ArrivesDamaged from k place value now) =
+    (taken_by (member_of p (other from)) (member_of p from) now (segment_in p from k)) (record {
+      refusal_is = refl;
+      here_is = refl;
+      there_is = λ e. arrives-as (member_of p (other from)) (member_of p from) (segment_in p from k) (passes e);
+    })
+call-is_event p (pairs.ArrivesDamaged from k place value now) passes =
     let bytes = bytes_with_damage (segment_in p from k) place value in
     step-there p (Damage from k place value) (damage_refusal_in p from k place value) (is_lost (member_of p (other from)) bytes)
-    (taken_by (member_of p (other from)) (member_of p from) now bytes) (record { refusal_is = refl; here_is = refl; there_is = refl })
-call-is_event p (pairs.Emits side now window out) =
+    (taken_by (member_of p (other from)) (member_of p from) now bytes) (record {
+      refusal_is = refl;
+      here_is = refl;
+      there_is = λ e. arrives-as (member_of p (other from)) (member_of p from) bytes (passes e);
+    })
+call-is_event p (pairs.Emits side now window out) passes =
     let m = member_of p side in
     emission p side (member_after_emission m now window out) (holds machine m.driving.core window) (member-out m now window out)
-call-is_event p (pairs.Expires side now) = expires p side (expiry (member_of p side).driving.times (at (member_of p side).driving now)) (at (member_of p side).driving now)
-call-is_event p (pairs.Sends side now text) =
-    step-here p (member_after_send (member_of p side) now text) (Send side text) (record { refusal_is = refl; here_is = refl; there_is = refl })
-call-is_event p (pairs.Receives side now out) =
+call-is_event p (pairs.Expires side now) passes = expires p side (expiry (member_of p side).driving.times (at (member_of p side).driving now)) (at (member_of p side).driving now)
+call-is_event p (pairs.Sends side now text) passes =
+    step-here p (member_after_send (member_of p side) now text) (Send side text) (record { refusal_is = refl; here_is = refl; there_is = λ _. refl })
+call-is_event p (pairs.Receives side now out) passes =
     step-here p (member_after_receive (member_of p side) now out) (Receive side (length out))
-    (record { refusal_is = refl; here_is = sym (member-received (member_of p side) now out); there_is = refl })
-call-is_event p (pairs.Acknowledges side now) =
-    step-here p (member_after_acknowledge (member_of p side) now) (Acknowledge side) (record { refusal_is = refl; here_is = refl; there_is = refl })
-call-is_event p (pairs.Closes side now) =
-    step-here p (member_after_close (member_of p side) now) (Close side) (record { refusal_is = refl; here_is = refl; there_is = refl })
-call-is_event p (pairs.Aborts side now) =
-    step-here p (member_after_abort (member_of p side) now) (Abort side) (record { refusal_is = refl; here_is = refl; there_is = refl })
-call-is_event p (pairs.ResendsFirst side now) =
-    step-here p (member_after_resend_first (member_of p side) now) (ResendFirst side) (record { refusal_is = refl; here_is = refl; there_is = refl })
-call-is_event p (pairs.SetsUserTimeout side limit) = step-nowhere side p _ refl
+    (record { refusal_is = refl; here_is = sym (member-received (member_of p side) now out); there_is = λ _. refl })
+call-is_event p (pairs.Acknowledges side now) passes =
+    step-here p (member_after_acknowledge (member_of p side) now) (Acknowledge side) (record { refusal_is = refl; here_is = refl; there_is = λ _. refl })
+call-is_event p (pairs.Closes side now) passes =
+    step-here p (member_after_close (member_of p side) now) (Close side) (record { refusal_is = refl; here_is = refl; there_is = λ _. refl })
+call-is_event p (pairs.Aborts side now) passes =
+    step-here p (member_after_abort (member_of p side) now) (Abort side) (record { refusal_is = refl; here_is = refl; there_is = λ _. refl })
+call-is_event p (pairs.ResendsFirst side now) passes =
+    step-here p (member_after_resend_first (member_of p side) now) (ResendFirst side) (record { refusal_is = refl; here_is = refl; there_is = λ _. refl })
+call-is_event p (pairs.SetsUserTimeout side limit) passes = step-nowhere side p _ refl
 
 -- MANY
 more : (w : WorldState) (event : Option EventContent) (list : List EventContent) → world_after_all w (with_event event list) ≡ world_after_all (after_maybe w event) list
@@ -85,11 +105,13 @@ unfolding world_after_all
 more w None list = refl
 more w (Some event) list = refl
 
-pub calls-events : {H : Type 0} (p : Pair H) (list : List PairCall) → world_in (pair_after_all p list) ≡ world_after_all (world_in p) (events_of p list)
-unfolding pair_after_all events_of world_after_all
-calls-events p [] = refl
-calls-events p (call ∷ list) =
-    calls-events (pair_after p call) list ∙ ap (λ w. world_after_all w (events_of (pair_after p call) list)) (call-is_event p call)
+pub calls-events : {H : Type 0} (p : Pair H) (list : List PairCall) → CallsPass p list
+    → world_in (pair_after_all p list) ≡ world_after_all (world_in p) (events_of p list)
+unfolding pair_after_all events_of world_after_all CallsPass
+calls-events p [] passes = refl
+calls-events p (call ∷ list) passes =
+    calls-events (pair_after p call) list passes.1
+    ∙ ap (λ w. world_after_all w (events_of (pair_after p call) list)) (call-is_event p call passes.0)
     ∙ sym (more (world_in p) (event_of p call) (events_of (pair_after p call) list))
 
 -- THEIR BYTES
@@ -134,4 +156,4 @@ calls-bytes p (call ∷ list) all =
     with-bytes (event_of p call) (events_of (pair_after p call) list) (call-bytes p call all.0) (calls-bytes (pair_after p call) list all.1)
 
 pub calls_are_events_lem : (H : Type 0) → CallsAreEvents H
-calls_are_events_lem H p list all = (calls-bytes p list all, calls-events p list)
+calls_are_events_lem H p list none all = (calls-bytes p list all, calls-events p list (unguarded-pass p list none))

@@ -1,5 +1,5 @@
 -- TWO ENDS WITH THEIR TIMES, and what each call of theirs does (RFC 9293, 3.10): each clause of a driver's contract, for both.
-use Rattle.std.specs.Prelude.{ℕ, ◌<◌, Bool, false, ◌||◌, is_ok, List, [], ◌∷◌, ◌++◌, length, take, Option, Some, None, option_to_list, option_map, Result, Ok}
+use Rattle.std.specs.Prelude.{◌≡◌, ℕ, ◌<◌, ◌≤◌, Bool, false, ◌||◌, is_ok, List, [], ◌∷◌, ◌++◌, length, take, Option, Some, None, IfSome, option_to_list, option_map, Result, Ok}
 use Rattle.tcp_wire.specs.Checksum.{AreBytes}
 use Rattle.tcp_timing.specs.declared.rules.Rules.{Rules}
 use Rattle.tcp_driver.specs.declared.limits.Limits.{Limits}
@@ -21,6 +21,7 @@ use Rattle.tcp_end.specs.Wired.{connected, listening, machine}
 use Rattle.tcp_replay.specs.declared.event.Side.{Side}
 use Rattle.tcp_replay.specs.declared.event.Side.TheVariants.{A, B}
 use Rattle.tcp_replay.specs.declared.outcome.StepError.{StepError}
+use Rattle.tcp_progress.specs.Settled.{least_life}
 use Rattle.tcp_replay.specs.World.{PartyState, SentSegment, WorldState, both, bytes_with_damage, damage_refusal, delivery_refusal, front_taken, is_end_of_stream, other, segment_at, sent_by}
 
 -- one end with its times, what its user did and got, and every segment that it emitted
@@ -75,10 +76,10 @@ CallHasBytes other = Unit {0}
 abbrev pub drives : {H : Type 0} → Member H → Call (Wired H) → Driving (Wired H)
 drives m call = after_call machine m.driving call
 
--- AN ARRIVAL, with the true addresses
+-- AN ARRIVAL, with the true addresses, past the guard
 abbrev pub member_after_arrival : {H : Type 0} → Member H → Member H → ℕ → List ℕ → Member H
 member_after_arrival m from now bytes = record m {
-  driving = drives m (calls.Arrives now (end_of from).config.addr.0 (end_of m).config.addr.0 bytes);
+  driving = drives m (calls.Arrives now (end_of from).config.addr.0 (end_of m).config.addr.0 bytes false);
 }
 
 -- AN EMISSION into a buffer: the segment is what the buffer begins with, as long as is reported
@@ -195,3 +196,20 @@ opened_with_runs c runs peer (Listens rules limits now) = listening (end_with_ru
 
 abbrev pub opened : {H : Type 0} → Config → Peer → Opening → Result (Driving (Wired H)) CallError
 opened c peer opening = opened_with_runs c default_runs peer opening
+
+-- ---- A GUARD LETS IN WHAT LIVES (RFC 5961, 5.2) that reaches as far as segments live, for `least_life` positions or longer; and so
+-- does none
+abbrev pub LetsLive : ℕ → Option ℕ → Type 0
+LetsLive life guard = IfSome guard (λ reach. (least_life ≤ life) × (life ≤ reach))
+
+-- how far the guard of an end reaches, and of one that is opened
+abbrev pub guard_of : {H : Type 0} → Member H → Option ℕ
+guard_of m = m.driving.times.limits.guard
+
+abbrev pub guard_in : Opening → Option ℕ
+guard_in (Connects rules limits now) = limits.guard
+guard_in (Listens rules limits now) = limits.guard
+
+-- neither has one
+abbrev pub HasNoGuards : {H : Type 0} → Pair H → Type 0
+HasNoGuards p = (side : Side) → guard_of (member_of p side) ≡ None

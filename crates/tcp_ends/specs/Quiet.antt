@@ -24,7 +24,7 @@ use Rattle.tcp_progress.specs.Measure.{left_in}
 use Rattle.tcp_progress.specs.Settled.{IsLive, least_life}
 use Rattle.tcp_progress.specs.Steady.{IsSteadyPair}
 use Rattle.tcp_ends.specs.Pair as pairs
-use Rattle.tcp_ends.specs.Pair.{Member, Opening, Pair, PairCall, end_of, member_after_emission, member_of, new_member, opened, opened_with_runs, pair_of, party_in, peer_at, segment_in, world_in}
+use Rattle.tcp_ends.specs.Pair.{Member, Opening, Pair, PairCall, end_of, member_after_emission, member_of, LetsLive, guard_in, new_member, opened, opened_with_runs, pair_of, party_in, peer_at, segment_in, world_in}
 use Rattle.tcp_ends.specs.Events.{is_lost}
 use Rattle.tcp_ends.specs.Among.{Calls, Incident, happening_of, pair_after_incident, pair_after_incidents}
 use Rattle.tcp_ends.specs.Halves.{AreCalmIncidents, IsBrought}
@@ -148,6 +148,7 @@ abbrev pub TwoEndsGetThroughByQuietHalves : Type 0 → Type 0
 TwoEndsGetThroughByQuietHalves H =
     (life : ℕ) (a b : Config) (opening_a opening_b : Opening) (x y : Driving (Wired H)) (calls : List PairCall) (p : Pair H) (list : List Incident)
     → least_life ≤ life → life ≤ max_life → IsConfig a → IsConfig b → opened a (peer_at b) opening_a ≡ Ok x → opened b (peer_at a) opening_b ≡ Ok y
+    → LetsLive life (guard_in opening_a) → LetsLive life (guard_in opening_b)
     → AllByRecursion pairs.CallHasBytes calls → p ≡ pairs.pair_after_all (pair_of life (new_member x) (new_member y)) calls
     → IsLive (party_in p.a) → IsLive (party_in p.b) → HaveRoom (world_in p) → MakeQuietHalves (suc (suc (left_in (world_in p)))) p list
     → NoneDiscarded (world_in (pair_after_incidents p list)) → GotThrough (world_in p) (world_in (pair_after_incidents p list))
@@ -157,6 +158,7 @@ abbrev pub TwoEndsGetThroughByQuietHalvesWithRuns : Type 0 → Type 0
 TwoEndsGetThroughByQuietHalvesWithRuns H =
     (life : ℕ) (a b : Config) (runs_a runs_b : ℕ) (opening_a opening_b : Opening) (x y : Driving (Wired H)) (calls : List PairCall) (p : Pair H) (list : List Incident)
     → least_life ≤ life → life ≤ max_life → IsConfig a → IsConfig b → opened_with_runs a runs_a (peer_at b) opening_a ≡ Ok x → opened_with_runs b runs_b (peer_at a) opening_b ≡ Ok y
+    → LetsLive life (guard_in opening_a) → LetsLive life (guard_in opening_b)
     → AllByRecursion pairs.CallHasBytes calls → p ≡ pairs.pair_after_all (pair_of life (new_member x) (new_member y)) calls
     → IsLive (party_in p.a) → IsLive (party_in p.b) → HaveRoom (world_in p) → MakeQuietHalves (suc (suc (left_in (world_in p)))) p list
     → NoneDiscarded (world_in (pair_after_incidents p list)) → GotThrough (world_in p) (world_in (pair_after_incidents p list))

@@ -1,11 +1,11 @@
 //! The calls of an end, each with what it makes of a member of a pair: so the definitions of the laws are what the calls do.
-ghost use Rattle.std.specs.Prelude.{◌≡◌, ◌≤◌, length};
+ghost use Rattle.std.specs.Prelude.{◌≡◌, ◌≤◌, false, length};
 ghost use Rattle.tcp_driver.specs.Calls.{Arrives, after_call};
-ghost use Rattle.tcp_driver.specs.Driver.{arrival_answer, at, sent_of, written_of};
+ghost use Rattle.tcp_driver.specs.Driver.{arrival_answer, at, sent_of, way_of, written_of};
 ghost use Rattle.tcp_driver.specs.Times.{expiry};
 ghost use Rattle.tcp_conn.specs.Calls.{abort_answer, close_answer, receive_answer, send_answer};
 ghost use Rattle.tcp_conn.specs.Timers.{sends_again};
-ghost use Rattle.tcp_end.specs.Wired.{machine, read_into, taken_of};
+ghost use Rattle.tcp_end.specs.Wired.{intake_of, machine, read_into, taken_of};
 ghost use Rattle.tcp_ends.specs.Calls.{cut_out, sent_after};
 ghost use Rattle.tcp_ends.specs.Pair.{member_after_abort, member_after_acknowledge, member_after_close, member_after_emission, member_after_receive, member_after_resend_first, member_after_send, member_after_time, member_after_user_timeout, new_member};
 
@@ -22,8 +22,8 @@ pub fn arrive<A: Allocator>(
     dst: [u8; 4],
     bytes: &[u8],
 ) -> Taken<tcp_conn::Taken>
-    ensures answer { result ≡ arrival_answer machine (λ w src dst bytes. taken_of w.end src dst bytes) end.old src dst bytes.now }
-    ensures state { end.new ≡ after_call machine end.old (Arrives now src dst bytes.now) }
+    ensures answer { result ≡ arrival_answer machine (λ w src dst bytes way. taken_of (intake_of way) w.end src dst bytes) end.old src dst bytes.now (way_of end.old false) }
+    ensures state { end.new ≡ after_call machine end.old (Arrives now src dst bytes.now false) }
 {
     end.arrive(now, src, dst, bytes)
 }

@@ -4,21 +4,24 @@
 //! - [`calls_are_events`]: each list of calls of the two is a list of events of a [`World`](tcp_replay::World) of the ends
 //!   inside; what a driver withholds, or refuses while a burst is on, counts as lost.
 //! - [`two_ends_are_safe`]: so each user receives a prefix of what the other one sent, and
-//!   [`two_ends_among_strangers_are_safe`].
+//!   [`two_ends_among_strangers_are_safe`]. [`two_guarded_ends_are_safe`] among strangers who may send far more.
 //! - [`two_ends_get_through_by_halves`]: and two hosts that call in time get through. Where both emit until nothing is
 //!   left, [`two_ends_get_through_by_quiet_halves`] asks less of them. That their calls make half turns they know by
 //!   [`rests_unmoved`], [`nothing_found_is_quiet`], [`what_expired_goes_out`], [`what_is_pending_goes_at_next`] and
 //!   [`emitting_all_emits_what_is_pending`]; and that a half can begin by [`a_half_can_begin`].
 //!
-//! Each holds of ends with the default number of runs, and with any other number for each of the two.
+//! Each holds of ends with the default number of runs, and with any other number for each of the two; and of ends without a
+//! guard, or with one that reaches as far as segments live (`LetsLive`): with that of `Limits::standard()` where they live for
+//! 2^21 positions.
 //!
 //! These functions do nothing when they run: each carries the law that it ensures. The calls ([`arrive`], [`emit`] and so
 //! on) are an end's own: each has in its contract that a member of a pair is after it what the definitions of the laws say.
 #![tactic(auto)]
 
 ghost use Rattle.tcp_ends.specs.Among.{TwoEndsAmongStrangersAreSafe, TwoEndsAmongStrangersAreSafeWithRuns};
+ghost use Rattle.tcp_ends.specs.Guarded.{IncidentsHappenToGuarded, TwoGuardedEndsAreSafe};
 ghost use Rattle.tcp_ends.specs.Halves.{TwoEndsGetThroughByHalves, TwoEndsGetThroughByHalvesWithRuns};
-ghost use Rattle.tcp_ends.specs.Laws.{CallsAreEvents, TwoEndsAreSafe, TwoEndsAreSafeWithRuns};
+ghost use Rattle.tcp_ends.specs.Laws.{CallsAreEvents, GuardedCallsAreEvents, TwoEndsAreSafe, TwoEndsAreSafeWithRuns};
 ghost use Rattle.tcp_ends.specs.Quiet.{EachHalfCanBegin, EmittingAllEmitsPending, ExpiredGoesOut, PendingGoesAtNext, TwoEndsGetThroughByQuietHalves, TwoEndsGetThroughByQuietHalvesWithRuns};
 ghost use Rattle.tcp_ends.specs.Rests.{EachOpens, EachOpensWithRuns, NothingFoundIsQuiet, RestsUnmoved};
 
@@ -29,9 +32,11 @@ pub use calls::{
 };
 use std::alloc::Allocator;
 
-/// Each list of calls of two ends with their times is a list of events of the two ends inside, from whatever they are.
+/// Each list of calls of two ends with their times is a list of events of the two ends inside: without guards from whatever
+/// they are, and with guards from where they were opened, since what lives passes these.
 pub fn calls_are_events<A: Allocator>()
-    ensures { CallsAreEvents A }
+    ensures unguarded { CallsAreEvents A }
+    ensures guarded { GuardedCallsAreEvents A }
 {}
 
 /// What is delivered to each user is a prefix of what the other one sent, after every list of calls of two ends that
@@ -47,6 +52,15 @@ pub fn two_ends_are_safe<A: Allocator>()
 pub fn two_ends_among_strangers_are_safe<A: Allocator>()
     ensures usual { TwoEndsAmongStrangersAreSafe A }
     ensures with_runs { TwoEndsAmongStrangersAreSafeWithRuns A }
+{}
+
+/// With guards of one reach (RFC 5961, 5.2) strangers may send whatever a guard keeps out, too, which is far more than isn't
+/// let in without one: `few_acks_pass` and `few_numbers_pass_at_a_shut_window` of `tcp_strangers` count it. What happens to
+/// the two, whatever they are, happens in a world of two guarded ends; and two that were opened are as safe as without
+/// strangers, however far the guards reach, where segments live for 2^21 positions or longer.
+pub fn two_guarded_ends_are_safe<A: Allocator>()
+    ensures happen { IncidentsHappenToGuarded A }
+    ensures safe { TwoGuardedEndsAreSafe A }
 {}
 
 /// Calls that make as many pairs of half turns as something is left, and two, deliver all and have it acknowledged, unless

@@ -45,6 +45,7 @@ pub(crate) fn read_times(words: &[u8]) -> Result<Times, LineError> {
             handshake: time_of(handshake),
             user: time_of(user),
             fin_wait_2: time_of(fin_wait_2),
+            guard: Limits::standard().guard,
         },
     })
 }

@@ -33,6 +33,7 @@ pub(crate) fn new_driver(words: &[u8]) -> Result<Driver<Small>, LineError> {
         handshake,
         user,
         fin_wait_2,
+        guard: None,
     };
     Ok(Driver::new(end, Rules::standard(), limits, now))
 }

@@ -2,7 +2,7 @@
 ghost use Rattle.std.specs.Prelude.{◌≡◌, ◌≤◌, ◌+◌, ◌<◌, ◌^◌, IfSome, false};
 ghost use Rattle.test_driver.specs.Small.{segment};
 
-use tcp_driver::{Core, Report, Sent, Timer, Wants, holds};
+use tcp_driver::{Core, Report, Sent, Timer, Wants, Way, holds};
 
 /// The bytes of each of its segments.
 const SEGMENT: usize = 14;
@@ -21,7 +21,8 @@ const NOTHING: Report = Report {
 };
 
 /// An end that sends numbers, one in a segment. What comes to it, from anywhere, is an acknowledgement, whether the peer
-/// reports a gap, the peer's FIN, and its window: a byte each. Byte 13 has the bit RST, as in a segment of RFC 9293, 3.1.
+/// reports a gap, the peer's FIN, and its window: a byte each. Byte 13 has the bit RST, as in a segment of RFC 9293, 3.1. It
+/// has no checksum and no guard.
 #[derive(Clone, Copy, Debug, PartialEq, Eq)]
 pub struct Small {
     /// The first number that isn't acknowledged.
@@ -140,7 +141,7 @@ impl Core for Small {
 
     ghost abort_answer = { λ s. is_open s };
 
-    ghost arrival_answer = { λ s src dst bytes. is_open s };
+    ghost arrival_answer = { λ s src dst bytes way. is_open s };
 
     fn wants(&self) -> Wants {
         Wants {
@@ -178,7 +179,7 @@ impl Core for Small {
         }
     }
 
-    fn arrive(&mut self, _src: [u8; 4], _dst: [u8; 4], bytes: &[u8]) -> (Report, bool) {
+    fn arrive(&mut self, _src: [u8; 4], _dst: [u8; 4], bytes: &[u8], _way: Way) -> (Report, bool) {
         let [ack, gap, fin, window, ..] = bytes else {
             return (NOTHING, !self.is_over);
         };

@@ -1,5 +1,6 @@
 //! What is reported of a segment that arrives, and of one that goes out.
 use crate::answers::Arrival;
+use crate::connection::reach_of;
 use crate::{sys, Addr, End, EMIT_ROOM};
 use core::fmt;
 
@@ -255,6 +256,17 @@ impl End {
     pub fn arrive_vouched(&mut self, src: Addr, dst: Addr, segment: &[u8]) -> (Arrival, bool) {
         let taken = self.arrive_vouched_with_report(src, dst, segment);
         (taken.arrival, taken.at_once)
+    }
+
+    /// As [`End::arrive_with_report`], past a guard against segments of somebody who sees nothing of the connection (RFC 5961, 5.2), as
+    /// [`Rules::guard`](crate::Rules::guard) has it: `None` is no guard. A segment for which a device vouches isn't summed. What the guard
+    /// keeps out is passed over, and an acknowledgement is due.
+    pub fn arrive_by(&mut self, src: Addr, dst: Addr, segment: &[u8], guard: Option<u32>, is_vouched: bool) -> ArriveReport {
+        let (src, dst, mut told) = (sys::Addr { byte: src }, sys::Addr { byte: dst }, sys::ArriveReport::default());
+        let intake = sys::Intake { guard: reach_of(guard), is_vouched: is_vouched.into(), ..Default::default() };
+        let (bytes, length) = (segment.as_ptr().cast(), segment.len());
+        let answer = unsafe { sys::tcpcore_arrive_by(&mut self.raw, src, dst, bytes, length, &intake, &mut told) };
+        ArriveReport::of(answer, &told)
     }
 
     /// As [`End::emit`]: the same bytes, and the same end behind it. Reports what the segment is, where it begins, and how much text it

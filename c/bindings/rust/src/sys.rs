@@ -2,7 +2,7 @@
 use core::ffi::c_void;
 use core::ptr;
 
-pub(crate) const VERSION: u32 = 12;
+pub(crate) const VERSION: u32 = 13;
 pub(crate) const END_SIZE: usize = 416;
 pub(crate) const CONNECTION_SIZE: usize = 720;
 pub(crate) const RUN_SIZE: usize = 8;
@@ -62,6 +62,14 @@ pub struct Status {
     pub snd_nxt: u64,
     pub closing: u32,
     pub finished: u32,
+    pub reserved: [u32; 6],
+}
+
+#[repr(C)]
+#[derive(Clone, Copy, Default)]
+pub struct Intake {
+    pub guard: u32,
+    pub is_vouched: u32,
     pub reserved: [u32; 6],
 }
 
@@ -168,7 +176,8 @@ pub struct ConnectionRules {
     pub user: u64,
     pub fin_wait_2: u64,
     pub suspect_after: u32,
-    pub reserved: [u32; 13],
+    pub guard: u32,
+    pub reserved: [u32; 12],
 }
 
 #[repr(C)]
@@ -210,6 +219,15 @@ extern "C" {
         dst: Addr,
         bytes: *const c_void,
         length: usize,
+        report: *mut ArriveReport,
+    ) -> u32;
+    pub fn tcpcore_arrive_by(
+        end: *mut End,
+        src: Addr,
+        dst: Addr,
+        bytes: *const c_void,
+        length: usize,
+        intake: *const Intake,
         report: *mut ArriveReport,
     ) -> u32;
     pub fn tcpcore_emit(end: *mut End, out: *mut c_void, room: usize, to: *mut Addr, length: *mut usize) -> u32;
@@ -264,6 +282,15 @@ extern "C" {
     pub fn tcpcore_connection_poll_at(connection: *const Connection, at: *mut u64) -> u32;
     pub fn tcpcore_connection_timeout(connection: *mut Connection, now: u64, timer: *mut u32) -> u32;
     pub fn tcpcore_connection_arrive(
+        connection: *mut Connection,
+        now: u64,
+        src: Addr,
+        dst: Addr,
+        bytes: *const c_void,
+        length: usize,
+        report: *mut ArriveReport,
+    ) -> u32;
+    pub fn tcpcore_connection_arrive_vouched(
         connection: *mut Connection,
         now: u64,
         src: Addr,
@@ -388,6 +415,7 @@ mod tests {
                 reserved
             ),
             places!(ArriveReport, "struct tcpcore_arrive_report", at_once, rule, acked, brought, is_duplicate, window_taken, reserved),
+            places!(Intake, "struct tcpcore_intake", guard, is_vouched, reserved),
             places!(Transmit, "struct tcpcore_transmit", to, kind, length, position, count, reserved),
             places!(
                 TimeWait,
@@ -428,6 +456,7 @@ mod tests {
                 user,
                 fin_wait_2,
                 suspect_after,
+                guard,
                 reserved
             ),
             places!(ConnectionSegment, "struct tcpcore_connection_segment", length, position, count, to, reserved),

@@ -268,6 +268,50 @@ fn peers_are_known() {
     assert_eq!(ends[1].peer(), Some((ADDRS[0], 1)));
 }
 
+/// A segment of somebody who knows the server's address and port and the client's, without a checksum (RFC 9293, 3.1).
+fn blind(seq: u32, ack: u32, text: &[u8]) -> Vec<u8> {
+    let ports_and_numbers = [&[0, 2, 0, 1][..], &seq.to_be_bytes(), &ack.to_be_bytes()].concat();
+    [&ports_and_numbers[..], &[5 << 4, 0x10, 4, 0, 0, 0, 0, 0], text].concat()
+}
+
+/// An acknowledgement more than the guard's reach behind SND.UNA comes with nothing that is taken (RFC 5961, 5.2); without a guard it does
+/// (RFC 9293, 3.10.7.4, fifth).
+#[test]
+fn a_guard_keeps_out_what_is_blind() {
+    let now = seconds(1);
+    for (rules, reach) in
+        [(Rules::new(), Some(1 << 21)), (Rules::new().guard(Some(5_000_000)), Some(5_000_000)), (Rules::new().guard(None), None)]
+    {
+        let mut ends = pair(&rules, now);
+        exchange(&mut ends, now);
+        let (status, behind) = (ends[0].status(), reach.unwrap_or(1 << 21));
+        assert_eq!((status.phase, status.snd_una), (Phase::Established, 1));
+        let mut take = |segment: &[u8]| ends[0].handle_vouched_segment(now, ADDRS[1], ADDRS[0], segment).unwrap().arrival;
+        let first = take(&blind(1001, 1001_u32.wrapping_sub(behind + 1), b"x"));
+        assert_eq!(first, if reach.is_none() { Arrival::Taken } else { Arrival::Dropped });
+        let next = if reach.is_none() { 1002 } else { 1001 };
+        assert_eq!(take(&blind(next, 1001_u32.wrapping_sub(behind), b"y")), Arrival::Taken);
+        let summed = ends[0].handle_segment(now, ADDRS[1], ADDRS[0], &blind(next + 1, 1001, b"z")).unwrap();
+        assert_eq!(summed.arrival, Arrival::Malformed(Malformed::BadChecksum));
+    }
+}
+
+/// The same of an end, whose guard is that of each call.
+#[test]
+fn an_end_is_guarded_by_its_calls() {
+    let (mut a, mut b, mut room) = (Boxed::new(&config(0)).unwrap(), Boxed::new(&config(1)).unwrap(), [0; EMIT_ROOM]);
+    b.listen().unwrap();
+    a.connect(ADDRS[1], 2).unwrap();
+    for turn in 0..3 {
+        let (from, to) = if turn % 2 == 0 { (&mut a, &mut b) } else { (&mut b, &mut a) };
+        let (dst, segment) = from.emit(&mut room).unwrap();
+        assert_eq!(to.arrive_by(ADDRS[turn % 2], dst, segment, Some(Rules::GUARD), false).arrival, Arrival::Taken);
+    }
+    let old = blind(1001, 1000_u32.wrapping_sub(1 << 21), b"x");
+    assert_eq!(a.arrive_by(ADDRS[1], ADDRS[0], &old, Some(Rules::GUARD), true).rule, Some(Rule::Unacceptable));
+    assert_eq!(a.arrive_by(ADDRS[1], ADDRS[0], &old, None, true).rule, Some(Rule::Taken));
+}
+
 /// Between an expiry and its emissions nothing is taken.
 #[test]
 fn what_is_due_goes_out_first() {
@@ -447,12 +491,15 @@ fn any_calls_at_any_times() {
                 }
                 4..=6 if !seen.is_empty() => {
                     let (from, mut bytes) = seen[seen.len() - 1 - any.below(seen.len().min(8) as u64) as usize].clone();
-                    if any.below(4) == 0 {
+                    let (src, dst) = if any.below(8) > 0 { (ADDRS[from], ADDRS[1 - from]) } else { (ADDRS[side], [0; 4]) };
+                    let taken = if any.below(4) == 0 {
                         let at = any.below(bytes.len() as u64) as usize;
                         bytes[at] ^= 1 << any.below(8);
-                    }
-                    let (src, dst) = if any.below(8) > 0 { (ADDRS[from], ADDRS[1 - from]) } else { (ADDRS[side], [0; 4]) };
-                    first += u32::from(ends[side].handle_segment(now, src, dst, &bytes).is_err());
+                        ends[side].handle_segment(now, src, dst, &bytes)
+                    } else {
+                        ends[side].handle_vouched_segment(now, src, dst, &bytes)
+                    };
+                    first += u32::from(taken.is_err());
                 }
                 7 => drop(ends[side].handle_timeout(now)),
                 8 => given[side] += ends[side].send(now, &text(side, given[side]..given[side] + 500)).unwrap_or(0),

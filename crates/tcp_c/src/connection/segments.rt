@@ -1,7 +1,7 @@
 //! Segments that come in and go out, each at its time.
-ghost use Rattle.std.specs.Prelude.{◌≡◌, length, option_map};
+ghost use Rattle.std.specs.Prelude.{◌≡◌, false, length, option_map, true};
 ghost use Rattle.tcp_conn.specs.Timers.{after_resend_first};
-ghost use Rattle.tcp_driver.specs.Driver.{after_arrival, at};
+ghost use Rattle.tcp_driver.specs.Driver.{after_arrival, at, way_of};
 ghost use Rattle.tcp_end.specs.Wired.{machine};
 ghost use Rattle.tcp_c.specs.Answers.{answer_of};
 ghost use Rattle.tcp_c.specs.Connections.{arrival_told, emission_told, emitted_within, end_of, no_segment, report_told, segment_reported, segment_told, sent_number, taken_by, taken_report, used, written_within};
@@ -29,9 +29,9 @@ fn arrival_told(taken: Taken<tcp_conn::Taken>) -> (u32, CArriveReport)
 }
 
 /// Takes bytes that came from `src` to `dst` at `now`, with the report of
-/// [`tcp_c_arrive_with_report`](crate::tcp_c_arrive_with_report), and answers as that does (RFC 9293, 3.10.7). But 58 where
-/// a timer has expired and what was due then has to go out first, and 59 for a reset that counts as lost (RFC 1337, 3): then
-/// nothing changes, and the report is all zero.
+/// [`tcp_c_arrive_with_report`](crate::tcp_c_arrive_with_report), and answers as that does (RFC 9293, 3.10.7). What the guard of
+/// the rules keeps out counts as unacceptable (RFC 5961, 5.2). 58 where a timer has expired and what was due then has to go out
+/// first, and 59 for a reset that counts as lost (RFC 1337, 3): then nothing changes, and the report is all zero.
 #[unsafe(no_mangle)]
 pub extern "C" fn tcp_c_connection_arrive(
     handle: &mut DrivenHandle,
@@ -41,15 +41,41 @@ pub extern "C" fn tcp_c_connection_arrive(
     bytes: &[u8],
     report: &mut CArriveReport,
 ) -> u32
-    ensures answer { result ≡ answer_of (λ d. arrival_told (taken_by d src.now.byte dst.now.byte bytes.now)) handle.old.held.end }
-    ensures report { report.new ≡ report_told src.now.byte dst.now.byte bytes.now handle.old.held.end }
-    ensures state { handle.new.held.end ≡ option_map (λ d. record { end = after_arrival machine d.end (at d.end now) src.now.byte dst.now.byte bytes.now }) handle.old.held.end }
+    ensures answer { result ≡ answer_of (λ d. arrival_told (taken_by false d src.now.byte dst.now.byte bytes.now)) handle.old.held.end }
+    ensures report { report.new ≡ report_told false src.now.byte dst.now.byte bytes.now handle.old.held.end }
+    ensures state { handle.new.held.end ≡ option_map (λ d. record { end = after_arrival machine d.end (at d.end now) src.now.byte dst.now.byte bytes.now (way_of d.end false) }) handle.old.held.end }
 {
     let Some(mut driven) = handle.take() else {
         *report = no_arrive_report();
         return NO_END;
     };
     let taken = driven.end.arrive(now, src.byte, dst.byte, bytes);
+    handle.put(driven);
+    let (answer, found) = arrival_told(taken);
+    *report = found;
+    answer
+}
+
+/// Takes bytes whose checksum a device has found right as [`tcp_c_connection_arrive`] does, and doesn't sum them (RFC 9293, 3.1). The
+/// answer is never 3.
+#[unsafe(no_mangle)]
+pub extern "C" fn tcp_c_connection_arrive_vouched(
+    handle: &mut DrivenHandle,
+    now: u64,
+    src: &CAddr,
+    dst: &CAddr,
+    bytes: &[u8],
+    report: &mut CArriveReport,
+) -> u32
+    ensures answer { result ≡ answer_of (λ d. arrival_told (taken_by true d src.now.byte dst.now.byte bytes.now)) handle.old.held.end }
+    ensures report { report.new ≡ report_told true src.now.byte dst.now.byte bytes.now handle.old.held.end }
+    ensures state { handle.new.held.end ≡ option_map (λ d. record { end = after_arrival machine d.end (at d.end now) src.now.byte dst.now.byte bytes.now (way_of d.end true) }) handle.old.held.end }
+{
+    let Some(mut driven) = handle.take() else {
+        *report = no_arrive_report();
+        return NO_END;
+    };
+    let taken = driven.end.arrive_vouched(now, src.byte, dst.byte, bytes);
     handle.put(driven);
     let (answer, found) = arrival_told(taken);
     *report = found;

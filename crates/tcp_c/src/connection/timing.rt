@@ -76,6 +76,36 @@ pub extern "C" fn tcp_c_connection_timeout(
     DONE
 }
 
+/// It is `now`: as [`tcp_c_connection_timeout`], and reports when it has to be called next, as [`tcp_c_connection_poll_at`]
+/// behind it.
+#[unsafe(no_mangle)]
+pub extern "C" fn tcp_c_connection_tick(
+    handle: &mut DrivenHandle,
+    now: u64,
+    timer: &mut u32,
+    next: &mut u64,
+) -> u32
+    ensures answer { result ≡ answer_of (λ d. due_number (expiry d.end.times (at d.end now))) handle.old.held.end }
+    ensures timer { timer.new ≡ number_written (λ d. timer_told (expiry d.end.times (at d.end now))) handle.old.held.end }
+    ensures next { next.new ≡ number_written (λ d. time_number (next_expiry (after_time machine d.end (at d.end now)).times)) handle.old.held.end }
+    ensures state { handle.new.held.end ≡ option_map (λ d. record { end = after_time machine d.end (at d.end now) }) handle.old.held.end }
+{
+    *timer = 0;
+    *next = 0;
+    let Some(mut driven) = handle.take() else {
+        return NO_END;
+    };
+    let found = driven.end.timeout(now);
+    let soonest = driven.end.poll_at();
+    handle.put(driven);
+    *next = time_number(soonest);
+    let Some(found) = found else {
+        return NOTHING_DUE;
+    };
+    *timer = timer_number(found);
+    DONE
+}
+
 /// Sets the user timeout: how long what was sent may be without an answer before the connection is aborted, of which the time that
 /// has passed already counts (RFC 9293, 3.8.3 and 3.10.2); 2^64 - 1 is forever. A SYN has the limit of the rules.
 #[unsafe(no_mangle)]

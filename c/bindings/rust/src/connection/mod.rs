@@ -3,6 +3,7 @@ mod making;
 mod rules;
 
 pub use making::{connection_memory, connection_memory_with_runs};
+pub(crate) use rules::reach_of;
 pub use rules::Rules;
 
 use crate::answers::{done, EmitFirst, Error, Expired, Phase, Received, Status, EMIT_FIRST};
@@ -95,7 +96,8 @@ pub struct Segment<'r> {
 }
 
 impl Connection<'_> {
-    /// A segment has come from one address to the other (RFC 9293, 3.10.7), without its IPv4 header. Answers what became of it.
+    /// A segment has come from one address to the other (RFC 9293, 3.10.7), without its IPv4 header. Answers what became of it. What the
+    /// guard keeps out ([`Rules::guard`]) is passed over, and an acknowledgement is due.
     ///
     /// # Errors
     /// [`EmitFirst`], from a [`Connection::handle_timeout`] that found a timer on, until [`Connection::poll_transmit`] has nothing: a segment
@@ -106,6 +108,19 @@ impl Connection<'_> {
         let (raw, bytes) = (self.raw.as_ptr(), segment.as_ptr().cast());
         // SAFETY: here and below: the struct holds a connection, and lies where that was made; buffers are Rust's own.
         match unsafe { sys::tcpcore_connection_arrive(raw, now.as_micros(), src, dst, bytes, segment.len(), &mut told) } {
+            EMIT_FIRST => Err(EmitFirst),
+            answer => Ok(ArriveReport::of(answer, &told)),
+        }
+    }
+
+    /// As [`Connection::handle_segment`], of a segment whose checksum a device has found right: it isn't summed.
+    ///
+    /// # Errors
+    /// As of [`Connection::handle_segment`].
+    pub fn handle_vouched_segment(&mut self, now: Time, src: Addr, dst: Addr, segment: &[u8]) -> Result<ArriveReport, EmitFirst> {
+        let (src, dst, mut told) = (sys::Addr { byte: src }, sys::Addr { byte: dst }, sys::ArriveReport::default());
+        let (raw, bytes) = (self.raw.as_ptr(), segment.as_ptr().cast());
+        match unsafe { sys::tcpcore_connection_arrive_vouched(raw, now.as_micros(), src, dst, bytes, segment.len(), &mut told) } {
             EMIT_FIRST => Err(EmitFirst),
             answer => Ok(ArriveReport::of(answer, &told)),
         }

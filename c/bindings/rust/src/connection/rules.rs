@@ -3,8 +3,8 @@ use crate::sys;
 use crate::time::micros;
 use core::time::Duration;
 
-/// How the retransmission timeout of a connection is made (RFC 6298, 2 and 5), and how long it waits (RFC 9293, 3.8.3). Whole
-/// microseconds count.
+/// How the retransmission timeout of a connection is made (RFC 6298, 2 and 5), how long it waits (RFC 9293, 3.8.3), and what its guard
+/// keeps out (RFC 5961, 5.2). Whole microseconds count.
 ///
 /// ```
 /// use std::time::Duration;
@@ -29,9 +29,20 @@ pub(crate) const fn limit(duration: Option<Duration>) -> u64 {
     }
 }
 
+/// How far a guard reaches, as C has it.
+pub(crate) const fn reach_of(reach: Option<u32>) -> u32 {
+    match reach {
+        Some(reach) => reach,
+        None => u32::MAX,
+    }
+}
+
 impl Rules {
+    /// How far the guard reaches by default: two of the greatest windows.
+    pub const GUARD: u32 = 1 << 21;
+
     /// The values of the standards, with a clock of milliseconds, 60 s as the greatest timeout, 3 minutes for a SYN, a user timeout of 5
-    /// minutes, and FIN-WAIT-2 without a limit.
+    /// minutes, FIN-WAIT-2 without a limit, and a guard that reaches [`Rules::GUARD`] numbers.
     pub const fn new() -> Rules {
         Rules(sys::ConnectionRules {
             first: 1_000_000,
@@ -44,7 +55,8 @@ impl Rules {
             user: 300_000_000,
             fin_wait_2: NEVER,
             suspect_after: 3,
-            reserved: [0; 13],
+            guard: Rules::GUARD,
+            reserved: [0; 12],
         })
     }
 
@@ -106,6 +118,15 @@ impl Rules {
     /// After so many timeouts in a row the path is suspect, and before them no connection is given up: 3 or more (RFC 9293, 3.8.3).
     pub const fn suspect_after(mut self, timeouts: u32) -> Rules {
         self.0.suspect_after = timeouts;
+        self
+    }
+
+    /// How far the guard against segments of somebody who sees nothing of the connection reaches (RFC 5961, 5.2): how many sequence numbers
+    /// behind SND.UNA the acknowledgement of a segment may lie that is taken, and while the window is shut how many behind RCV.NXT its own
+    /// number may. [`Rules::GUARD`] or more: below it, what the peer sent may be kept out. `None` is no guard, as `Some(u32::MAX)`
+    /// is, and `Some(0)` is [`Rules::GUARD`].
+    pub const fn guard(mut self, reach: Option<u32>) -> Rules {
+        self.0.guard = reach_of(reach);
         self
     }
 }

@@ -1,5 +1,5 @@
-use Rattle.std.proofs.Common.{Some, ap, option_map, ◌∙◌}
-use Rattle.tcp_end.proofs.Within.{after_within_same, sent_within, under, written_within}
+use Rattle.std.proofs.Common.{Some, ap, option_map, sym, ◌∙◌}
+use Rattle.tcp_end.proofs.Within.{after_within_same, idle, sent_within, under, written_within}
 use Rattle.tcp_end.proofs.wired.WiredCore.transmit_within.Goals as goal
 use Rattle.tcp_end.specs.Wired.{sent_by}
 
@@ -22,3 +22,7 @@ returns-clause-written g c = c.transmit_within.ensures.bytes ∙ written_within 
 
 pub returns-clause-state : goal.returns-clause-state
 returns-clause-state g c = ap under c.transmit_within.ensures.state ∙ after_within_same c.args.self.now c.args.window
+
+pub returns-in_err-sent-clause-idle : goal.returns-in_err-sent-clause-idle
+returns-in_err-sent-clause-idle g c none =
+    ap under c.transmit_within.ensures.state ∙ idle c.args.self.now c.args.window (sym c.in_err-sent.ensures.report)

@@ -1,0 +1,189 @@
+"""The connections of tcpcore.py: ends with their timers."""
+
+from __future__ import annotations
+
+import ctypes
+from collections import deque
+from typing import Optional
+
+from tcpcore._ends import Held, config_struct
+from tcpcore._library import (
+    EMIT_FIRST, REFUSALS, Answer, ArriveReportStruct, ConnectionRulesStruct, ConnectionSegmentStruct, EndStruct, Refused, address,
+    arrive_report_of, library, microseconds, number, octets, reach,
+)
+from tcpcore._records import EMIT_ROOM, NEVER, Address, ArriveReport, Buffer, Config, Emission, Rules, Timer
+
+
+def limit(time: Optional[float]) -> int:
+    """A limit as the library has it."""
+    return NEVER if time is None else microseconds(time)
+
+
+def rules_struct(rules: Rules) -> ConnectionRulesStruct:
+    """The C struct of the rules of a connection."""
+    return ConnectionRulesStruct(
+        first=microseconds(rules.first),
+        least=microseconds(rules.least),
+        greatest=microseconds(rules.greatest),
+        granularity=microseconds(rules.granularity),
+        after_syn=microseconds(rules.after_syn),
+        time_wait=microseconds(rules.time_wait),
+        handshake=limit(rules.handshake),
+        user=limit(rules.user),
+        fin_wait_2=limit(rules.fin_wait_2),
+        suspect_after=number("the number of timeouts", rules.suspect_after, 32),
+        guard=reach(rules.guard),
+    )
+
+
+class Connection(Held):
+    """One end with its timers: the retransmission timeout by measured round trips (RFC 6298), losses that the peer's blocks show (RFC 2018),
+    TIME-WAIT and the user timeout (RFC 9293, 3.8.3). It has no clock: each call is told `now`, in seconds from any beginning, such as
+    time.monotonic(); a time that goes back counts as the latest before it.
+
+    A program does this until the phase is CLOSED, and then emits once more:
+
+        send(connection.emit_all(now))
+        while connection.timeout(now) is not None:
+            send(connection.emit_all(now))
+        # Wait for a segment, or until connection.poll_at(), and look at the clock.
+        connection.arrive(now, source, destination, segment)  # of each segment that came
+        data = connection.receive(now)  # and whatever else the user wants
+
+    It is freed once its phase is CLOSED and nothing is due. A call that is refused is raised as `Refused`, so also each that follows `free`.
+    Threads, `room` and freeing are as of an End.
+
+    It has no congestion control (RFC 5681): a program whose path may be congested sets `window`, and `emit` then holds back what ends more than
+    so many numbers past SND.UNA, unless nothing before it is in flight. None, the default, leaves the peer's window alone in force."""
+
+    noun = "a connection"
+    window: Optional[int] = None
+
+    def __init__(
+        self, now: float, config: Config, peer: Optional[tuple[Address, int]] = None, rules: Rules = Rules(), room: int = 1 << 16
+    ) -> None:
+        """Opens a connection to the peer's address and port, or waits for one where that is None: as `connect` and `listen`."""
+        told, ruled, at, calls = config_struct(config), rules_struct(rules), microseconds(now), library()
+        to = None if peer is None else (address(peer[0]), number("the port", peer[1], 16))
+        self.prepare({name[11:]: call for name, call in calls.items() if name.startswith("connection_")}, room)
+        self.at, self.expired = ctypes.c_uint64(), ctypes.c_uint32()
+        self.emitted, self.reported = ConnectionSegmentStruct(), ArriveReportStruct()
+        # What an arrival had to have emitted before it, for the next emissions.
+        self.first: deque[tuple[Emission, bytes]] = deque()
+        # All of the end lies in it, as long as this object keeps it.
+        size = self.calls["room"](told)
+        self.memory = ctypes.create_string_buffer(size)
+        self.end = EndStruct()
+        if to is None:
+            self.ask("listen", told, ruled, at, self.memory, size)
+        else:
+            self.ask("connect", told, ruled, *to, at, self.memory, size)
+
+    @classmethod
+    def connect(
+        cls, now: float, config: Config, addr: Address, port: int, rules: Rules = Rules(), room: int = 1 << 16
+    ) -> Connection:
+        """A connection that is opened to this address and port at `now` (RFC 9293, 3.10.1): its SYN is due."""
+        return cls(now, config, (addr, port), rules, room)
+
+    @classmethod
+    def listen(cls, now: float, config: Config, rules: Rules = Rules(), room: int = 1 << 16) -> Connection:
+        """A connection that waits for one peer from `now` on (RFC 9293, 3.10.1)."""
+        return cls(now, config, None, rules, room)
+
+    def poll_at(self) -> Optional[float]:
+        """When `timeout` has to be called, if nothing else happens before: None where no timer runs. It may have passed: then it is now."""
+        self.ask("poll_at", self.at)
+        return None if self.at.value == NEVER else self.at.value / 1e6
+
+    def timeout(self, now: float) -> Optional[Timer]:
+        """The timer that has expired, whose rule is applied (RFC 9293, 3.10.8), or None. Emit all that is due behind it: no other timer expires
+        before. Behind Timer.USER the connection is aborted."""
+        return Timer(self.expired.value) if self.finds("timeout", microseconds(now), self.expired) else None
+
+    def arrive(self, now: float, src: Address, dst: Address, data: Buffer) -> Answer:
+        """What became of a segment that has come from `src` to `dst`. Where a timer has expired and what was due then isn't emitted yet, that
+        is emitted first, and the next calls of `emit` hand it over."""
+        return self.comes("arrive", now, src, dst, data)
+
+    def comes(self, name: str, now: float, src: Address, dst: Address, data: Buffer) -> Answer:
+        """What this call, `arrive` or `arrive_vouched`, makes of a segment."""
+        source, destination, data, time = address(src), address(dst), octets(data), microseconds(now)
+        answer = self.calls[name](self.end, time, source, destination, data, len(data), self.reported)
+        if answer == EMIT_FIRST:
+            self.first.extend(iter(lambda: self.written(time), None))
+            answer = self.calls[name](self.end, time, source, destination, data, len(data), self.reported)
+        if answer in REFUSALS:
+            raise Refused(answer)
+        return Answer(answer)
+
+    def arrive_vouched(self, now: float, src: Address, dst: Address, data: Buffer) -> Answer:
+        """`arrive` of a segment whose checksum a device has found right: it isn't summed."""
+        return self.comes("arrive_vouched", now, src, dst, data)
+
+    def arrive_with_report(self, now: float, src: Address, dst: Address, data: Buffer) -> tuple[Answer, ArriveReport]:
+        """The same, and what the segment is to the end."""
+        return self.arrive(now, src, dst, data), arrive_report_of(self.reported)
+
+    def written(self, time: int) -> Optional[tuple[Emission, bytes]]:
+        """A segment that the library writes."""
+        window = NEVER if self.window is None else number("the window", self.window, 64)
+        if not self.finds("emit", time, window, self.segment, EMIT_ROOM, self.emitted):
+            return None
+        told = self.emitted
+        emission = Emission(bytes(told.to.byte), told.length, told.position, told.count)
+        return emission, ctypes.string_at(self.segment, told.length)
+
+    def transmit(self, now: float) -> Optional[tuple[Emission, bytes]]:
+        """What the segment is that is due, and its bytes, or None."""
+        time = microseconds(now)
+        if not self.first:
+            return self.written(time)
+        # It is refused where the end was freed.
+        self.ask("poll_at", self.at)
+        return self.first.popleft()
+
+    def emit(self, now: float) -> Optional[tuple[bytes, bytes]]:
+        """The address and the bytes of a segment that is due, or None."""
+        found = self.transmit(now)
+        return None if found is None else (found[0].to, found[1])
+
+    def emit_all(self, now: float) -> list[tuple[bytes, bytes]]:
+        """`emit` until nothing is due: the addresses and the bytes of the segments."""
+        return list(iter(lambda: self.emit(now), None))
+
+    def send(self, now: float, text: Buffer) -> int:
+        """How many bytes were taken. Where it takes fewer, offer the others once `released` of the status has grown."""
+        text = octets(text)
+        self.ask("send", microseconds(now), text, len(text), self.count)
+        return self.count.value
+
+    def receive(self, now: float) -> Optional[bytes]:
+        """Bytes, b"" at the end of the stream, None where there is nothing yet."""
+        return self.read(microseconds(now))
+
+    def consume(self, now: float, count: int) -> int:
+        """Takes the first unread bytes away, at most so many: how many they were."""
+        self.ask("consume", microseconds(now), number("the count", count, 8 * ctypes.sizeof(ctypes.c_size_t)), self.count)
+        return self.count.value
+
+    def acknowledge(self, now: float) -> None:
+        """Makes an acknowledgement due, which tells the peer of the window behind what was read."""
+        self.ask("acknowledge", microseconds(now))
+
+    def close(self, now: float) -> None:
+        """This side has no more to send."""
+        self.ask("close", microseconds(now))
+
+    def abort(self, now: float) -> None:
+        self.ask("abort", microseconds(now))
+
+    def set_user_timeout(self, time: Optional[float]) -> None:
+        """Sets the user timeout in the place of `user` of the rules (RFC 9293, 3.8.3), in seconds; None is no limit. The time that has passed
+        already counts, so that `poll_at` may be another then."""
+        self.ask("set_user_timeout", limit(time))
+
+    def resend_first(self, now: float) -> bool:
+        """Whether anything is in flight: then the first segment of it must be sent again at once, for a program that finds losses before the
+        timers do (RFC 5681, 3.2; RFC 6675, 5)."""
+        return self.finds("resend_first", microseconds(now))
