@@ -7,8 +7,10 @@ ghost use Rattle.tcp_wire.specs.Wire.{max_text_len};
 ghost use Rattle.tcp_conn.specs.Judgement.{count_numbers};
 ghost use Rattle.tcp_wire.specs.Position.{distance};
 ghost use Rattle.tcp_judge.specs.Heard.{is_scale, any_scale, is_permission, any_permission, goes_on, begins, is_of_came, carries_ack, is_further, spans_of, may_open, syns_of};
+ghost use Rattle.tcp_judge.specs.Rules.{ack_rule};
 ghost use Rattle.tcp_judge.specs.Run.{any_within};
 
+use crate::finding::Finding;
 use crate::lookup::is_from;
 use crate::spans::Spans;
 use std::alloc::{AllocError, Allocator};
@@ -153,6 +155,22 @@ pub(crate) fn standing<A: Allocator + Copy>(
             (goes_on || begins, is_from(last, acked_number) || begins)
         }
         None => (begins, true),
+    }
+}
+
+/// The rule that an acknowledgement breaks of what didn't come, with the furthest one before it.
+pub(crate) fn ack_rule(last: Option<Seq>, acked_number: Seq) -> Finding
+    ensures { result ≡ ack_rule last acked_number.0 }
+{
+    match last {
+        Some(last) => {
+            if is_from(last, acked_number) {
+                Finding::AckBeyond(acked_number)
+            } else {
+                Finding::AckBack(acked_number, last)
+            }
+        }
+        None => Finding::AckBeyond(acked_number),
     }
 }
 

@@ -6,7 +6,7 @@ ghost use Rattle.tcp_wire.specs.View.{raw_content};
 ghost use Rattle.tcp_wire.specs.Wire.{max_text_len};
 ghost use Rattle.tcp_judge.specs.Known.{nothing_known, is_syn, initial_after, place_of, is_keep_alive, known_after, count_acked, acks_syn, known_with};
 ghost use Rattle.tcp_judge.specs.Heard.{acks_beyond, is_further, goes_further, acked_number_after, after_went};
-ghost use Rattle.tcp_judge.specs.Rules.{initial_by, early_by, ack_rule, fin_by, fin_finding, form_finding, text_finding, position_finding, report_finding, heard_finding};
+ghost use Rattle.tcp_judge.specs.Rules.{initial_by, early_by, fin_by, fin_finding, form_finding, text_finding, position_finding, report_finding, heard_finding};
 ghost use Rattle.tcp_judge.specs.Judgement.{finding_read, known_read, known_came, finding_at, known_past};
 ghost use Rattle.tcp_judge.specs.Log.{passage_content};
 ghost use Rattle.tcp_judge.specs.Taken.{taken_of};
@@ -14,7 +14,7 @@ ghost use Rattle.tcp_judge.specs.Taken.{taken_of};
 use crate::finding::Finding;
 use crate::form::form_finding;
 use crate::heard::{
-    carries_ack, keep_span, keep_syn, offers_sack, offers_scale, oversteps, standing,
+    ack_rule, carries_ack, keep_span, keep_syn, offers_sack, offers_scale, oversteps, standing,
 };
 use crate::lookup::is_from;
 use crate::passage::Passage;
@@ -128,22 +128,6 @@ fn early_by(known: Option<Seq>, place: u64, segment: &RawSegment<'_>) -> Option<
         return Some(Finding::BeforeFirst(segment.header.seq));
     }
     None
-}
-
-/// The rule that an acknowledgement breaks of what didn't come, with the furthest one before it.
-fn ack_rule(last: Option<Seq>, acked_number: Seq) -> Finding
-    ensures { result ≡ ack_rule last acked_number.0 }
-{
-    match last {
-        Some(last) => {
-            if is_from(last, acked_number) {
-                Finding::AckBeyond(acked_number)
-            } else {
-                Finding::AckBack(acked_number, last)
-            }
-        }
-        None => Finding::AckBeyond(acked_number),
-    }
 }
 
 impl Judge {
