@@ -39,8 +39,9 @@ pub fn a_blind_injection_is_calm()
 {}
 
 /// A guard that reaches as far as segments live keeps out nothing that a world delivers (RFC 5961, 5.2): no segment that
-/// the peer emitted, and whose lifetime isn't over, whatever strangers sent meanwhile. A segment with a byte changed is
-/// found by its checksum before any guard looks at it.
+/// the peer emitted, and whose lifetime isn't over, whatever strangers sent meanwhile that isn't let in. A segment with a
+/// byte changed is found by its checksum before any guard looks at it. That the same holds where the ends have guards, and
+/// strangers send more, is said of each event (`as_without` of `guarded_ends_are_safe_and_go_on`).
 pub fn what_lives_passes_a_guard()
     ensures { WhatLivesPasses }
 {}
