@@ -52,6 +52,16 @@ impl<A: Allocator> fmt::Debug for Spans<A> {
     }
 }
 
+/// Whether one of the runs isn't all before an acknowledgement. It decides what is looked up how, and no answer.
+fn any_stays(runs: &[(Seq, u32)], acked_number: Seq) -> bool {
+    for run in runs {
+        if !is_passed(acked_number, *run) {
+            return true;
+        }
+    }
+    false
+}
+
 /// Forgets all runs, where they have to be joined anew.
 fn clear_if<A: Allocator>(anew: bool, runs: &mut Vec<(Seq, u32), A>)
     ensures { (last : ℕ) (spans : List (Seq × ℕ)) → All (IsRun last spans) runs.old.items → All (IsRun last spans) runs.new.items }
@@ -183,7 +193,7 @@ impl<A: Allocator + Copy> Spans<A> {
         let is_same = acked_number.0 == self.acked_number.0;
         let clean = if is_same { self.clean } else { 0 };
         // What was behind the last acknowledgement may be ahead of this one, as behind a SYN: all is joined to runs anew.
-        let is_turned = !is_same && !self.older.is_empty();
+        let is_turned = !is_same && any_stays(self.older.as_slice(), acked_number);
         let waiting = self.list.len().saturating_sub(self.added);
         remove_passed(&mut self.list, clean, acked_number);
         clear_if(is_turned, &mut self.runs);
