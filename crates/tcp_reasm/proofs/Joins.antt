@@ -53,7 +53,7 @@ ranked_falls (run ∷ others) = (ranked_below (suc (length others)) others (omeg
 
 -- ---- what touches
 
-touch_tells : (piece run : Run) → touches piece run ≡ true → (run.from ≤ piece.to) × (piece.from ≤ run.to)
+pub touch_tells : (piece run : Run) → touches piece run ≡ true → (run.from ≤ piece.to) × (piece.from ≤ run.to)
 touch_tells piece run e = (grind (arith, nat_tests), grind (arith, nat_tests))
 
 no_touch : (piece run : Run) → touches piece run ≡ false → piece.from ≤ run.to → run.from ≤ piece.to → ⊥
@@ -121,7 +121,7 @@ union_wraps union piece (run ∷ others) =
       | false ↦ union_wraps union piece others
     ]
 
-stamp_union : (union piece : Run) (all : List Run) → (union_of union piece all).stamp ≡ union.stamp
+pub stamp_union : (union piece : Run) (all : List Run) → (union_of union piece all).stamp ≡ union.stamp
 stamp_union union piece [] = refl
 stamp_union union piece (run ∷ others) =
     elim (touches piece run) as (λ b. (union_of (if b then joined union run else union) piece others).stamp ≡ union.stamp) [

@@ -1,17 +1,26 @@
 pub mod Agreement
 pub mod Beginnings
+pub mod Changes
 pub mod Choices
 pub mod Described
 mod Examples
+pub mod Fields
+pub mod Freed
 pub mod Gaps
 pub mod Joins
 pub mod Laying
+pub mod Links
 pub mod Maximal
 pub mod Newest
+pub mod Orders
 pub mod Placing
+pub mod Puts
 pub mod Ranks
 pub mod Rings
+pub mod Rises
+pub mod Searches
 pub mod Sorting
 pub mod Steps
+pub mod Tables
 pub mod Turns
 pub mod Views

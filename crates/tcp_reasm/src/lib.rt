@@ -18,4 +18,5 @@ mod piece;
 mod placed;
 mod reassembly;
 mod ring;
+mod rows;
 mod table;

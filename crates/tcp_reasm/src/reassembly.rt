@@ -1,12 +1,13 @@
-ghost use Rattle.std.specs.Prelude.{vec_capacity, ◌≡◌, ◌≢◌, ◌↔◌, ◌⊎◌, ◌<◌, ◌≤◌, ◌+◌, ◌++◌, ◌≤ℤ◌, ◌<ℤ◌, ℕ, ℤ, pos, negsuc, min, length, take, drop, OnErr, IfOk, None, if◌then◌else◌, nat_le, []};
+ghost use Rattle.std.specs.Prelude.{vec_capacity, ◌≡◌, ◌≢◌, ◌↔◌, ◌⊎◌, ◌<◌, ◌≤◌, ◌+◌, ◌++◌, ◌≤ℤ◌, ◌<ℤ◌, ℕ, suc, ℤ, pos, negsuc, min, length, take, drop, OnErr, IfOk, None, if◌then◌else◌, nat_le, []};
 ghost use Rattle.tcp_reasm.specs.Reassembly.{max_capacity, IsInbox, Inbox, empty_inbox, empty_with_runs, greatest_runs, window, piece, after_place, place_answer, after_read, without_held, blocks, runs, max_blocks, max_text_len, with_overlay, bytes_in_order, answer_for};
 ghost use Rattle.tcp_reasm.specs.Laws.{cell_at, KeepsBytes, TakesPiece, LeavesOthers, EndsAtMissing};
+ghost use Rattle.tcp_reasm.specs.Rows.{newest, IsTable};
 ghost use Rattle.tcp_reasm.specs.Store.{inbox_of, runs_in, IsKept, overlay_at, has_too_many};
 
 use crate::lay::lay;
 use crate::piece::piece_of;
 use crate::ring::Ring;
-use crate::table::{Run, count_rest, edges_of, leave_rest, union_of};
+use crate::table::{Run, Table};
 use crate::{Placed, ReasmError};
 use arrayvec::ArrayVec;
 use std::alloc::{Allocator, Global};
@@ -26,27 +27,29 @@ const MAX_BLOCKS: usize = 4;
 
 /// A peer's text: the bytes that came in order and wait for the user, and those that came out of order and are kept
 /// until the bytes before them come (RFC 9293, 3.10.7.4). Only making it allocates: one block of the capacity, which isn't
-/// touched before bytes come, and one for the table of the runs that are kept out of order, 8 bytes each. The first is a
-/// ring, in which a byte is written once, at its offset, and isn't moved when it comes in order.
+/// touched before bytes come, and one for the table of the runs that are kept out of order, 16 bytes each and 16 more. The
+/// first is a ring, in which a byte is written once, at its offset, and isn't moved when it comes in order. No call costs
+/// more where more runs are kept but for a search by halves, and for two bytes to be moved of each run behind one that
+/// comes or goes.
 #[derive(Debug, Drop)]
 pub struct Reassembly<A: Allocator = Global> {
     /// As many bytes as are unread or inside the window, from 1 to [`MAX_CAPACITY`]: the unread bytes are first, and
     /// the window's after them.
     ring: Ring<A>,
     /// How many bytes came in order and aren't read yet.
-    unread: usize,
+    unread: u32,
     /// The greatest number of runs that are kept out of order, from 1 to [`MAX_RUNS`].
-    most_runs: usize,
+    most_runs: u32,
     /// The runs that are kept out of order, the newest first. No two of them touch. It has room for all.
-    table: Vec<Run, A>,
+    table: Table<A>,
 }
 
 impl<A: Allocator> Model for Reassembly<A> {
     ghost Value = { Inbox };
 
-    ghost view = { λ r. inbox_of r.most_runs r.ring.bytes r.unread r.table.items };
+    ghost view = { λ r. inbox_of r.most_runs r.ring.bytes r.unread (newest r.table.base r.table.len r.table.rows.items) };
 
-    ghost invariant = { λ r. IsKept r.most_runs r.ring.bytes r.unread (runs_in r.table.items) × (r.unread ≤ r.ring.ready) × (r.most_runs ≤ vec_capacity r.table) };
+    ghost invariant = { λ r. IsKept r.most_runs r.ring.bytes r.unread (runs_in (newest r.table.base r.table.len r.table.rows.items)) × (r.unread ≤ r.ring.ready) × (suc r.most_runs ≤ vec_capacity r.table.rows) × IsTable r.table.base r.table.len r.table.rows.items };
 }
 
 impl Reassembly {
@@ -115,13 +118,13 @@ impl<A: Allocator> Reassembly<A> {
         let Ok(ring) = Ring::new_in(bytes, capacity) else {
             return Err(ReasmError::NoMemory);
         };
-        let Ok(table) = Vec::with_capacity(table, runs) else {
+        let Ok(table) = Table::new_in(table, runs) else {
             return Err(ReasmError::NoMemory);
         };
         Ok(Reassembly {
             ring,
             unread: 0,
-            most_runs: runs,
+            most_runs: runs as u32,
             table,
         })
     }
@@ -145,7 +148,7 @@ impl<A: Allocator> Reassembly<A> {
         ensures within { result ≤ self.now.capacity }
         ensures most { self.now.capacity ≤ max_capacity }
     {
-        self.unread
+        self.unread as usize
     }
 
     /// The receive window in bytes: how many after the unread ones are accepted (RFC 9293, 3.3.1).
@@ -156,7 +159,7 @@ impl<A: Allocator> Reassembly<A> {
         ensures places { length self.now.held ≡ result }
         ensures most { self.now.capacity ≤ max_capacity }
     {
-        (self.ring.len() - self.unread) as u32
+        (self.ring.len() - self.unread as usize) as u32
     }
 
     /// Takes a text whose first byte is at `offset` from RCV.NXT, and reports what became of it (RFC 9293, 3.10.7.4).
@@ -180,7 +183,7 @@ impl<A: Allocator> Reassembly<A> {
         ensures missing { EndsAtMissing self.new }
     {
         let (start, text) = piece_of(offset, text);
-        let window = self.ring.len() - self.unread;
+        let window = self.ring.len() - self.unread as usize;
         if text.is_empty() || window <= start {
             return Placed::NotKept;
         }
@@ -221,12 +224,13 @@ impl<A: Allocator> Reassembly<A> {
             from: 0,
             to: text.len() as u32,
         };
-        let count = union_of(&self.table, piece).to;
-        let unread = self.unread;
-        lay(&mut self.ring, unread, &self.table, 0, text);
+        let past = self.table.touched_first(piece);
+        let count = self.table.union_of(0, past, piece).to;
+        let unread = self.unread as usize;
+        lay(&mut self.ring, unread, &self.table, 0, 0, text);
         self.ring.reach(unread + count as usize);
-        leave_rest(&mut self.table, piece, count);
-        self.unread += count as usize;
+        self.table.advance(past, piece, count);
+        self.unread += count;
         count as usize
     }
 
@@ -246,14 +250,13 @@ impl<A: Allocator> Reassembly<A> {
             from: start as u32,
             to: (start + text.len()) as u32,
         };
-        if count_rest(&self.table, piece) >= self.most_runs {
+        let (first, past) = self.table.touched(piece);
+        if self.table.len() - (past - first) >= self.most_runs as usize {
             return false;
         }
-        let union = union_of(&self.table, piece);
-        let unread = self.unread;
-        lay(&mut self.ring, unread, &self.table, start, text);
-        leave_rest(&mut self.table, piece, 0);
-        let _ = self.table.insert(0, union);
+        let unread = self.unread as usize;
+        lay(&mut self.ring, unread, &self.table, first, start, text);
+        self.table.put(first, past, piece);
         true
     }
 
@@ -265,7 +268,7 @@ impl<A: Allocator> Reassembly<A> {
         ensures sound { IsInbox self.new }
         ensures after { self.new ≡ after_read self.old (length out.old) }
     {
-        let count = out.len().min(self.unread);
+        let count = out.len().min(self.unread as usize);
         self.ring.copy(&mut out[..count]);
         self.consume(out.len())
     }
@@ -276,7 +279,7 @@ impl<A: Allocator> Reassembly<A> {
         ensures bytes { result.0.now ++ result.1.now ≡ self.now.unread }
         ensures front { 0 < length self.now.unread → 0 < length result.0.now }
     {
-        self.ring.lend(self.unread)
+        self.ring.lend(self.unread as usize)
     }
 
     /// Removes the first unread bytes, at most `most` of them, and returns their count.
@@ -286,8 +289,8 @@ impl<A: Allocator> Reassembly<A> {
         ensures sound { IsInbox self.new }
         ensures after { self.new ≡ after_read self.old most }
     {
-        let count = most.min(self.unread);
-        self.unread -= count;
+        let count = most.min(self.unread as usize);
+        self.unread -= count as u32;
         // Where nothing is left the next byte goes to the start of the block: for a user who keeps up, little of the
         // block is touched, however much comes.
         if self.unread == 0 && self.table.is_empty() {
@@ -308,8 +311,7 @@ impl<A: Allocator> Reassembly<A> {
         ensures few { length (runs self.now.held) ≤ self.now.most_runs }
         ensures missing { cell_at self.now.held 0 ≡ None }
     {
-        let count = self.table.len().min(MAX_BLOCKS);
-        edges_of(&self.table.as_slice()[..count])
+        self.table.edges()
     }
 
     /// How many blocks there are: the runs that are kept out of order, at most four (RFC 2018, 4).

@@ -73,7 +73,7 @@ fn is_want_of_memory(number: u8) -> Option<bool> {
 
 /// How many heaps are too small: each is 16 bytes larger than the one before, and none is refused for anything else.
 fn count_refusals(alloc: Global, kind: Kind) -> Option<usize> {
-    for blocks in 0..64usize {
+    for blocks in 0..96usize {
         let heap = LocalHeap::new(alloc, blocks * 16).ok()?;
         if is_made(&heap, kind)? {
             return Some(blocks);

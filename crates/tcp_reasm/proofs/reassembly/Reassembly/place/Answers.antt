@@ -1,3 +1,4 @@
+use Rattle.tcp_reasm.specs.Rows.{newest}
 use Rattle.tcp_reasm.specs.Reassembly.{IsInbox}
 use Rattle.tcp_reasm.proofs.Views.{kept_sound}
 use Rattle.std.proofs.Common.{◌≡◌, ◌⊎◌, ◌<◌, ◌≤◌, ◌-◌, ℕ, List, w64, arith, ap, sym, subst, ◌∙◌, inl, inr, take, length}
@@ -26,7 +27,7 @@ outside g c =
     let same_offset = to_z-of_z w64 c.args.offset c.ranges.offset in
     let is_start : c.piece_of-start.result.0 ≡ (piece c.args.offset c.args.text.now).start = c.piece_of-start.ensures.start ∙ ap (λ o. (piece o c.args.text.now).start) same_offset in
     let is_rest : c.piece_of-start.result.1.now ≡ (piece c.args.offset c.args.text.now).text = c.piece_of-start.ensures.text ∙ ap (λ o. (piece o c.args.text.now).text) same_offset in
-    let wide : length q.held ≡ length c.self.inside.ring.bytes - c.self.inside.unread = seen_held c.self.inside.ring.bytes c.self.inside.unread c.self.inside.table.items q c.self.view_is in
+    let wide : length q.held ≡ length c.self.inside.ring.bytes - c.self.inside.unread = seen_held c.self.inside.ring.bytes c.self.inside.unread (newest c.self.inside.table.base c.self.inside.table.len c.self.inside.table.rows.items) q c.self.view_is in
     let is_outside : (length (piece c.args.offset c.args.text.now).text ≡ 0) ⊎ (length q.held ≤ (piece c.args.offset c.args.text.now).start) =
     elim c.then-is_empty.branch [
       | then-is_empty-via-then-is_empty w ↦ inl (ap length (sym is_rest) ∙ is_zero (length c.piece_of-start.result.1.now) (sym c.is_empty.ensures ∙ w.if-is_empty.true))
@@ -44,7 +45,7 @@ pub returns-then-is_empty-clause-missing : goal.returns-then-is_empty-clause-mis
 returns-then-is_empty-clause-missing g c =
     ends_at_missing c.args.self.now
     (sym (ap (λ (q : Inbox). cell_at q.held 0) c.self.view_is)
-    ∙ missing_view c.self.inside.ring.bytes c.self.inside.unread c.self.inside.table.items c.self.invariant.0.inside)
+    ∙ missing_view c.self.inside.ring.bytes c.self.inside.unread (newest c.self.inside.table.base c.self.inside.table.len c.self.inside.table.rows.items) c.self.invariant.0.inside)
 
 -- some of the text lies inside the window
 inside : (g : _) (c : goal.After-keep g) → (c.keep.new.self ≡ after_place c.args.self.now c.args.offset c.args.text.now) × (c.keep.result ≡ place_answer c.args.self.now c.args.offset c.args.text.now)
@@ -55,7 +56,7 @@ inside g c =
     let rest : List ℕ = c.piece_of-start.result.1.now in
     let is_start : start ≡ (piece c.args.offset c.args.text.now).start = c.piece_of-start.ensures.start ∙ ap (λ o. (piece o c.args.text.now).start) same_offset in
     let is_rest : rest ≡ (piece c.args.offset c.args.text.now).text = c.piece_of-start.ensures.text ∙ ap (λ o. (piece o c.args.text.now).text) same_offset in
-    let wide : length q.held ≡ length c.self.inside.ring.bytes - c.self.inside.unread = seen_held c.self.inside.ring.bytes c.self.inside.unread c.self.inside.table.items q c.self.view_is in
+    let wide : length q.held ≡ length c.self.inside.ring.bytes - c.self.inside.unread = seen_held c.self.inside.ring.bytes c.self.inside.unread (newest c.self.inside.table.base c.self.inside.table.len c.self.inside.table.rows.items) q c.self.view_is in
     let is_count : c.min.result ≡ min (length q.held - start) (length rest) = omega (arith, wide, c.min.ensures) in
     place_view q c.keep.new.self c.args.offset c.args.text.now start rest (take c.min.result rest) c.keep.result is_start is_rest
     (ap (λ n. take n rest) is_count) (above_zero (length rest) (sym c.is_empty.ensures ∙ c.if-is_empty.false)) (omega (arith, wide))
@@ -74,8 +75,8 @@ returns-clause-kept g c =
 pub returns-clause-taken : goal.returns-clause-taken
 returns-clause-taken g c =
     let q : Inbox = c.args.self.now in
-    let wide : length q.held ≡ length c.self.inside.ring.bytes - c.self.inside.unread = seen_held c.self.inside.ring.bytes c.self.inside.unread c.self.inside.table.items q c.self.view_is in
-    let seen = seen_parts c.self.inside.ring.bytes c.self.inside.unread c.self.inside.table.items q c.self.view_is c.self.invariant.0.fits in
+    let wide : length q.held ≡ length c.self.inside.ring.bytes - c.self.inside.unread = seen_held c.self.inside.ring.bytes c.self.inside.unread (newest c.self.inside.table.base c.self.inside.table.len c.self.inside.table.rows.items) q c.self.view_is in
+    let seen = seen_parts c.self.inside.ring.bytes c.self.inside.unread (newest c.self.inside.table.base c.self.inside.table.len c.self.inside.table.rows.items) q c.self.view_is c.self.invariant.0.fits in
     λ kept. subst (λ (new : Inbox). TakesPiece q new (piece c.args.offset c.args.text.now)) (sym (returns-clause-after g c))
     (after_place-takes q c.args.offset c.args.text.now (omega (arith, wide, seen.0, seen.1)) (λ refused. kept (returns-clause-answer g c ∙ refused)))
 
@@ -89,8 +90,8 @@ returns-clause-missing g c =
     subst (λ (new : Inbox). EndsAtMissing new) (sym (returns-clause-after g c))
     (after_place-missing c.args.self.now c.args.offset c.args.text.now
     (sym (ap (λ (q : Inbox). cell_at q.held 0) c.self.view_is)
-    ∙ missing_view c.self.inside.ring.bytes c.self.inside.unread c.self.inside.table.items c.self.invariant.0.inside))
+    ∙ missing_view c.self.inside.ring.bytes c.self.inside.unread (newest c.self.inside.table.base c.self.inside.table.len c.self.inside.table.rows.items) c.self.invariant.0.inside))
 
 pub returns-then-is_empty-clause-sound : goal.returns-then-is_empty-clause-sound
 returns-then-is_empty-clause-sound g c =
-    subst IsInbox c.self.view_is (kept_sound c.self.inside.ring.bytes c.self.inside.unread c.self.inside.table.items c.self.invariant.0)
+    subst IsInbox c.self.view_is (kept_sound c.self.inside.ring.bytes c.self.inside.unread (newest c.self.inside.table.base c.self.inside.table.len c.self.inside.table.rows.items) c.self.invariant.0)
