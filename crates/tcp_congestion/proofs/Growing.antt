@@ -4,8 +4,8 @@ use Rattle.std.specs.Prelude.{min, max, nat_le, nat_lt, ◌==◌, if◌then◌el
 use Rattle.std.proofs.Math.Nat.{mul-le-mul_left}
 use Rattle.std.proofs.lemmas.Bool.Decides.{nat_tests}
 use Rattle.tcp_congestion.specs.Sizes.{max_window}
-use Rattle.tcp_congestion.specs.Reno.{Window, IsWindow, with_progress, is_used, avoided, slow_started, grown, after_growth, after_recovering, is_third, recovered, deflated, begun, halved, inflated, limited}
-use Rattle.tcp_congestion.specs.Growth.{Acknowledgement, AvoidanceIsSlow, GrowthIsAcknowledged, LossShrinks, FlightStaysInWindow, ResendsStayInWindow, after_acks, total as total_of}
+use Rattle.tcp_congestion.specs.Reno.{Window, IsWindow, with_progress, is_used, avoided, slow_started, grown, after_growth, after_recovering, is_new_loss, is_third, after_loss, recovered, deflated, begun, halved, inflated, limited}
+use Rattle.tcp_congestion.specs.Growth.{Acknowledgement, AllShortOf, AvoidanceIsSlow, Event, Acknowledges, Duplicates, Reports, Loses, IsShortOf, OneLossAWindow, after_event, after_events, GrowthIsAcknowledged, LossShrinks, FlightStaysInWindow, ResendsStayInWindow, after_acks, total as total_of}
 
 -- so far: it grew this many times, and what was acknowledged is used up or kept
 record Grew (w v : Window) (total : ℕ) : Type 0 where
@@ -155,7 +155,7 @@ acknowledged_lem w acks is calm = let b = (grew-at-most w acks is calm).both in 
 -- ---- a loss
 third : (w : Window) (snd_una flight snd_nxt : ℕ) (recovering is_third_one : Bool) → (if recovering then false else is_third_one) ≡ true
     → (if recovering then inflated w
-    else (if is_third_one then begun (halved w flight) snd_nxt else record w { duplicates = min 3 (w.duplicates + 1) })).cwnd
+    else (if is_third_one then begun (halved w flight) 3 snd_nxt else record w { duplicates = min 3 (w.duplicates + 1) })).cwnd
     ≤ max (flight / 2) (2 * w.smss) + 3 * w.smss
 third w snd_una flight snd_nxt true b e = absurd (cc)
 third w snd_una flight snd_nxt false true e = omega arith
@@ -204,4 +204,71 @@ resends_lem w flight snd_nxt count is = record {
   most = λ may. let less : w.resent < w.cwnd = grind (arith, nat_tests, may) in omega (arith, less);
   first = nothing-resent w.smss is.positive;
   alone = λ full. let l = is.least in let m = is.most in one-resent w.smss count (omega (arith, l, m)) full;
+}
+
+-- ---- one loss a window
+found-by : (w : Window) (flight snd_nxt : ℕ) (b : Bool) → b ≡ true → w.duplicates ≤ 3
+    → (if b then begun (halved w flight) w.duplicates snd_nxt else w).cwnd ≤ max (flight / 2) (2 * w.smss) + 3 * w.smss
+found-by w flight snd_nxt true e few =
+    let more : w.smss * w.duplicates ≤ w.smss * 3 = mul-le-mul_left w.smss few in omega (arith, more)
+found-by w flight snd_nxt false e few = absurd (cc)
+
+new-by : (w : Window) (snd_una : ℕ) (b : Bool) → (if b then false else nat_le w.recover snd_una) ≡ true → w.recover ≤ snd_una
+new-by w snd_una true e = absurd (cc)
+new-by w snd_una false e = grind (arith, nat_tests, e)
+
+kept-by : (w x : Window) (b : Bool) → b ≡ false → (if b then x else w) ≡ w
+kept-by w x true e = absurd (cc)
+kept-by w x false e = refl
+
+-- the recovery of a loss goes on
+record IsRepaired (v : Window) (ssthresh snd_nxt : ℕ) : Type 0 where
+  threshold : v.ssthresh ≡ ssthresh
+  recover : v.recover ≡ snd_nxt
+  going : v.is_recovering ≡ true
+
+begins : (w : Window) (flight snd_nxt : ℕ) (b : Bool) → b ≡ true
+    → IsRepaired (if b then begun (halved w flight) w.duplicates snd_nxt else w) (if b then begun (halved w flight) w.duplicates snd_nxt else w).ssthresh snd_nxt
+begins w flight snd_nxt true e = record { threshold = refl; recover = refl; going = refl }
+begins w flight snd_nxt false e = absurd (cc)
+
+partial : (v x : Window) (acked snd_una flight ssthresh snd_nxt : ℕ) (b before : Bool) → v.is_recovering ≡ b → nat_lt snd_una v.recover ≡ before
+    → snd_una < snd_nxt → IsRepaired v ssthresh snd_nxt
+    → IsRepaired (if b then (if before then deflated (with_progress v acked) acked else recovered (with_progress v acked) flight) else x) ssthresh snd_nxt
+partial v x acked snd_una flight ssthresh snd_nxt false before e f short h = let g = h.going in absurd (cc)
+partial v x acked snd_una flight ssthresh snd_nxt true true e f short h = record { threshold = h.threshold; recover = h.recover; going = e }
+partial v x acked snd_una flight ssthresh snd_nxt true false e f short h = let r = h.recover in absurd (grind (arith, nat_tests, f, short, r))
+
+inflating : (v x : Window) (ssthresh snd_nxt : ℕ) (b : Bool) → v.is_recovering ≡ b → IsRepaired v ssthresh snd_nxt
+    → IsRepaired (if b then inflated v else x) ssthresh snd_nxt
+inflating v x ssthresh snd_nxt true e h = record { threshold = h.threshold; recover = h.recover; going = e }
+inflating v x ssthresh snd_nxt false e h = let g = h.going in absurd (cc)
+
+not-new : (v x : Window) (c : Bool) (ssthresh snd_nxt : ℕ) (b : Bool) → v.is_recovering ≡ b → IsRepaired v ssthresh snd_nxt
+    → IsRepaired (if (if b then false else c) then x else v) ssthresh snd_nxt
+not-new v x c ssthresh snd_nxt true e h = h
+not-new v x c ssthresh snd_nxt false e h = let g = h.going in absurd (cc)
+
+repairs : (v : Window) (ssthresh snd_nxt : ℕ) (event : Event) → IsShortOf snd_nxt event → IsRepaired v ssthresh snd_nxt
+    → IsRepaired (after_event v event) ssthresh snd_nxt
+repairs v ssthresh snd_nxt (Acknowledges acked snd_una flight) short h =
+    partial v _ acked snd_una flight ssthresh snd_nxt v.is_recovering (nat_lt snd_una v.recover) refl refl short h
+repairs v ssthresh snd_nxt (Duplicates snd_una flight snd_nxt') short h = inflating v _ ssthresh snd_nxt v.is_recovering refl h
+repairs v ssthresh snd_nxt Reports short h = inflating v _ ssthresh snd_nxt v.is_recovering refl h
+repairs v ssthresh snd_nxt (Loses snd_una flight snd_nxt') short h = not-new v _ (nat_le v.recover snd_una) ssthresh snd_nxt v.is_recovering refl h
+
+all-repair : (v : Window) (ssthresh snd_nxt : ℕ) (events : List Event) → AllShortOf snd_nxt events → IsRepaired v ssthresh snd_nxt
+    → IsRepaired (after_events v events) ssthresh snd_nxt
+all-repair v ssthresh snd_nxt [] short h = h
+all-repair v ssthresh snd_nxt (event ∷ earlier) short h =
+    repairs (after_events v earlier) ssthresh snd_nxt event (short.0) (all-repair v ssthresh snd_nxt earlier (short.1) h)
+
+pub one_lem : OneLossAWindow
+one_lem w snd_una flight snd_nxt is = record {
+  found = λ e. found-by w flight snd_nxt (is_new_loss w snd_una) e is.duplicates;
+  new = new-by w snd_una w.is_recovering;
+  kept = kept-by w _ (is_new_loss w snd_una);
+  once = λ events e short.
+      (all-repair (after_loss w snd_una flight snd_nxt) (after_loss w snd_una flight snd_nxt).ssthresh snd_nxt events short
+      (begins w flight snd_nxt (is_new_loss w snd_una) e)).threshold;
 }

@@ -1,4 +1,6 @@
 mod Growing
+mod Roots
+mod CubicGrowing
 mod Apart
 mod Late
 mod Silly

@@ -1,6 +1,6 @@
 -- How the window grows and shrinks (RFC 5681, 3), over many acknowledgements.
 use Rattle.std.specs.Prelude.{◌≡◌, ℕ, ◌+◌, ◌*◌, ◌/◌, ◌<◌, ◌≤◌, max, true, false, List, [], ◌∷◌}
-use Rattle.tcp_congestion.specs.Reno.{Window, IsWindow, after_acknowledgement, after_duplicate, after_timeout, after_resent, begins_recovery, may_resend, room_of}
+use Rattle.tcp_congestion.specs.Reno.{Window, IsWindow, after_acknowledgement, after_duplicate, after_loss, after_report, after_timeout, after_resent, begins_recovery, is_new_loss, may_resend, room_of}
 
 -- an acknowledgement: what it acknowledges anew, up to which position, and what is in flight behind it
 pub record Acknowledgement : Type 0 where
@@ -47,6 +47,47 @@ pub record Shrinks (w : Window) (snd_una flight snd_nxt : ℕ) : Type 0 where
 
 abbrev pub LossShrinks : Type 0
 LossShrinks = (w : Window) (snd_una flight snd_nxt : ℕ) → Shrinks w snd_una flight snd_nxt
+
+-- what happens to a window, but for a timeout
+pub data Event : Type 0 where
+  Acknowledges : ℕ → ℕ → ℕ → Event
+  Duplicates : ℕ → ℕ → ℕ → Event
+  Reports : Event
+  Loses : ℕ → ℕ → ℕ → Event
+
+abbrev pub after_event : Window → Event → Window
+after_event w (Acknowledges acked snd_una flight) = after_acknowledgement w acked snd_una flight
+after_event w (Duplicates snd_una flight snd_nxt) = after_duplicate w snd_una flight snd_nxt
+after_event w Reports = after_report w
+after_event w (Loses snd_una flight snd_nxt) = after_loss w snd_una flight snd_nxt
+
+abbrev pub after_events : Window → List Event → Window
+after_events w [] = w
+after_events w (event ∷ earlier) = after_event (after_events w earlier) event
+
+-- none of these acknowledges all before a position
+abbrev pub IsShortOf : ℕ → Event → Type 0
+IsShortOf position (Acknowledges acked snd_una flight) = snd_una < position
+IsShortOf position (Duplicates snd_una flight snd_nxt) = Unit {0}
+IsShortOf position Reports = Unit {0}
+IsShortOf position (Loses snd_una flight snd_nxt) = Unit {0}
+
+abbrev pub AllShortOf : ℕ → List Event → Type 0
+AllShortOf position [] = Unit {0}
+AllShortOf position (event ∷ earlier) = IsShortOf position event × AllShortOf position earlier
+
+-- ONE LOSS A WINDOW (RFC 5681, 4.3): a loss that blocks or a probe found shrinks the window to half of what was in flight, or two
+-- segments, and three segments; and until all that was in flight then is acknowledged ssthresh stays, whatever else is found or comes
+pub record IsOneLoss (w : Window) (snd_una flight snd_nxt : ℕ) : Type 0 where
+  pub found : is_new_loss w snd_una ≡ true → (after_loss w snd_una flight snd_nxt).cwnd ≤ max (flight / 2) (2 * w.smss) + 3 * w.smss
+  pub new : is_new_loss w snd_una ≡ true → w.recover ≤ snd_una
+  pub kept : is_new_loss w snd_una ≡ false → after_loss w snd_una flight snd_nxt ≡ w
+  pub once :
+      (events : List Event) → is_new_loss w snd_una ≡ true → AllShortOf snd_nxt events
+      → (after_events (after_loss w snd_una flight snd_nxt) events).ssthresh ≡ (after_loss w snd_una flight snd_nxt).ssthresh
+
+abbrev pub OneLossAWindow : Type 0
+OneLossAWindow = (w : Window) (snd_una flight snd_nxt : ℕ) → IsWindow w → IsOneLoss w snd_una flight snd_nxt
 
 -- RESENDS STAY IN THE WINDOW (RFC 5681, 3.1): who sends a segment again when it may has no more than a window of it in flight, and that
 -- segment; and behind a timeout none beside the first until something is acknowledged

@@ -1,6 +1,10 @@
 pub mod Sizes
 pub mod Reno
+pub mod Root
+pub mod Cubic
+pub mod Control
 pub mod Growth
+pub mod CubicGrowth
 pub mod Limiter
 pub mod DelayedAck
 pub mod SwsAvoidance

@@ -1,11 +1,13 @@
 -- The congestion window (RFC 5681, 3 and 4.1; RFC 6582, 3.2; RFC 3042, 2). All sizes are bytes, and positions count from the SYN, which
 -- is at 0, in the direction of what is sent (RFC 9293, 3.4). `flight` is FlightSize: what was sent and isn't acknowledged.
 use Rattle.std.specs.Prelude.{ℕ, ◌+◌, ◌-◌, ◌*◌, ◌/◌, ◌<◌, ◌≤◌, ◌==◌, min, max, Bool, true, false, nat_lt, nat_le, if◌then◌else◌}
-use Rattle.tcp_congestion.specs.Sizes.{max_segment, max_window}
+use Rattle.tcp_congestion.specs.Sizes.{max_limit, max_segment, max_window}
 
 pub record Window : Type 0 where
   -- SMSS, of a full segment
   pub smss : ℕ
+  -- L in segments: so much an acknowledgement counts at most in the first slow start (RFC 3465, 2.2)
+  pub limit : ℕ
   pub cwnd : ℕ
   pub ssthresh : ℕ
   -- acknowledged towards the next segment of congestion avoidance
@@ -25,10 +27,12 @@ pub record Window : Type 0 where
 abbrev pub initial_window : ℕ → ℕ
 initial_window smss = min (10 * smss) (max (2 * smss) 14600)
 
--- ssthresh is arbitrarily high (RFC 5681, 3.1), and recover is the initial sequence number (RFC 6582, 3.2, 1)
+-- ssthresh is arbitrarily high (RFC 5681, 3.1), recover is the initial sequence number (RFC 6582, 3.2, 1), and an acknowledgement counts
+-- for a segment at most (RFC 5681, 3.1, equation 2)
 abbrev pub new_window : ℕ → Window
 new_window smss = record {
   smss = smss;
+  limit = 1;
   cwnd = initial_window smss;
   ssthresh = max_window;
   bytes_acked = 0;
@@ -39,11 +43,19 @@ new_window smss = record {
   resent = 0;
 }
 
+-- the same with another limit
+abbrev pub new_window_with : ℕ → ℕ → Window
+new_window_with smss limit = record (new_window smss) { limit = limit }
+
 -- ---- how it grows
 
--- SLOW START (RFC 5681, 3.1, equation 2): cwnd += min (N, SMSS)
+-- L (RFC 3465, 2.2 and 2.3): behind a loss it is a segment, since an acknowledgement may cover there what had come long before
+abbrev pub limit_of : Window → ℕ
+limit_of w = if w.ssthresh == max_window then w.limit * w.smss else w.smss
+
+-- SLOW START (RFC 5681, 3.1, equation 2; RFC 3465, 2.2): cwnd += min (N, L)
 abbrev pub slow_started : Window → ℕ → Window
-slow_started w acked = record w { cwnd = min max_window (w.cwnd + min acked w.smss) }
+slow_started w acked = record w { cwnd = min max_window (w.cwnd + min acked (limit_of w)) }
 
 -- CONGESTION AVOIDANCE (RFC 5681, 3.1; RFC 3465, 2.1): cwnd += SMSS once a window was acknowledged
 abbrev pub avoided : Window → ℕ → Window
@@ -69,10 +81,11 @@ after_growth w acked flight = if is_used w acked flight then grown w acked else 
 abbrev pub halved : Window → ℕ → Window
 halved w flight = record w { ssthresh = max (min flight w.cwnd / 2) (2 * w.smss) }
 
--- FAST RECOVERY BEGINS (RFC 5681, 3.2, 3; RFC 6582, 3.2, 2): cwnd = ssthresh + 3 * SMSS, and recover is set
-abbrev pub begun : Window → ℕ → Window
-begun w snd_nxt = record w {
-  cwnd = w.ssthresh + 3 * w.smss;
+-- RECOVERY BEGINS (RFC 5681, 3.2, 3; RFC 6582, 3.2, 2): cwnd = ssthresh, and a segment for each that is known to have left the
+-- network, as three duplicates say of three; and recover is set
+abbrev pub begun : Window → ℕ → ℕ → Window
+begun w left snd_nxt = record w {
+  cwnd = w.ssthresh + left * w.smss;
   bytes_acked = 0;
   recover = snd_nxt;
   is_recovering = true;
@@ -120,18 +133,35 @@ is_third w snd_una = if w.duplicates == 2 then nat_lt w.recover snd_una else fal
 abbrev pub begins_recovery : Window → ℕ → Bool
 begins_recovery w snd_una = if w.is_recovering then false else is_third w snd_una
 
+-- one that isn't says that a segment has left the network
+abbrev pub counted : Window → Window
+counted w = record w { duplicates = min 3 (w.duplicates + 1) }
+
 abbrev pub after_counting : Window → ℕ → ℕ → ℕ → Window
 after_counting w snd_una flight snd_nxt =
-    if is_third w snd_una then begun (halved w flight) snd_nxt else record w { duplicates = min 3 (w.duplicates + 1) }
+    if is_third w snd_una then begun (halved w flight) 3 snd_nxt else counted w
 
 -- A DUPLICATE ACKNOWLEDGEMENT came (RFC 5681, 2)
 abbrev pub after_duplicate : Window → ℕ → ℕ → ℕ → Window
 after_duplicate w snd_una flight snd_nxt = if w.is_recovering then inflated w else after_counting w snd_una flight snd_nxt
 
+-- A DUPLICATE WITH A NEW BLOCK, where blocks say what is lost (RFC 5681, 4.3): a segment has left the network, and no number of these is
+-- a loss
+abbrev pub after_report : Window → Window
+after_report w = if w.is_recovering then inflated w else counted w
+
+-- A LOSS WAS FOUND by blocks or by a probe. One for each window of data shrinks it (RFC 5681, 4.3): not again before all is acknowledged
+-- that was in flight when the last one was found
+abbrev pub is_new_loss : Window → ℕ → Bool
+is_new_loss w snd_una = if w.is_recovering then false else nat_le w.recover snd_una
+
+abbrev pub after_loss : Window → ℕ → ℕ → ℕ → Window
+after_loss w snd_una flight snd_nxt = if is_new_loss w snd_una then begun (halved w flight) w.duplicates snd_nxt else w
+
 -- THE TIMER HAS EXPIRED (RFC 5681, 3.1): cwnd is the loss window, SMSS; ssthresh is set the first time that a segment is sent again by
 -- the timer, and held then. Fast recovery is over, and recover is set (RFC 6582, 3.2, 4)
-abbrev pub after_timeout : Window → ℕ → ℕ → Window
-after_timeout w flight snd_nxt = record (if w.is_timed_out then w else halved w flight) {
+abbrev pub restarted : Window → ℕ → Window
+restarted w snd_nxt = record w {
   cwnd = w.smss;
   bytes_acked = 0;
   recover = snd_nxt;
@@ -140,6 +170,10 @@ after_timeout w flight snd_nxt = record (if w.is_timed_out then w else halved w 
   duplicates = 0;
   resent = 0;
 }
+
+abbrev pub after_timeout : Window → ℕ → ℕ → Window
+after_timeout w flight snd_nxt =
+    restarted (record w { ssthresh = if w.is_timed_out then w.ssthresh else (halved w flight).ssthresh }) snd_nxt
 
 -- SO MUCH WAS SENT AGAIN. What a loss concerns isn't in flight any more, so that what is sent again is all that is: it begins with the
 -- loss window and grows by slow start, as new data would (RFC 5681, 3.1)
@@ -169,6 +203,8 @@ room_of w flight = (w.cwnd + limited w) - flight
 pub record IsWindow (w : Window) : Type 0 where
   pub positive : 0 < w.smss
   pub fits : w.smss ≤ max_segment
+  pub counts : 0 < w.limit
+  pub limited : w.limit ≤ max_limit
   pub least : w.smss ≤ w.cwnd
   pub most : w.cwnd ≤ max_window
   pub threshold : 2 * w.smss ≤ w.ssthresh

@@ -3,7 +3,8 @@
 ghost use Rattle.tcp_congestion.specs.DelayedAck.{NoAcknowledgementIsLate};
 ghost use Rattle.tcp_congestion.specs.SwsAvoidance.{NoSillySegment, NothingWaitsLonger};
 ghost use Rattle.tcp_congestion.specs.Limiter.{FewAnswers, OneInAnInterval};
-ghost use Rattle.tcp_congestion.specs.Growth.{AvoidanceIsSlow, FlightStaysInWindow, GrowthIsAcknowledged, LossShrinks, ResendsStayInWindow};
+ghost use Rattle.tcp_congestion.specs.CubicGrowth.{CubicGrowsByHalf, CubicGrowthIsAcknowledged, CubicIsFriendly, CubicLossShrinks, CubicOneLossAWindow};
+ghost use Rattle.tcp_congestion.specs.Growth.{AvoidanceIsSlow, FlightStaysInWindow, GrowthIsAcknowledged, LossShrinks, OneLossAWindow, ResendsStayInWindow};
 
 /// In congestion avoidance the window grows by at most a segment for each window that is acknowledged (RFC 5681, 3.1).
 pub fn avoidance_is_slow()
@@ -22,8 +23,42 @@ pub fn loss_shrinks()
     ensures { LossShrinks }
 {}
 
+/// A loss that blocks or a probe found shrinks the window, and nothing more that is found until all is acknowledged that was
+/// in flight then (RFC 5681, 4.3).
+pub fn one_loss_a_window()
+    ensures { OneLossAWindow }
+{}
+
+/// CUBIC's window grows in congestion avoidance by half of what is acknowledged at most, and a byte, so that in a round trip it
+/// becomes at most one and a half of what it was, or of what Reno's would be (RFC 9438, 4.2 and 4.3).
+pub fn cubic_grows_by_half()
+    ensures { CubicGrowsByHalf }
+{}
+
+/// In slow start, too, it grows by what is acknowledged at most, and a byte (RFC 9438, 4.10).
+pub fn cubic_growth_is_acknowledged()
+    ensures { CubicGrowthIsAcknowledged }
+{}
+
+/// Where CUBIC's curve is below what Reno's window would be, CUBIC's isn't below that (RFC 9438, 4.3).
+pub fn cubic_is_friendly()
+    ensures { CubicIsFriendly }
+{}
+
+/// A loss shrinks CUBIC's window to 0.7 of what was in flight, or two segments, and three segments, and to 0.7 once it is
+/// repaired, once for all that was in flight; a timeout shrinks it to one segment (RFC 9438, 4.6 and 4.8).
+pub fn cubic_loss_shrinks()
+    ensures { CubicLossShrinks }
+{}
+
+/// Of all that is in flight one loss shrinks CUBIC's window: what is found behind it changes neither ssthresh nor W_max until all
+/// is acknowledged that was in flight then (RFC 5681, 4.3).
+pub fn cubic_one_loss_a_window()
+    ensures { CubicOneLossAWindow }
+{}
+
 /// Who sends again when it may has no more than a window of it and a segment in flight; after a timeout that is one segment,
-/// until something is acknowledged (RFC 5681, 3.1).
+/// if it is a full one, until something is acknowledged (RFC 5681, 3.1).
 pub fn resends_stay_in_window()
     ensures { ResendsStayInWindow }
 {}

@@ -8,11 +8,15 @@ pub const MAX_SEGMENT: u64 = 65_535;
 /// No window grows past this: 2^40 bytes.
 pub const MAX_WINDOW: u64 = 1 << 40;
 
+/// No limit of slow start is greater, in segments (RFC 9406, 4.2, where nothing is paced).
+pub const MAX_LIMIT: u64 = 8;
+
 /// The congestion window of one connection (RFC 5681, 3), with NewReno's recovery (RFC 6582) and limited transmit (RFC
 /// 3042). Sizes are bytes; positions count from the SYN, which is at 0, in the direction of what is sent (RFC 9293, 3.4).
 #[derive(Clone, Copy, Debug, PartialEq, Eq)]
 pub struct Reno {
     smss: u64,
+    limit: u64,
     cwnd: u64,
     ssthresh: u64,
     bytes_acked: u64,
@@ -30,6 +34,7 @@ impl Model for Reno {
 
     ghost view = { λ r. record {
       smss = r.smss;
+      limit = r.limit;
       cwnd = r.cwnd;
       ssthresh = r.ssthresh;
       bytes_acked = r.bytes_acked;
@@ -42,6 +47,7 @@ impl Model for Reno {
 
     ghost invariant = { λ r. IsWindow (record {
       smss = r.smss;
+      limit = r.limit;
       cwnd = r.cwnd;
       ssthresh = r.ssthresh;
       bytes_acked = r.bytes_acked;
@@ -54,6 +60,7 @@ impl Model for Reno {
 
     ghost inverse = { λ w. record {
       smss = w.smss;
+      limit = w.limit;
       cwnd = w.cwnd;
       ssthresh = w.ssthresh;
       bytes_acked = w.bytes_acked;
@@ -66,18 +73,31 @@ impl Model for Reno {
 }
 
 impl Reno {
-    ghost use Rattle.tcp_congestion.specs.Reno.{new_window, room_of, after_acknowledgement, is_partial, after_duplicate, begins_recovery, after_timeout, after_resent, may_resend, after_syn_resent, after_idle};
-    ghost use Rattle.tcp_congestion.specs.Sizes.{max_segment, max_window};
+    ghost use Rattle.tcp_congestion.specs.Reno.{new_window, new_window_with, room_of, after_acknowledgement, after_loss, after_report, is_new_loss, is_partial, after_duplicate, begins_recovery, after_timeout, after_resent, may_resend, after_syn_resent, after_idle};
+    ghost use Rattle.tcp_congestion.specs.Sizes.{max_limit, max_segment, max_window};
 
     /// The window of a connection that begins, with full segments of `smss` bytes as both SYNs agreed on them: IW (RFC
-    /// 6928, 2).
+    /// 6928, 2). In slow start an acknowledgement counts for a segment at most (RFC 5681, 3.1).
     pub fn new(smss: u64) -> Reno
         requires least { 0 < smss }
         requires most { smss ≤ max_segment }
         ensures { result ≡ new_window smss }
     {
+        Reno::with_limit(smss, 1)
+    }
+
+    /// The same where an acknowledgement counts for up to `limit` segments until a loss is found (RFC 3465, 2.2): 2 at most
+    /// where nothing is paced, or 8 with what RFC 9406 has for slow start.
+    pub fn with_limit(smss: u64, limit: u64) -> Reno
+        requires least { 0 < smss }
+        requires most { smss ≤ max_segment }
+        requires counts { 0 < limit }
+        requires limited { limit ≤ max_limit }
+        ensures { result ≡ new_window_with smss limit }
+    {
         Reno {
             smss,
+            limit,
             cwnd: initial_window(smss),
             ssthresh: MAX_WINDOW,
             bytes_acked: 0,
@@ -94,6 +114,7 @@ impl Reno {
     pub fn cwnd(&self) -> u64
         ensures value { result ≡ self.now.cwnd }
         ensures least { self.now.smss ≤ result }
+        ensures positive { 0 < result }
         ensures most { result ≤ max_window }
     {
         self.cwnd
@@ -133,19 +154,14 @@ impl Reno {
         ensures again { result ≡ is_partial self.old snd_una }
         ensures after { self.new ≡ after_acknowledgement self.old acked snd_una flight }
     {
-        self.is_timed_out = false;
-        self.duplicates = 0;
-        self.resent = self.resent.saturating_sub(acked);
-        if !self.is_recovering {
+        let again = self.is_partial(snd_una);
+        self.progress(acked);
+        if self.is_recovering {
+            self.recover(acked, snd_una, flight);
+        } else {
             self.grow(acked, flight);
-            return false;
         }
-        if snd_una < self.recover {
-            self.deflate(acked);
-            return true;
-        }
-        self.end_recovery(flight);
-        false
+        again
     }
 
     /// A duplicate acknowledgement has come (RFC 5681, 2), so that SND.UNA is still `snd_una`, while `flight` bytes are in
@@ -156,16 +172,40 @@ impl Reno {
         ensures again { result ≡ begins_recovery self.old snd_una }
         ensures after { self.new ≡ after_duplicate self.old snd_una flight snd_nxt }
     {
-        if self.is_recovering {
-            self.cwnd = MAX_WINDOW.min(self.cwnd + self.smss);
-            return false;
-        }
-        if self.duplicates == 2 && self.recover < snd_una {
-            self.begin_recovery(flight, snd_nxt);
+        if self.begins_recovery(snd_una) {
+            self.halve(flight);
+            self.begin_recovery(3, snd_nxt);
             return true;
         }
-        self.duplicates = 3.min(self.duplicates + 1);
+        self.reported();
         false
+    }
+
+    /// A duplicate acknowledgement with a new block has come, where blocks say what is lost: it stands for a segment that has
+    /// left the network, and no number of these is a loss, which [`lost`](Reno::lost) tells. So it takes the place of
+    /// [`duplicate`](Reno::duplicate) where blocks are exchanged.
+    pub fn reported(&mut self)
+        ensures { self.new ≡ after_report self.old }
+    {
+        if self.is_recovering {
+            self.cwnd = MAX_WINDOW.min(self.cwnd + self.smss);
+        } else {
+            self.duplicates = 3.min(self.duplicates + 1);
+        }
+    }
+
+    /// Blocks or a probe have found a loss, while `flight` bytes were in flight, from the position `snd_una` up to `snd_nxt`.
+    /// Returns whether it shrinks the window, which one loss does for all that is in flight (RFC 5681, 4.3).
+    pub fn lost(&mut self, snd_una: u64, flight: u64, snd_nxt: u64) -> bool
+        ensures shrinks { result ≡ is_new_loss self.old snd_una }
+        ensures after { self.new ≡ after_loss self.old snd_una flight snd_nxt }
+    {
+        if !self.is_new_loss(snd_una) {
+            return false;
+        }
+        self.halve(flight);
+        self.begin_recovery(self.duplicates, snd_nxt);
+        true
     }
 
     /// The retransmission timer has expired while `flight` bytes were in flight, up to the position `snd_nxt` (RFC 5681,
@@ -177,13 +217,7 @@ impl Reno {
         if !self.is_timed_out {
             self.halve(flight);
         }
-        self.cwnd = self.smss;
-        self.bytes_acked = 0;
-        self.recover = snd_nxt;
-        self.is_recovering = false;
-        self.is_timed_out = true;
-        self.duplicates = 0;
-        self.resent = 0;
+        self.restart(snd_nxt);
     }
 
     /// Whether what a loss concerns may be sent again now, a segment of it: no more than a window of it is in flight (RFC
@@ -218,56 +252,133 @@ impl Reno {
         self.cwnd = initial_window(self.smss).min(self.cwnd);
         self.bytes_acked = 0;
     }
+}
 
-    ghost use Rattle.tcp_congestion.specs.Reno.{after_growth, begun, deflated, halved, limited, recovered};
+// What CUBIC's window does as well.
+impl Reno {
+    ghost use Rattle.tcp_congestion.specs.Reno.{after_recovering, begins_recovery, begun, deflated, is_new_loss, is_partial, is_used, limit_of, recovered, restarted, slow_started, with_progress};
+    ghost use Rattle.tcp_congestion.specs.Sizes.{max_threshold, max_window};
 
-    /// What the first two duplicates let out beyond the window (RFC 3042, 2).
-    fn limited(&self) -> u64
-        ensures { result ≡ limited self.now }
+    /// SMSS.
+    pub(crate) fn smss(&self) -> u64
+        ensures value { result ≡ self.now.smss }
+        ensures least { 0 < result }
+        ensures most { result ≤ max_segment }
     {
-        if self.is_recovering {
-            0
+        self.smss
+    }
+
+    /// Whether the timer has expired, and nothing was acknowledged since.
+    pub(crate) fn is_timed_out(&self) -> bool
+        ensures { result ≡ self.now.is_timed_out }
+    {
+        self.is_timed_out
+    }
+
+    /// How many duplicates came in a row, of which three count.
+    pub(crate) fn duplicates(&self) -> u64
+        ensures value { result ≡ self.now.duplicates }
+        ensures few { result ≤ 3 }
+    {
+        self.duplicates
+    }
+
+    /// Whether an acknowledgement of all before `snd_una` is a partial one (RFC 6582, 3.2, 3).
+    pub(crate) fn is_partial(&self, snd_una: u64) -> bool
+        ensures { result ≡ is_partial self.now snd_una }
+    {
+        self.is_recovering && snd_una < self.recover
+    }
+
+    /// Whether one more duplicate is the third one, which begins fast recovery (RFC 6582, 3.2, 2).
+    pub(crate) fn begins_recovery(&self, snd_una: u64) -> bool
+        ensures { result ≡ begins_recovery self.now snd_una }
+    {
+        !self.is_recovering && self.duplicates == 2 && self.recover < snd_una
+    }
+
+    /// Whether a loss is the first of a window of data (RFC 5681, 4.3).
+    pub(crate) fn is_new_loss(&self, snd_una: u64) -> bool
+        ensures { result ≡ is_new_loss self.now snd_una }
+    {
+        !self.is_recovering && self.recover <= snd_una
+    }
+
+    /// Whether half of the window was in use (RFC 7661, 4.3).
+    pub(crate) fn is_used(&self, acked: u64, flight: u64) -> bool
+        ensures { result ≡ is_used self.now acked flight }
+    {
+        self.cwnd <= 2 * (acked.min(MAX_WINDOW) + flight.min(MAX_WINDOW))
+    }
+
+    /// Something was acknowledged.
+    pub(crate) fn progress(&mut self, acked: u64)
+        ensures { self.new ≡ with_progress self.old acked }
+    {
+        self.is_timed_out = false;
+        self.duplicates = 0;
+        self.resent = self.resent.saturating_sub(acked);
+    }
+
+    /// L, in bytes (RFC 3465, 2.2 and 2.3).
+    fn limit(&self) -> u64
+        ensures { result ≡ limit_of self.now }
+    {
+        if self.ssthresh == MAX_WINDOW {
+            self.limit * self.smss
         } else {
-            self.duplicates.min(2) * self.smss
+            self.smss
         }
     }
 
-    /// Slow start or congestion avoidance (RFC 5681, 3.1), where half of the window was in use (RFC 7661, 4.3).
-    fn grow(&mut self, acked: u64, flight: u64)
-        ensures { self.new ≡ after_growth self.old acked flight }
+    /// Slow start (RFC 5681, 3.1, equation 2; RFC 3465, 2.2).
+    pub(crate) fn slow_start(&mut self, acked: u64)
+        ensures { self.new ≡ slow_started self.old acked }
     {
-        if 2 * (acked.min(MAX_WINDOW) + flight.min(MAX_WINDOW)) < self.cwnd {
-            return;
-        }
-        if self.cwnd < self.ssthresh {
-            self.cwnd = MAX_WINDOW.min(self.cwnd + acked.min(self.smss));
-            return;
-        }
-        self.bytes_acked += acked.min(self.cwnd);
-        if self.cwnd <= self.bytes_acked {
-            self.bytes_acked -= self.cwnd;
-            self.cwnd = MAX_WINDOW.min(self.cwnd + self.smss);
-        }
+        self.cwnd = MAX_WINDOW.min(self.cwnd + acked.min(self.limit()));
     }
 
-    /// ssthresh = max(FlightSize / 2, 2 * SMSS) (RFC 5681, 3.1, equation 4).
-    fn halve(&mut self, flight: u64)
-        ensures { self.new ≡ halved self.old flight }
+    /// The window is so large.
+    pub(crate) fn set_cwnd(&mut self, cwnd: u64)
+        requires least { self.old.smss ≤ cwnd }
+        requires most { cwnd ≤ max_window }
+        ensures { self.new ≡ record self.old { cwnd = cwnd } }
     {
-        self.ssthresh = (flight.min(self.cwnd) / 2).max(2 * self.smss);
+        self.cwnd = cwnd;
     }
 
-    /// Fast recovery begins (RFC 5681, 3.2, 2 and 3; RFC 6582, 3.2, 2).
-    fn begin_recovery(&mut self, flight: u64, snd_nxt: u64)
-        ensures { self.new ≡ begun (halved self.old flight) snd_nxt }
+    /// The slow start threshold is so high.
+    pub(crate) fn set_ssthresh(&mut self, ssthresh: u64)
+        requires least { 2 * self.old.smss ≤ ssthresh }
+        requires most { ssthresh ≤ max_window }
+        ensures { self.new ≡ record self.old { ssthresh = ssthresh } }
     {
-        self.halve(flight);
-        self.cwnd = self.ssthresh + 3 * self.smss;
+        self.ssthresh = ssthresh;
+    }
+
+    /// Recovery begins (RFC 5681, 3.2, 3; RFC 6582, 3.2, 2), when so many segments are known to have left the network.
+    pub(crate) fn begin_recovery(&mut self, left: u64, snd_nxt: u64)
+        requires few { left ≤ 3 }
+        requires low { self.old.ssthresh ≤ max_threshold }
+        ensures { self.new ≡ begun self.old left snd_nxt }
+    {
+        self.cwnd = self.ssthresh + left * self.smss;
         self.bytes_acked = 0;
         self.recover = snd_nxt;
         self.is_recovering = true;
         self.duplicates = 0;
         self.resent = 0;
+    }
+
+    /// Recovery goes on or ends (RFC 6582, 3.2, 3).
+    pub(crate) fn recover(&mut self, acked: u64, snd_una: u64, flight: u64)
+        ensures { self.new ≡ after_recovering self.old acked snd_una flight }
+    {
+        if snd_una < self.recover {
+            self.deflate(acked);
+        } else {
+            self.end_recovery(flight);
+        }
     }
 
     /// A partial acknowledgement (RFC 6582, 3.2, 3): the window shrinks by what it acknowledges, less a segment.
@@ -286,6 +397,62 @@ impl Reno {
         self.cwnd = self.ssthresh.min(needed);
         self.bytes_acked = 0;
         self.is_recovering = false;
+    }
+
+    /// The window begins again with a segment (RFC 5681, 3.1; RFC 6582, 3.2, 4).
+    pub(crate) fn restart(&mut self, snd_nxt: u64)
+        ensures { self.new ≡ restarted self.old snd_nxt }
+    {
+        self.cwnd = self.smss;
+        self.bytes_acked = 0;
+        self.recover = snd_nxt;
+        self.is_recovering = false;
+        self.is_timed_out = true;
+        self.duplicates = 0;
+        self.resent = 0;
+    }
+}
+
+// What Reno's window does alone.
+impl Reno {
+    ghost use Rattle.tcp_congestion.specs.Reno.{after_growth, halved, limited};
+    ghost use Rattle.tcp_congestion.specs.Sizes.{max_threshold};
+
+    /// What the first two duplicates let out beyond the window (RFC 3042, 2).
+    fn limited(&self) -> u64
+        ensures { result ≡ limited self.now }
+    {
+        if self.is_recovering {
+            0
+        } else {
+            self.duplicates.min(2) * self.smss
+        }
+    }
+
+    /// Slow start or congestion avoidance (RFC 5681, 3.1), where half of the window was in use (RFC 7661, 4.3).
+    fn grow(&mut self, acked: u64, flight: u64)
+        ensures { self.new ≡ after_growth self.old acked flight }
+    {
+        if !self.is_used(acked, flight) {
+            return;
+        }
+        if self.cwnd < self.ssthresh {
+            self.slow_start(acked);
+            return;
+        }
+        self.bytes_acked += acked.min(self.cwnd);
+        if self.cwnd <= self.bytes_acked {
+            self.bytes_acked -= self.cwnd;
+            self.cwnd = MAX_WINDOW.min(self.cwnd + self.smss);
+        }
+    }
+
+    /// ssthresh = max(FlightSize / 2, 2 * SMSS) (RFC 5681, 3.1, equation 4).
+    fn halve(&mut self, flight: u64)
+        ensures after { self.new ≡ halved self.old flight }
+        ensures low { self.new.ssthresh ≤ max_threshold }
+    {
+        self.ssthresh = (flight.min(self.cwnd) / 2).max(2 * self.smss);
     }
 }
 

@@ -2,10 +2,11 @@
 //! - `estimator FIRST LEAST GREATEST GRANULARITY AFTER_SYN` begins with another estimator, or answers `unsound`; `sample
 //!   RTT`, `expired`, `window-opened` and `syn-resent` answer SRTT, RTTVAR and RTO.
 //! - `watch` begins with another watch; it takes `sent START COUNT NOW` and `acked UNA NOW`.
-//! - `reno SMSS` begins with another congestion window; `acknowledged ACKED UNA FLIGHT`, `duplicate UNA FLIGHT NXT`,
-//!   `timed-out FLIGHT NXT`, `syn-lost` and `idle` answer cwnd and ssthresh, `recovering` while fast recovery goes on, and
-//!   `again` where the first segment has to be sent again; `room FLIGHT` answers how much may be sent, and `may-resend`
-//!   whether a segment may be sent again, of which `resent COUNT` says that it was.
+//! - `reno SMSS [L]` and `cubic SMSS [L]` begin with another congestion window; `acknowledged ACKED UNA FLIGHT [NOW RTT]`,
+//!   `duplicate UNA FLIGHT NXT`, `reported`, `lost UNA FLIGHT NXT`, `timed-out FLIGHT NXT`, `syn-lost` and `idle` answer cwnd
+//!   and ssthresh, `recovering` while a recovery goes on, `again` where the first segment has to be sent again, and `shrinks`
+//!   where a loss is the first of a window; `room FLIGHT` answers how much may be sent, and `may-resend` whether a segment
+//!   may be sent again, of which `resent COUNT` says that it was.
 //! - `delayed RMSS DELAY` begins with another delay; `arrived COUNT URGENT NOW`, `answered` and `due NOW` answer when an
 //!   acknowledgement is due.
 //! - `sws MSS NAGLE TIMEOUT` begins with another sender; `window WND` and `segment QUEUED USABLE FLIGHT NOW` answer how long
@@ -23,15 +24,16 @@ mod words;
 use kit_io::{Counted, read_all};
 use kit_text::{LineError, Lines, SPACE, cut};
 use std::process::ExitCode;
-use tcp_congestion::{DELAY, DelayedAck, Limiter, OVERRIDE, Reno, SwsAvoidance};
+use tcp_congestion::{DELAY, DelayedAck, Limiter, OVERRIDE, SwsAvoidance};
 use tcp_timing::{Estimator, Rules, Watch};
+use windows::Windows;
 
 /// The values that lines call.
 #[derive(Drop)]
 struct Values {
     estimator: Estimator,
     watch: Watch,
-    reno: Reno,
+    windows: Windows,
     delayed: DelayedAck,
     sws: SwsAvoidance,
     limiter: Limiter,
@@ -57,7 +59,7 @@ fn answer_line(values: &mut Values, line: &[u8], answers: &mut String) -> Result
         b"standard" | b"estimator" | b"sample" | b"expired" | b"window-opened" | b"syn-resent" => {
             estimates::answer_estimator(&mut values.estimator, word, rest, answers)?;
         }
-        _ => windows::answer_reno(&mut values.reno, word, rest, answers)?,
+        _ => windows::answer_windows(&mut values.windows, word, rest, answers)?,
     }
     answers.push_str("\n")?;
     Ok(())
@@ -69,7 +71,7 @@ fn answer_lines(rt: &impl AllocGlobal, text: &[u8]) -> Result<String, LineError>
     let mut values = Values {
         estimator: Estimator::new(Rules::standard()),
         watch: Watch::new(),
-        reno: Reno::new(1460),
+        windows: Windows::new(),
         delayed: DelayedAck::new(1460, DELAY),
         sws: SwsAvoidance::new(1460, false, OVERRIDE),
         limiter: Limiter::new(0),

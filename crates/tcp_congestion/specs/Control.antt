@@ -1,0 +1,74 @@
+-- Any congestion window, as functions of its state W.
+use Rattle.std.specs.Prelude.{ℕ, Bool}
+use Rattle.tcp_congestion.specs.Reno.{Window}
+use Rattle.tcp_congestion.specs.Reno as reno
+use Rattle.tcp_congestion.specs.Cubic.{CubicWindow}
+use Rattle.tcp_congestion.specs.Cubic as cubic
+
+pub record Control (W : Type 0) : Type 0 where
+  pub smss : W → ℕ
+  pub cwnd : W → ℕ
+  pub ssthresh : W → ℕ
+  -- what may be sent beside what is in flight
+  pub room : W → ℕ → ℕ
+  -- a loss isn't repaired yet
+  pub is_recovering : W → Bool
+  -- something was acknowledged: whether the first segment goes out again, and the state after it
+  pub is_partial : W → ℕ → Bool
+  pub acknowledged : W → ℕ → ℕ → ℕ → ℕ → ℕ → W
+  -- a duplicate acknowledgement, by number or with a new block
+  pub begins_recovery : W → ℕ → Bool
+  pub duplicated : W → ℕ → ℕ → ℕ → W
+  pub reported : W → W
+  -- blocks or a probe found a loss: whether it is the first of a window, and the state after it
+  pub is_new_loss : W → ℕ → Bool
+  pub lost : W → ℕ → ℕ → ℕ → W
+  pub timed_out : W → ℕ → ℕ → W
+  -- what is sent again
+  pub may_resend : W → Bool
+  pub resent : W → ℕ → W
+  -- a SYN was lost, or nothing was sent for long
+  pub syn_resent : W → W
+  pub idle : W → W
+
+abbrev pub reno_control : Control Window
+reno_control = record {
+  smss = λ w. w.smss;
+  cwnd = λ w. w.cwnd;
+  ssthresh = λ w. w.ssthresh;
+  room = λ w flight. reno.room_of w flight;
+  is_recovering = λ w. w.is_recovering;
+  is_partial = λ w snd_una. reno.is_partial w snd_una;
+  acknowledged = λ w acked snd_una flight now rtt. reno.after_acknowledgement w acked snd_una flight;
+  begins_recovery = λ w snd_una. reno.begins_recovery w snd_una;
+  duplicated = λ w snd_una flight snd_nxt. reno.after_duplicate w snd_una flight snd_nxt;
+  reported = λ w. reno.after_report w;
+  is_new_loss = λ w snd_una. reno.is_new_loss w snd_una;
+  lost = λ w snd_una flight snd_nxt. reno.after_loss w snd_una flight snd_nxt;
+  timed_out = λ w flight snd_nxt. reno.after_timeout w flight snd_nxt;
+  may_resend = λ w. reno.may_resend w;
+  resent = λ w count. reno.after_resent w count;
+  syn_resent = λ w. reno.after_syn_resent w;
+  idle = λ w. reno.after_idle w;
+}
+
+abbrev pub cubic_control : Control CubicWindow
+cubic_control = record {
+  smss = λ c. c.window.smss;
+  cwnd = λ c. c.window.cwnd;
+  ssthresh = λ c. c.window.ssthresh;
+  room = λ c flight. reno.room_of c.window flight;
+  is_recovering = λ c. c.window.is_recovering;
+  is_partial = λ c snd_una. reno.is_partial c.window snd_una;
+  acknowledged = λ c acked snd_una flight now rtt. cubic.after_acknowledgement c acked snd_una flight now rtt;
+  begins_recovery = λ c snd_una. reno.begins_recovery c.window snd_una;
+  duplicated = λ c snd_una flight snd_nxt. cubic.after_duplicate c snd_una flight snd_nxt;
+  reported = λ c. cubic.after_report_of c;
+  is_new_loss = λ c snd_una. reno.is_new_loss c.window snd_una;
+  lost = λ c snd_una flight snd_nxt. cubic.after_loss c snd_una flight snd_nxt;
+  timed_out = λ c flight snd_nxt. cubic.after_timeout c flight snd_nxt;
+  may_resend = λ c. reno.may_resend c.window;
+  resent = λ c count. record c { window = reno.after_resent c.window count };
+  syn_resent = λ c. record c { window = reno.after_syn_resent c.window };
+  idle = λ c. cubic.after_idle_time c;
+}

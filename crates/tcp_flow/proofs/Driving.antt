@@ -1,0 +1,71 @@
+-- The driver in a flow is as after calls of its own.
+use Rattle.std.proofs.Common.{◌≡◌, ℕ, Bool, true, false, List, [], ◌∷◌, refl}
+use Rattle.std.specs.Prelude.{◌||◌, if◌then◌else◌}
+use Rattle.tcp_congestion.specs.Control.{Control}
+use Rattle.tcp_driver.specs.declared.machine.Report.{Report}
+use Rattle.tcp_driver.specs.Calls.{Call, Arrives, Emits, Uses, after_calls}
+use Rattle.tcp_driver.specs.Driver.{Driving, after_arrival, at, is_withheld, way_of}
+use Rattle.tcp_driver.specs.Machine.{Machine}
+use Rattle.tcp_flow.specs.Flow.{Flowing, after_duplicate, after_progress, allowed, has_blocks, is_idle, rested, told, una_of, with_first}
+use Rattle.tcp_flow.specs.Calls.{Comes, Goes, Passes, Asks, FlowIsDriven}
+
+-- the driver of x is as after a call of d, and perhaps the first segment goes out again
+record Follows {S : Type 0} (m : Machine S) (d x : Driving S) (now : ℕ) (call : Call S) : Type 0 where
+  resends : Bool
+  same : x ≡ after_calls m d (if resends then Uses now m.first_resent ∷ call ∷ [] else call ∷ [])
+
+-- it does behind the call alone
+first : {S W : Type 0} (m : Machine S) (d : Driving S) (f : Flowing S W) (now : ℕ) (call : Call S) (again : Bool)
+    → f.driving ≡ after_calls m d (call ∷ []) → Follows m d (with_first m f now again).driving now call
+first m d f now call true e = record { resends = true; same = cc }
+first m d f now call false e = record { resends = false; same = e }
+
+by-blocks : {S W : Type 0} (m : Machine S) (d : Driving S) (f : Flowing S W) (x y : W) (now : ℕ) (call : Call S) (again blocks : Bool)
+    → f.driving ≡ after_calls m d (call ∷ [])
+    → Follows m d (if blocks then record f { window = x } else with_first m (record f { window = y }) now again).driving now call
+by-blocks m d f x y now call again true e = record { resends = false; same = e }
+by-blocks m d f x y now call again false e = first m d (record f { window = y }) now call again e
+
+by-kind : {S W : Type 0} (m : Machine S) (c : Control W) (d : Driving S) (f : Flowing S W) (acked now : ℕ) (call : Call S) (moved duplicate : Bool)
+    → f.driving ≡ after_calls m d (call ∷ [])
+    → Follows m d (if moved then after_progress m c f acked now else (if duplicate then after_duplicate m c f now else f)).driving now call
+by-kind m c d f acked now call true b e = first m d _ now call _ e
+by-kind m c d f acked now call false true e = by-blocks m d f _ _ now call _ (has_blocks m f) e
+by-kind m c d f acked now call false false e = record { resends = false; same = e }
+
+unchanged : {A : Type 0} (x y : A) (b : Bool) → b ≡ true → x ≡ (if b then x else y)
+unchanged x y true e = refl
+unchanged x y false e = absurd (cc)
+
+-- in a burst, and where it is withheld, an arrival changes nothing
+by-taken : {S W : Type 0} (m : Machine S) (c : Control W) (f : Flowing S W) (now : ℕ) (src dst bytes : List ℕ) (report : Report) (b : Bool)
+    → (f.driving.times.bursting || is_withheld m f.driving.core bytes) ≡ b
+    → Follows m f.driving (if b then f
+    else told m c (record f { driving = after_arrival m f.driving (at f.driving now) src dst bytes (way_of f.driving false) }) (una_of m f) report now).driving
+    now (Arrives now src dst bytes false)
+by-taken m c f now src dst bytes report true e = record {
+  resends = false;
+  same = unchanged f.driving _ (f.driving.times.bursting || is_withheld m f.driving.core bytes) e;
+}
+by-taken m c f now src dst bytes report false e =
+    by-kind m c f.driving _ report.acked now (Arrives now src dst bytes false) _ report.is_duplicate refl
+
+rest-by : {S W : Type 0} (f : Flowing S W) (x : W) (b : Bool) → (if b then record f { window = x } else f).driving ≡ f.driving
+rest-by f x true = refl
+rest-by f x false = refl
+
+emits-by : {S W : Type 0} (m : Machine S) (f g : Flowing S W) (now window : ℕ) → g.driving ≡ f.driving
+    → after_calls m g.driving (Emits now window ∷ []) ≡ after_calls m f.driving (Emits now window ∷ [])
+emits-by m f g now window e = cc
+
+pub driven_lem : {S W : Type 0} (m : Machine S) (c : Control W) → FlowIsDriven m c
+driven_lem m c f (Comes now src dst bytes) =
+    let h = by-taken m c f now src dst bytes (m.report f.driving.core src dst bytes (way_of f.driving false))
+    (f.driving.times.bursting || is_withheld m f.driving.core bytes) refl in
+    record { resends = h.resends; same = h.same }
+driven_lem m c f (Goes now) = record {
+  resends = false;
+  same = emits-by m f (rested m c f now) now (allowed c (rested m c f now)) (rest-by f (c.idle f.window) (is_idle m f now));
+}
+driven_lem m c f (Passes now) = record { resends = false; same = refl }
+driven_lem m c f (Asks now does) = record { resends = false; same = refl }

@@ -1,0 +1,5 @@
+use Rattle.tcp_flow.proofs.Driving.{driven_lem}
+use Rattle.tcp_flow.proofs.laws.flow_is_driven.Goals as goal
+
+pub returns : goal.returns
+returns g c = driven_lem g.C.Core.machine g.W.Congestion.control

@@ -1,0 +1,124 @@
+-- One end with its times, under a congestion window, whatever the end and the window are.
+use Rattle.std.specs.Prelude.{◌≡◌, ℕ, ◌+◌, ◌-◌, ◌*◌, ◌<◌, ◌≤◌, nat_lt, min, Bool, false, not, ◌&&◌, ◌||◌, ◌==◌, if◌then◌else◌, List, Option, Some, None, IfSome}
+use Rattle.tcp_timing.specs.declared.round_trip.RoundTrip.{RoundTrip}
+use Rattle.tcp_congestion.specs.Control.{Control}
+use Rattle.tcp_congestion.specs.Sizes.{latest}
+use Rattle.tcp_driver.specs.declared.machine.Report.{Report}
+use Rattle.tcp_driver.specs.declared.machine.Sent.{Sent}
+use Rattle.tcp_driver.specs.declared.machine.Timer.{Timer}
+use Rattle.tcp_driver.specs.declared.machine.Timer.TheVariants.{Retransmit, Reorder}
+use Rattle.tcp_driver.specs.Times.{expiry}
+use Rattle.tcp_driver.specs.Driver.{Driving, after_arrival, after_emission, after_time, after_user, at, holds, is_withheld, sent_of, way_of}
+use Rattle.tcp_driver.specs.Machine.{Machine}
+
+pub record Flowing (S W : Type 0) : Type 0 where
+  pub driving : Driving S
+  pub window : W
+  -- whether the peer's window was shut when it was last taken
+  pub shut : Bool
+  -- when text was last sent
+  pub sent_at : ℕ
+
+abbrev pub new_flowing : {S W : Type 0} → Driving S → W → ℕ → Flowing S W
+new_flowing driving window now = record { driving = driving; window = window; shut = false; sent_at = now }
+
+-- ---- WHAT IT KNOWS of its end: SND.UNA, how many numbers are in flight, SND.NXT, and whether blocks report a gap
+abbrev pub una_of : {S W : Type 0} → Machine S → Flowing S W → ℕ
+una_of m f = m.una f.driving.core
+
+abbrev pub flight_of : {S W : Type 0} → Machine S → Flowing S W → ℕ
+flight_of m f = m.flight f.driving.core
+
+abbrev pub nxt_of : {S W : Type 0} → Machine S → Flowing S W → ℕ
+nxt_of m f = min latest (una_of m f + flight_of m f)
+
+abbrev pub has_blocks : {S W : Type 0} → Machine S → Flowing S W → Bool
+has_blocks m f = (m.wants f.driving.core).reorder
+
+-- the smoothed round trip, or 0 before one was measured
+abbrev pub srtt_of : Option RoundTrip → ℕ
+srtt_of None = 0
+srtt_of (Some trip) = trip.srtt
+
+-- ---- AN ARRIVAL. What the driver is told of it is told to the window
+abbrev pub shut_by : Option ℕ → Bool → Bool
+shut_by None before = before
+shut_by (Some window) before = window == 0
+
+-- the first segment goes out again (RFC 5681, 3.2; RFC 6582, 3.2, 3), where no blocks say what is lost
+abbrev pub with_first : {S W : Type 0} → Machine S → Flowing S W → ℕ → Bool → Flowing S W
+with_first m f now again =
+    if again then record f { driving = after_user m f.driving (at f.driving now) (m.first_resent f.driving.core) } else f
+
+-- SND.UNA HAS MOVED ON
+abbrev pub after_progress : {S W : Type 0} → Machine S → Control W → Flowing S W → ℕ → ℕ → Flowing S W
+after_progress m c f acked now =
+    with_first m (record f { window = c.acknowledged f.window acked (una_of m f) (flight_of m f) now (srtt_of f.driving.times.estimate.trip) }) now
+    (c.is_partial f.window (una_of m f) && not (has_blocks m f))
+
+-- A DUPLICATE came, which counts where no blocks report gaps (RFC 5681, 4.3)
+abbrev pub after_duplicate : {S W : Type 0} → Machine S → Control W → Flowing S W → ℕ → Flowing S W
+after_duplicate m c f now =
+    if has_blocks m f then record f { window = c.reported f.window }
+    else with_first m (record f { window = c.duplicated f.window (una_of m f) (flight_of m f) (nxt_of m f) }) now (c.begins_recovery f.window (una_of m f))
+
+abbrev pub after_report : {S W : Type 0} → Machine S → Control W → Flowing S W → ℕ → Report → ℕ → Flowing S W
+after_report m c f una report now =
+    if nat_lt una (una_of m f) then after_progress m c f report.acked now
+    else (if report.is_duplicate then after_duplicate m c f now else f)
+
+-- told of a segment that was taken, before which SND.UNA was this
+abbrev pub told : {S W : Type 0} → Machine S → Control W → Flowing S W → ℕ → Report → ℕ → Flowing S W
+told m c f una report now = after_report m c (record f { shut = shut_by report.window f.shut }) una report now
+
+abbrev pub after_segment : {S W : Type 0} → Machine S → Control W → Flowing S W → ℕ → List ℕ → List ℕ → List ℕ → Bool → Flowing S W
+after_segment m c f now src dst bytes vouched =
+    if f.driving.times.bursting || is_withheld m f.driving.core bytes then f
+    else told m c (record f { driving = after_arrival m f.driving (at f.driving now) src dst bytes (way_of f.driving vouched) }) (una_of m f)
+    (m.report f.driving.core src dst bytes (way_of f.driving vouched)) now
+
+-- ---- AN EMISSION. Nothing was in flight, and nothing sent for longer than the timeout (RFC 5681, 4.1)
+abbrev pub is_idle : {S W : Type 0} → Machine S → Flowing S W → ℕ → Bool
+is_idle m f now = (flight_of m f == 0) && nat_lt f.driving.times.estimate.rto (now - f.sent_at)
+
+abbrev pub rested : {S W : Type 0} → Machine S → Control W → Flowing S W → ℕ → Flowing S W
+rested m c f now = if is_idle m f now then record f { window = c.idle f.window } else f
+
+-- THE WINDOW OF WHAT GOES OUT, in numbers from SND.UNA: the room where nothing is in flight
+abbrev pub allowed : {S W : Type 0} → Control W → Flowing S W → ℕ
+allowed c f = c.room f.window 0
+
+-- WHAT GOES OUT STAYS IN THE WINDOW (RFC 5681, 3.1; RFC 3042, 2): unless it is the acknowledgement alone, it ends at most cwnd and two
+-- segments past SND.UNA, or nothing before it is in flight
+abbrev pub StaysInWindow : {S W : Type 0} → Machine S → Control W → Flowing S W → Option Sent → Type 0
+StaysInWindow m c f sent =
+    holds m f.driving.core (allowed c f) ≡ false
+    → IfSome sent (λ sent. una_of m f < sent.start → 0 < sent.count → sent.start + sent.count ≤ una_of m f + (c.cwnd f.window + 2 * c.smss f.window))
+
+abbrev pub sent_at_by : Option Sent → ℕ → ℕ → ℕ
+sent_at_by None now before = before
+sent_at_by (Some sent) now before = if sent.count == 0 then before else now
+
+abbrev pub emitted : {S W : Type 0} → Machine S → Control W → Flowing S W → ℕ → Flowing S W
+emitted m c f now = record f {
+  driving = after_emission m f.driving (at f.driving now) (allowed c f);
+  sent_at = sent_at_by (sent_of m f.driving.core (allowed c f)) now f.sent_at;
+}
+
+-- ---- TIME PASSES. Of what was in flight before
+abbrev pub lost_by : {S W : Type 0} → Machine S → Control W → Flowing S W → Option Timer → W
+lost_by m c f (Some Retransmit) =
+    if una_of m f == 0 then c.syn_resent f.window
+    else (if f.shut then f.window else c.timed_out f.window (flight_of m f) (nxt_of m f))
+lost_by m c f (Some Reorder) = c.lost f.window (una_of m f) (flight_of m f) (nxt_of m f)
+lost_by m c f other = f.window
+
+abbrev pub after_timeout : {S W : Type 0} → Machine S → Control W → Flowing S W → ℕ → Flowing S W
+after_timeout m c f now = record f {
+  driving = after_time m f.driving (at f.driving now);
+  window = lost_by m c f (expiry f.driving.times (at f.driving now));
+}
+
+-- ---- A USER'S CALL is the driver's
+abbrev pub after_use : {S W : Type 0} → Machine S → Flowing S W → ℕ → S → Flowing S W
+after_use m f now core = record f { driving = after_user m f.driving (at f.driving now) core }

@@ -1,0 +1,264 @@
+ghost use Rattle.std.specs.Prelude.{◌≡◌, ◌≤◌, ◌<◌, ◌+◌, ◌^◌, IfSome, length};
+
+use std::marker::Model;
+use tcp_congestion::Congestion;
+use tcp_driver::{Core, Driver, Report, Sent, Taken, Timer};
+
+/// One end with its times (RFC 6298, 5) under a congestion window (RFC 5681, 3; RFC 9438). What is in flight is bounded by
+/// that window, and what comes, expires and rests is told to it.
+#[derive(Drop)]
+pub struct Flow<C: Core + Drop, W: Congestion + Drop> {
+    driver: Driver<C>,
+    window: W,
+    is_shut: bool,
+    sent_at: u64,
+}
+
+impl<C: Core + Drop, W: Congestion + Drop> Model for Flow<C, W> {
+    ghost use Rattle.tcp_flow.specs.Flow.{Flowing};
+
+    ghost Value = { Flowing C W };
+
+    ghost view = { λ f. record { driving = f.driver; window = f.window; shut = f.is_shut; sent_at = f.sent_at } };
+}
+
+impl<C: Core + Drop, W: Congestion + Drop> Flow<C, W> {
+    ghost use Rattle.std.specs.Prelude.{false, true};
+    ghost use Rattle.tcp_driver.specs.Driver.{arrival_answer, at, sent_of, way_of, written_of};
+    ghost use Rattle.tcp_driver.specs.Times.{expiry, next_expiry};
+    ghost use Rattle.tcp_flow.specs.Flow.{after_segment, after_timeout, after_use, allowed, emitted, new_flowing, rested};
+
+    /// A driver that was just made, and a window.
+    pub fn new(driver: Driver<C>, window: W, now: u64) -> Flow<C, W>
+        ensures { result ≡ new_flowing driver window now }
+    {
+        Flow {
+            driver,
+            window,
+            is_shut: false,
+            sent_at: now,
+        }
+    }
+
+    /// When `timeout` has to be called, if nothing else happens before.
+    #[must_use]
+    pub fn poll_at(&self) -> Option<u64>
+        ensures { result ≡ next_expiry self.now.driving.times }
+    {
+        self.driver.poll_at()
+    }
+
+    /// A segment has come at a time, from the IPv4 address `src` to `dst`, as for the driver.
+    pub fn arrive(
+        &mut self,
+        now: u64,
+        src: [u8; 4],
+        dst: [u8; 4],
+        bytes: &[u8],
+    ) -> Taken<C::Arriving>
+        ensures answer { result ≡ arrival_answer C.machine C.arrival_answer self.old.driving src dst bytes.now (way_of self.old.driving false) }
+        ensures state { self.new ≡ after_segment C.machine W.control self.old now src dst bytes.now false }
+    {
+        let una = self.driver.core().una();
+        let taken = self.driver.arrive(now, src, dst, bytes);
+        if let Taken::Done(report, _) = &taken {
+            let report = *report;
+            self.told(una, report, now);
+        }
+        taken
+    }
+
+    ghost use Rattle.tcp_flow.specs.Flow.{after_duplicate, after_progress, told, with_first, srtt_of};
+
+    /// What came is told to the window.
+    fn told(&mut self, una: u64, report: Report, now: u64)
+        ensures { self.new ≡ told C.machine W.control self.old una report now }
+    {
+        if let Some(window) = report.window {
+            self.is_shut = window == 0;
+        }
+        if una < self.driver.core().una() {
+            self.progress(report.acked, now);
+        } else if report.is_duplicate {
+            self.duplicate(now);
+        }
+    }
+
+    /// SND.UNA has moved on.
+    fn progress(&mut self, acked: u64, now: u64)
+        ensures { self.new ≡ after_progress C.machine W.control self.old acked now }
+    {
+        let una = self.driver.core().una();
+        let flight = self.driver.flight();
+        let rtt = self.rtt();
+        let again = self.window.acknowledged(acked, una, flight, now, rtt);
+        if again && !self.driver.core().wants().reorder {
+            let _ = self.driver.resend_first(now);
+        }
+    }
+
+    /// The smoothed round trip, or 0 before one was measured.
+    fn rtt(&self) -> u64
+        ensures { result ≡ srtt_of self.now.driving.times.estimate.trip }
+    {
+        match self.driver.estimator().trip() {
+            Some(trip) => trip.srtt,
+            None => 0,
+        }
+    }
+
+    /// A duplicate has come.
+    fn duplicate(&mut self, now: u64)
+        ensures { self.new ≡ after_duplicate C.machine W.control self.old now }
+    {
+        if self.driver.core().wants().reorder {
+            self.window.reported();
+            return;
+        }
+        let una = self.driver.core().una();
+        let flight = self.driver.flight();
+        let nxt = self.nxt();
+        if self.window.duplicate(una, flight, nxt) {
+            let _ = self.driver.resend_first(now);
+        }
+    }
+
+    ghost use Rattle.tcp_flow.specs.Flow.{StaysInWindow, is_idle, lost_by, nxt_of};
+
+    /// SND.NXT.
+    fn nxt(&self) -> u64
+        ensures { result ≡ nxt_of C.machine self.now }
+    {
+        self.driver
+            .core()
+            .una()
+            .saturating_add(self.driver.flight())
+    }
+
+    /// Writes the segment that is due, if one is, within the congestion window and what it lets out beyond that, as for the
+    /// driver. Where nothing was in flight, and no text was sent for longer than the timeout, the window is told first.
+    pub fn emit(&mut self, now: u64, out: &mut [u8]) -> Option<Sent>
+        requires { C.machine.room ≤ length out.old }
+        ensures sent { result ≡ sent_of C.machine self.old.driving.core (allowed W.control (rested C.machine W.control self.old now)) }
+        ensures most { IfSome result (λ sent. sent.len ≤ C.machine.room) }
+        ensures written { out.new ≡ written_of C.machine self.old.driving.core (allowed W.control (rested C.machine W.control self.old now)) out.old }
+        ensures stays { StaysInWindow C.machine W.control (rested C.machine W.control self.old now) result }
+        ensures state { self.new ≡ emitted C.machine W.control (rested C.machine W.control self.old now) now }
+    {
+        self.rest(now);
+        let window = self.window.room(0);
+        let sent = self.driver.emit(now, window, out);
+        if let Some(sent) = &sent {
+            if sent.count > 0 {
+                self.sent_at = now;
+            }
+        }
+        sent
+    }
+
+    /// The window is told of an idle time.
+    fn rest(&mut self, now: u64)
+        ensures { self.new ≡ rested C.machine W.control self.old now }
+    {
+        if self.is_idle(now) {
+            self.window.was_idle();
+        }
+    }
+
+    /// Whether nothing is in flight, and no text was sent for longer than the timeout (RFC 5681, 4.1).
+    fn is_idle(&self, now: u64) -> bool
+        ensures { result ≡ is_idle C.machine self.now now }
+    {
+        self.driver.flight() == 0
+            && self.driver.estimator().rto() < now.saturating_sub(self.sent_at)
+    }
+
+    /// It is `now`: the timer that has expired, if one has, as for the driver. A loss is told to the window.
+    pub fn timeout(&mut self, now: u64) -> Option<Timer>
+        ensures expired { result ≡ expiry self.old.driving.times (at self.old.driving now) }
+        ensures state { self.new ≡ after_timeout C.machine W.control self.old now }
+    {
+        let una = self.driver.core().una();
+        let flight = self.driver.flight();
+        let nxt = self.nxt();
+        let timer = self.driver.timeout(now);
+        match timer {
+            Some(Timer::Retransmit) => {
+                if una == 0 {
+                    self.window.syn_was_resent();
+                } else if !self.is_shut {
+                    self.window.timed_out(flight, nxt);
+                }
+            }
+            Some(Timer::Reorder) => {
+                let _ = self.window.lost(una, flight, nxt);
+            }
+            _ => {}
+        }
+        timer
+    }
+
+    /// The driver: its end, its estimator, and what it says of both.
+    #[must_use]
+    pub fn driver(&self) -> &Driver<C>
+        ensures { result.now ≡ self.now.driving }
+    {
+        &self.driver
+    }
+
+    /// The congestion window.
+    #[must_use]
+    pub fn window(&self) -> &W
+        ensures { result.now ≡ self.now.window }
+    {
+        &self.window
+    }
+
+    /// The user has text to send (RFC 9293, 3.10.2).
+    pub fn send(&mut self, now: u64, text: &[u8]) -> C::Sending
+        ensures answer { result ≡ C.send_answer self.old.driving.core text.now }
+        ensures state { self.new ≡ after_use C.machine self.old now (C.machine.sent self.old.driving.core text.now) }
+    {
+        self.driver.send(now, text)
+    }
+
+    /// The user reads (RFC 9293, 3.10.3).
+    pub fn receive(&mut self, now: u64, out: &mut [u8]) -> C::Receiving
+        ensures answer { result ≡ C.receive_answer self.old.driving.core (length out.old) }
+        ensures read { out.new ≡ C.machine.read self.old.driving.core out.old }
+        ensures state { self.new ≡ after_use C.machine self.old now (C.machine.received self.old.driving.core (length out.old)) }
+    {
+        self.driver.receive(now, out)
+    }
+
+    /// The user has read the first bytes where they lie, at most so many (RFC 9293, 3.10.3).
+    pub fn consume(&mut self, now: u64, count: usize) -> C::Consuming
+        ensures answer { result ≡ C.consume_answer self.old.driving.core count }
+        ensures state { self.new ≡ after_use C.machine self.old now (C.machine.received self.old.driving.core count) }
+    {
+        self.driver.consume(now, count)
+    }
+
+    /// The user has read, and wants the window that is open now to be advertised (RFC 9293, 3.8.6.2.2).
+    pub fn acknowledge(&mut self, now: u64)
+        ensures { self.new ≡ after_use C.machine self.old now (C.machine.acknowledged self.old.driving.core) }
+    {
+        self.driver.acknowledge(now);
+    }
+
+    /// The user has no more to send (RFC 9293, 3.10.4).
+    pub fn close(&mut self, now: u64) -> C::Closing
+        ensures answer { result ≡ C.close_answer self.old.driving.core }
+        ensures state { self.new ≡ after_use C.machine self.old now (C.machine.closed self.old.driving.core) }
+    {
+        self.driver.close(now)
+    }
+
+    /// The user gives the connection up (RFC 9293, 3.10.5).
+    pub fn abort(&mut self, now: u64) -> C::Aborting
+        ensures answer { result ≡ C.abort_answer self.old.driving.core }
+        ensures state { self.new ≡ after_use C.machine self.old now (C.machine.aborted self.old.driving.core) }
+    {
+        self.driver.abort(now)
+    }
+}

@@ -1,0 +1,12 @@
+//! What follows of a flow, whatever its end and its window are and whatever is called. This function does nothing when it
+//! runs: it carries the law that it ensures.
+ghost use Rattle.tcp_flow.specs.Calls.{FlowIsDriven};
+
+use tcp_congestion::Congestion;
+use tcp_driver::Core;
+
+/// Whatever is called, the driver in a flow is as after a call of its own, and behind an arrival perhaps its `resend_first`, so
+/// that every law of a driver holds of it ([`tcp_driver::laws`]).
+pub fn flow_is_driven<C: Core, W: Congestion>()
+    ensures { FlowIsDriven C.machine W.control }
+{}

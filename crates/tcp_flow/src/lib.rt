@@ -1,0 +1,10 @@
+//! One end with its times, under a congestion window: a caller writes no line of either.
+//!
+//! - [`Flow`]: a [`Driver`](tcp_driver::Driver) whose window for what goes out is a [`Congestion`](tcp_congestion::Congestion),
+//!   and which tells that what comes, what expires and what rests.
+#![tactic(auto)]
+
+mod flow;
+pub mod laws;
+
+pub use flow::Flow;
