@@ -10,4 +10,5 @@ mod TimeWaitArrival
 mod TimeWaitLaw
 mod Trains
 mod Together
+mod TrainsWithin
 pub mod Unguarded

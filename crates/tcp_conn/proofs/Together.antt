@@ -27,13 +27,13 @@ before-last more text each some few =
     let step : suc more * each ≡ more * each + each = omega arith in
     omega (arith, step, some, mul-le-mul_right each few, div-mul-le_self (text + (each - 1)) each)
 
-all-full : (count text each : ℕ) → 0 < each → count ≤ count_for text each → 0 < count → (count - 1) * each < text
+pub all-full : (count text each : ℕ) → 0 < each → count ≤ count_for text each → 0 < count → (count - 1) * each < text
 all-full zero text each some few positive = absurd (omega (arith, positive))
 all-full (suc more) text each some few positive =
     let same : more ≡ suc more - 1 = omega arith in
     subst (λ k. k * each < text) same (before-last more text each some few)
 
-fit : (count room each : ℕ) → count ≤ room / each → count * each ≤ room
+pub fit : (count room each : ℕ) → count ≤ room / each → count * each ≤ room
 fit count room each few = omega (arith, mul-le-mul_right each few, div-mul-le_self room each)
 
 pub together : (s : State) (most room start each : ℕ) → due_of s ≡ Some (Text (NewText start each)) → each ≤ max_mss → EMIT_ROOM ≤ room
@@ -53,13 +53,13 @@ together s most room start each due short large several =
     }
 
 -- their text can be written as that of one segment
-whole-first : (count each : ℕ) → 1 < count → each ≤ count * each
+pub whole-first : (count each : ℕ) → 1 < count → each ≤ count * each
 whole-first zero each several = absurd (omega (arith, several))
 whole-first (suc more) each several =
     let step : suc more * each ≡ more * each + each = omega arith in
     omega (arith, step)
 
-all-but-one : (count each : ℕ) → 1 < count → each ≤ (count - 1) * each
+pub all-but-one : (count each : ℕ) → 1 < count → each ≤ (count - 1) * each
 all-but-one zero each several = absurd (omega (arith, several))
 all-but-one (suc zero) each several = absurd (omega (arith, several))
 all-but-one (suc (suc more)) each several =

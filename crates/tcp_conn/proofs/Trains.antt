@@ -146,17 +146,17 @@ pub new_text_short : (s : State) (start each : ℕ) → due_of s ≡ Some (Text 
 new_text_short s start each due = omega (arith, (is_new_text s start each due).count)
 
 -- A RUN: new text of so many segments, more than one, or so much as is due where it is one
-record IsRun (s : State) (more n : ℕ) : Type 0 where
-  may : MaySendNew s
-  least : more * text_limit s < n
-  text : n ≡ min (suc more * text_limit s) (min (count_unsent s.sending) (count_allowed s.sending s.pending.probe))
-  behind : 0 < more → s.sending.released < s.sending.snd_nxt
+pub record IsRun (s : State) (more n : ℕ) : Type 0 where
+  pub may : MaySendNew s
+  pub least : more * text_limit s < n
+  pub text : n ≡ min (suc more * text_limit s) (min (count_unsent s.sending) (count_allowed s.sending s.pending.probe))
+  pub behind : 0 < more → s.sending.released < s.sending.snd_nxt
 
-abbrev new-of : State → ℕ → Due
+abbrev pub new-of : State → ℕ → Due
 new-of s n = Text (NewText s.sending.snd_nxt n)
 
 -- the state after its first segment
-abbrev after-first : State → State
+abbrev pub after-first : State → State
 after-first s = state_after s (new-of s (text_limit s))
 
 usable-alone : (s : Sending) (probe : Bool) → 1 < count_allowed s probe → count_allowed s probe ≡ usable_window s
@@ -171,16 +171,16 @@ resend-same s limit n None = refl
 resend-same s limit n (Some range) = refl
 
 -- what is due of it
-first-due : (s : State) (n : ℕ) → IsRun s 0 n → due_of s ≡ Some (new-of s n)
+pub first-due : (s : State) (n : ℕ) → IsRun s 0 n → due_of s ≡ Some (new-of s n)
 first-due s n h = new_text_due s s.sending.snd_nxt n (record { may = h.may; at = refl; count = omega (arith, h.text); some = omega (arith, h.least) })
 
-more-due : (s : State) (more n : ℕ) → IsRun s (suc more) n → due_of s ≡ Some (new-of s (text_limit s))
+pub more-due : (s : State) (more n : ℕ) → IsRun s (suc more) n → due_of s ≡ Some (new-of s (text_limit s))
 more-due s more n h =
     new_text_due s s.sending.snd_nxt (text_limit s)
     (record { may = h.may; at = refl; count = omega (arith, h.text, h.least); some = omega (arith, h.text, h.least) })
 
 -- and the rest of it is a run
-goes-on : (s : State) (more n : ℕ) → IsRun s (suc more) n → IsRun (after-first s) more (n - text_limit s)
+pub goes-on : (s : State) (more n : ℕ) → IsRun s (suc more) n → IsRun (after-first s) more (n - text_limit s)
 goes-on s more n h =
     let d = s.sending in
     let usable = usable-alone d s.pending.probe (omega (arith, h.text, h.least)) in
@@ -263,11 +263,11 @@ rest-piece s more n h =
 abbrev enc : State → Content → List ℕ
 enc s v = encoded_bytes s.config.addr.0 s.peer.addr.0 v
 
-emission-is : (s : State) (more : ℕ) (due : Due) → due_of s ≡ Some due → emissions (suc more) s ≡ bytes_of s due ∷ emissions more (state_after s due)
+pub emission-is : (s : State) (more : ℕ) (due : Due) → due_of s ≡ Some due → emissions (suc more) s ≡ bytes_of s due ∷ emissions more (state_after s due)
 unfolding emissions emitted_bytes after_emission
 emission-is s more due e = rw e refl
 
-after-is : (s : State) (more : ℕ) (due : Due) → due_of s ≡ Some due → after_emissions (suc more) s ≡ after_emissions more (state_after s due)
+pub after-is : (s : State) (more : ℕ) (due : Due) → due_of s ≡ Some due → after_emissions (suc more) s ≡ after_emissions more (state_after s due)
 unfolding after_emissions after_emission
 after-is s more due e = rw e refl
 
@@ -298,14 +298,14 @@ run-after (suc more) s n h =
     ∙ sym (after-is s (suc more) (new-of s limit) (more-due s more n h))
 
 -- THE LAW where new text is due: as many segments as it has room for, or one
-abbrev run-length : State → ℕ → ℕ → ℕ
+abbrev pub run-length : State → ℕ → ℕ → ℕ
 run-length s each count = max each (min (count * each) (text_allowed s.sending))
 
-record Begins (s : State) (each more : ℕ) : Type 0 where
-  run : IsRun s more (run-length s each (suc more))
-  same : 0 < more → each ≡ text_limit s
-  least : more * each < run-length s each (suc more)
-  most : run-length s each (suc more) ≤ suc more * each
+pub record Begins (s : State) (each more : ℕ) : Type 0 where
+  pub run : IsRun s more (run-length s each (suc more))
+  pub same : 0 < more → each ≡ text_limit s
+  pub least : more * each < run-length s each (suc more)
+  pub most : run-length s each (suc more) ≤ suc more * each
 
 pub allowed-parts : (s : Sending) → 0 < text_allowed s → (s.released < s.snd_nxt) × (text_allowed s ≡ min (count_unsent s) (usable_window s))
 allowed-parts s h = grind (arith, nat_tests, h)
@@ -317,7 +317,7 @@ usable-first s probe h = grind (arith, nat_tests, h)
 fewer : (more text each : ℕ) → 0 < each → suc more ≤ count_for text each → more * each < text
 fewer more text each some h = omega (arith, mul-le-mul_right each h, div-mul-le_self (text + (each - 1)) each)
 
-begins : (s : State) (start each more : ℕ) → IsNewText s start each → (more ≡ 0) ⊎ (suc more ≤ count_for (text_allowed s.sending) each) → Begins s each more
+pub begins : (s : State) (start each more : ℕ) → IsNewText s start each → (more ≡ 0) ⊎ (suc more ≤ count_for (text_allowed s.sending) each) → Begins s each more
 begins s start each zero new h = record {
   run = record { may = new.may; least = omega (arith, new.some); text = omega (arith, new.count); behind = λ none. absurd (omega arith) };
   same = λ none. absurd (omega arith);
@@ -354,7 +354,7 @@ unfolding cut_off
 same-pieces zero each limit v h = refl
 same-pieces (suc more) each limit v h = ap (λ n. cut_off (suc more) n v) (h (omega arith))
 
-new-cut : (s : State) (start each more : ℕ) → IsNewText s start each → (more ≡ 0) ⊎ (suc more ≤ count_for (text_allowed s.sending) each)
+pub new-cut : (s : State) (start each more : ℕ) → IsNewText s start each → (more ≡ 0) ⊎ (suc more ≤ count_for (text_allowed s.sending) each)
     → map (enc s) (cut each (segment_of s (as_one s (suc more) (Text (NewText start each))))) ≡ emissions (suc more) s
 unfolding cut segment_of
 new-cut s start each more new h =
@@ -370,7 +370,7 @@ new-cut s start each more new h =
     ∙ ap (map (enc s)) (same-pieces more each (text_limit s) v b.same)
     ∙ run-cut more s n b.run
 
-new-after : (s : State) (start each more : ℕ) → IsNewText s start each → (more ≡ 0) ⊎ (suc more ≤ count_for (text_allowed s.sending) each)
+pub new-after : (s : State) (start each more : ℕ) → IsNewText s start each → (more ≡ 0) ⊎ (suc more ≤ count_for (text_allowed s.sending) each)
     → state_after s (as_one s (suc more) (Text (NewText start each))) ≡ after_emissions (suc more) s
 new-after s start each more new h =
     let n = run-length s each (suc more) in
@@ -387,14 +387,14 @@ waiting-short : (s : State) (o : Option WaitingReset) → length (waiting_segmen
 waiting-short s None = omega arith
 waiting-short s (Some reset) = omega arith
 
-text-short : (s : State) (due : Due) → length (segment_of s due).text ≤ count_of due
+pub text-short : (s : State) (due : Due) → length (segment_of s due).text ≤ count_of due
 unfolding segment_of
 text-short s Reset = waiting-short s s.pending.reset
 text-short s Syn = omega arith
 text-short s (Text sent) = simp length-take (omega arith)
 text-short s Acknowledgement = omega arith
 
-alone : (each : ℕ) (v : Content) → length v.text ≤ each → cut each v ≡ v ∷ []
+pub alone : (each : ℕ) (v : Content) → length v.text ≤ each → cut each v ≡ v ∷ []
 unfolding cut cut_off
 alone each v h = ap (λ k. cut_off k each v) (none-more each (length v.text) h)
 
@@ -410,7 +410,7 @@ unfolding after_emissions
 lone-after s due e = sym (after-is s 0 due e)
 
 -- WHAT THE DEVICE MAKES of it is what so many emissions write, and the state is the one after them
-few : (most room count : ℕ) → (max 1 (min most (min room count)) - 1 ≡ 0) ⊎ (suc (max 1 (min most (min room count)) - 1) ≤ count)
+pub few : (most room count : ℕ) → (max 1 (min most (min room count)) - 1 ≡ 0) ⊎ (suc (max 1 (min most (min room count)) - 1) ≤ count)
 few most room count = elim (cases_lt (max 1 (min most (min room count))) 2) [ inl one ↦ inl (omega arith) | inr more ↦ inr (omega arith) ]
 
 abbrev IsCut : State → ℕ → Due → Type 0

@@ -21,6 +21,7 @@ pub mod Transmission
 pub mod Within
 pub mod Partial
 pub mod Train
+pub mod TrainWithin
 pub mod Status
 pub mod AtOnce
 pub mod Taking

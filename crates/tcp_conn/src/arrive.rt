@@ -118,8 +118,12 @@ impl<A: Allocator> Endpoint<A> {
         };
         let taken = match read {
             Ok(segment) => {
-                let rule = self.guarded(way.guard, self.judge(src, dst, &segment), &segment);
-                self.take_by(rule, src, &segment)
+                let rule = self.judge(src, dst, &segment);
+                if self.is_taken_by_any(rule, &segment) {
+                    self.take_by(Judgement::Taken, src, &segment)
+                } else {
+                    self.take_rarely(way.guard, rule, src, &segment)
+                }
             }
             Err(fault) => Taken::malformed(fault),
         };

@@ -7,9 +7,9 @@
 //! - `take` is `arrive` with a report, [`Taken`]: the rule that applied ([`Judgement`]), what was acknowledged, what it
 //!   brought. `transmit` is `emit` with one, [`Transmit`]: the kind of the segment, where it begins, and the length of
 //!   its text.
-//! - For congestion control: `transmit_within` emits what may go out within a window from SND.UNA,
-//!   `emit_acknowledgement` an acknowledgement without data, and `resend_first` sends the first segment in flight again
-//!   in place of all of them.
+//! - For congestion control: `transmit_within` emits what may go out within a window from SND.UNA, and `train_within`
+//!   writes it as one, `emit_acknowledgement` an acknowledgement without data, and `resend_first` sends the first segment
+//!   in flight again in place of all of them.
 //! - Fewer copies and sums: `peek` lends what is unread ([`Lent`]) and `consume` removes it. `parts` lends the text of
 //!   the segment that is due ([`Parts`]) and `sent` reports its emission. `arrive_vouched` takes what a device has
 //!   checked, and `emit_partial` leaves the checksum to it. `emit_train` writes many segments as one ([`Train`]), for a

@@ -69,7 +69,8 @@ impl<A: Allocator> Endpoint<A> {
     fn needs_probe(&self) -> bool
         ensures { result ≡ needs_probe self.now }
     {
-        sends_text(self.phase) && self.sender.is_probe_needed()
+        // Mostly the window is open.
+        self.sender.snd_wnd == 0 && sends_text(self.phase) && self.sender.is_probe_needed()
     }
 
     /// The retransmission timeout (RFC 9293, 3.8.1 and 3.8.6.1).

@@ -3,3 +3,4 @@ pub mod Standing
 mod Bursts
 mod InTime
 mod InTwo
+mod Rows

@@ -13,6 +13,21 @@ second : (a b : Bool) → (a && b) ≡ true → b ≡ true
 second true b e = e
 second false b e = absurd (cc)
 
+at-last : (x : Bool) → false ≡ (x && false)
+at-last true = refl
+at-last false = refl
+
+-- what is looked at at once is what stands, one after another
+pub at_once : (u r s x o t l : Bool) → (u && (((((r && s) && o) && t) && l) && x)) ≡ (u && ((r && (s && x)) && (o && (t && l))))
+at_once false r s x o t l = refl
+at_once true false s x o t l = refl
+at_once true true false x o t l = refl
+at_once true true true x false t l = at-last x
+at_once true true true x true false l = at-last x
+at_once true true true x true true false = at-last x
+at_once true true true true true true true = refl
+at_once true true true false true true true = refl
+
 kept-same : (runs : Bool) (before : Option ℕ) (new : ℕ) → is_kept runs before ≡ true → kept runs true before new ≡ before
 kept-same true (Some t) new e = refl
 kept-same true None new e = absurd (cc)

@@ -1,6 +1,7 @@
 -- An end without a clock, as functions of its state S.
 use Rattle.std.specs.Prelude.{ℕ, Bool, List, Option}
 use Rattle.tcp_driver.specs.declared.machine.Report.{Report}
+use Rattle.tcp_driver.specs.declared.machine.Row.{Row}
 use Rattle.tcp_driver.specs.declared.machine.Sent.{Sent}
 use Rattle.tcp_driver.specs.declared.machine.Timer.{Timer}
 use Rattle.tcp_driver.specs.declared.machine.Wants.{Wants}
@@ -29,6 +30,9 @@ pub record Machine (S : Type 0) : Type 0 where
   pub alone : S → Option Sent
   pub written_alone : S → List ℕ → List ℕ
   pub emitted_alone : S → S
+  -- segments as one within a window, at most so many, into so much room, and what is written of them into a buffer
+  pub row : S → ℕ → ℕ → ℕ → Option Row
+  pub written_row : S → ℕ → ℕ → List ℕ → List ℕ
   -- whether anything is in flight, and the state after the first segment of it is to go out again
   pub can_resend : S → Bool
   pub first_resent : S → S

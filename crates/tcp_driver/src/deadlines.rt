@@ -34,6 +34,10 @@ impl Deadlines {
     pub fn soonest(self) -> Option<u64>
         ensures { result ≡ soonest self }
     {
+        // Mostly no other runs.
+        if self.reorder.is_none() && self.time_wait.is_none() {
+            return self.retransmit;
+        }
         earlier(self.retransmit, earlier(self.reorder, self.time_wait))
     }
 

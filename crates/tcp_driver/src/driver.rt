@@ -37,8 +37,10 @@ impl<C: Core + Drop> Model for Driver<C> {
 }
 
 impl<C: Core + Drop> Driver<C> {
-    ghost use Rattle.std.specs.Prelude.{false, is_some, true};
+    ghost use Rattle.std.specs.Prelude.{Some, false, is_some, true};
+    ghost use Rattle.tcp_driver.specs.Deadlines.{last};
     ghost use Rattle.tcp_driver.specs.Driver.{after_arrival, after_emission, after_time, after_user, after_user_timeout, arrival_answer, at, new_driving, sent_of, way_of, written_of};
+    ghost use Rattle.tcp_driver.specs.Rows.{after_emissions, emissions_of};
     ghost use Rattle.tcp_driver.specs.Times.{expiry, is_suspect, longest_wait, next_expiry, wants_any};
     ghost use Rattle.tcp_timing.specs.Rules.{IsSound};
 
@@ -148,8 +150,36 @@ impl<C: Core + Drop> Driver<C> {
         Some(sent)
     }
 
+    /// Writes as one, for a device that cuts and sums them, the segments that may go out within `window` as [`emit`](Self::emit)
+    /// has it, at most `most`: as many calls of it. A `most` of 1 is one segment for a device that sums. A burst is over once
+    /// nothing goes out.
+    #[tactic(auto, using(crate::proofs::Rows::row_is_emissions), unfolding(crate::specs::Rows::after_emissions, crate::specs::Rows::core_after_many))]
+    pub fn emit_train(
+        &mut self,
+        now: u64,
+        window: u64,
+        out: &mut [u8],
+        most: usize,
+    ) -> Option<C::Train>
+        requires { C.machine.room ≤ length out.old }
+        ensures train { result ≡ C.train_answer self.old.core window most (length out.old) }
+        ensures written { out.new ≡ C.machine.written_row self.old.core window most out.old }
+        ensures state { self.new ≡ after_emissions C.machine (emissions_of (C.machine.row self.old.core window most (length out.old))) self.old (at self.old now) window }
+    {
+        let now = self.timers.time_at(now);
+        let Some((row, train)) = self.core.transmit_train(window, out, most) else {
+            // Nothing has changed, and the timers run as the end wants them.
+            self.timers.rest(now);
+            return None;
+        };
+        self.timers
+            .emitted_as_one(row, self.core.wants(), self.core.una(), now);
+        Some(train)
+    }
+
     /// It is `now`: the timer that has expired, if one has. Then a burst begins: until an `emit` finds nothing that may go
     /// out, no segment is taken and no other timer expires. After the user timeout the connection is aborted.
+    #[inline(always)]
     pub fn timeout(&mut self, now: u64) -> Option<Timer>
         ensures expired { result ≡ expiry self.old.times (at self.old now) }
         ensures state { self.new ≡ after_time C.machine self.old (at self.old now) }
@@ -159,10 +189,57 @@ impl<C: Core + Drop> Driver<C> {
             self.timers.pass(now);
             return None;
         };
+        self.expire(timer, now);
+        Some(timer)
+    }
+
+    /// It is `now`: as [`timeout`](Self::timeout), and when it has to be called next, as [`poll_at`](Self::poll_at) behind it.
+    #[inline(always)]
+    pub fn tick(&mut self, now: u64) -> (Option<Timer>, Option<u64>)
+        ensures expired { result.0 ≡ expiry self.old.times (at self.old now) }
+        ensures next { result.1 ≡ next_expiry self.new.times }
+        ensures state { self.new ≡ after_time C.machine self.old (at self.old now) }
+    {
+        let now = self.timers.time_at(now);
+        let next = self.timers.next_expiry();
+        // Mostly none has expired.
+        if !self.timers.may_expire(next, now) {
+            self.timers.pass(now);
+            return (None, next);
+        }
+        let expired = self.expire_next(now);
+        (expired, self.timers.next_expiry())
+    }
+
+    /// The timer that has expired at `now`, if one has, begins a burst.
+    #[cold]
+    #[inline(never)]
+    fn expire_next(&mut self, now: u64) -> Option<Timer>
+        requires early { now ≤ last }
+        requires later { self.old.times.clock ≤ now }
+        ensures expired { result ≡ expiry self.old.times now }
+        ensures state { self.new ≡ after_time C.machine self.old now }
+    {
+        let Some(timer) = self.timers.expiry(now) else {
+            self.timers.pass(now);
+            return None;
+        };
+        self.expire(timer, now);
+        Some(timer)
+    }
+
+    /// The timer that has expired at `now` begins a burst.
+    #[cold]
+    #[inline(never)]
+    fn expire(&mut self, timer: Timer, now: u64)
+        requires expired { expiry self.old.times now ≡ Some timer }
+        requires early { now ≤ last }
+        requires later { self.old.times.clock ≤ now }
+        ensures { self.new ≡ after_time C.machine self.old now }
+    {
         self.core.expire(timer);
         self.timers.expire(timer);
         self.timers.follow(self.core.wants(), self.core.una(), now);
-        Some(timer)
     }
 
     /// Whether the retransmission timer has expired so often without an answer that the path to the peer may be dead, of

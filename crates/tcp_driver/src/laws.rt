@@ -1,6 +1,7 @@
 //! What follows of a driver, whatever its end is and whatever is called. These functions do nothing when they run: each
 //! carries the law that it ensures.
 ghost use Rattle.tcp_driver.specs.Calls.{BurstIsWhole, TimeoutComesInTime};
+ghost use Rattle.tcp_driver.specs.Trains.{TrainIsEmissions};
 
 use crate::machine::Core;
 
@@ -17,4 +18,11 @@ pub fn burst_is_whole<C: Core>()
 /// `late` after it was started, or twice both where it was started anew.
 pub fn timeout_comes_in_time<C: Core>()
     ensures { TimeoutComesInTime C.machine }
+{}
+
+/// Segments that go out as one ([`Driver::emit_train`](crate::Driver::emit_train)) are as many calls of
+/// [`Driver::emit`](crate::Driver::emit), one after another at the same time: so what holds of each list of calls holds
+/// where some of them are trains.
+pub fn a_train_is_emissions<C: Core>()
+    ensures { TrainIsEmissions C.machine }
 {}

@@ -2,6 +2,7 @@
 //! is a count of microseconds, which the caller passes, and which never goes back.
 //!
 //! - [`Core`]: what an end is to it: an end without a clock; [`holds`] says what it holds back.
+//! - [`Row`]: what an end tells of segments that go out as one, for a device that cuts them.
 //! - [`Driver`]: that end with its timers (RFC 6298, 5; RFC 9293, 3.8.3 and 3.10.8).
 //! - [`Limits`]: how long an end waits before it is given up, how long TIME-WAIT is, and how far its guard reaches.
 //! - [`laws`]: what follows, whatever the end is and whatever is called.
@@ -15,16 +16,18 @@
 //! 5. calls [`Driver::timeout`], and emits again where a timer has expired.
 #![tactic(auto)]
 
+mod conditions;
 mod deadlines;
 mod driver;
 pub mod laws;
 mod limits;
 mod machine;
+mod row;
 mod timers;
 mod window;
 
 pub use deadlines::LAST;
 pub use driver::{Driver, Taken};
 pub use limits::Limits;
-pub use machine::{Core, Report, Sent, Timer, Wants, Way};
+pub use machine::{Core, Report, Row, Sent, Timer, Wants, Way};
 pub use window::holds;

@@ -1,4 +1,4 @@
-ghost use Rattle.std.specs.Prelude.{◌≡◌, ◌+◌, ◌<◌, ◌≤◌, ◌^◌, IfSome, IsNone, length, ℕ, List};
+ghost use Rattle.std.specs.Prelude.{◌≡◌, ◌+◌, ◌<◌, ◌≤◌, ◌^◌, IfSome, IsNone, None, Option, length, option_map, ℕ, List};
 
 /// A segment: the address that it goes to, its length in bytes, the position where it begins, and how many numbers it takes
 /// (RFC 9293, 3.4). A position counts from the SYN, which is at 0.
@@ -12,6 +12,19 @@ pub struct Sent {
     pub start: u64,
     /// How many numbers it takes: one for each byte of text, one for a SYN, one for a FIN.
     pub count: u64,
+}
+
+/// Segments that go out as one, for a device that cuts them, one after another: each begins where the one before it ends.
+#[derive(Clone, Copy, Debug, PartialEq, Eq)]
+pub struct Row {
+    /// The position of their first number.
+    pub start: u64,
+    /// How many numbers all of them take together.
+    pub count: u64,
+    /// How many numbers each takes but the last, which takes the rest.
+    pub each: u64,
+    /// How many they are.
+    pub segments: usize,
 }
 
 /// The timers of an end (RFC 9293, 3.10.8; RFC 2018, 5).
@@ -83,9 +96,12 @@ pub trait Core {
     type Aborting;
     /// What an arrival answers, beside what the driver is told of it.
     type Arriving;
+    /// What an emission of segments as one answers, beside what the driver is told of it.
+    type Train;
 
     ghost use Rattle.tcp_driver.specs.Driver.{core_after, sent_of, written_of};
     ghost use Rattle.tcp_driver.specs.Machine.{Machine};
+    ghost use Rattle.tcp_driver.specs.Rows.{IsRow, core_after_many, emissions_of};
     ghost use Rattle.tcp_driver.specs.declared.machine.Way.{Way};
 
     /// What it does, as functions of its state.
@@ -102,6 +118,8 @@ pub trait Core {
     ghost abort_answer: { Self → Self.Aborting };
 
     ghost arrival_answer: { Self → List ℕ → List ℕ → List ℕ → Way → Self.Arriving };
+
+    ghost train_answer: { Self → ℕ → ℕ → ℕ → Option Self.Train };
 
     /// Which timers have to run.
     fn wants(&self) -> Wants
@@ -146,6 +164,25 @@ pub trait Core {
         ensures state { self.new ≡ core_after machine self.old window }
         ensures most { IfSome result (λ sent. sent.len ≤ machine.room) }
         ensures fits { IfSome result (λ sent. sent.start + sent.count < 2 ^ 64) }
+        ensures idle { IsNone result → self.new ≡ self.old };
+
+    /// Writes as one, for a device that cuts and sums them, at most `most` of the segments that may go out within a window: what
+    /// the device makes of it is what so many calls of `transmit_within` write, after which the end is this. What the driver
+    /// is told of them, and the end's own answer. Where none may go out nothing changes.
+    fn transmit_train(
+        &mut self,
+        window: u64,
+        out: &mut [u8],
+        most: usize,
+    ) -> Option<(Row, Self::Train)>
+        requires room { machine.room ≤ length out.old }
+        ensures row { option_map (λ told. told.0) result ≡ machine.row self.old window most (length out.old) }
+        ensures answer { option_map (λ told. told.1) result ≡ train_answer self.old window most (length out.old) }
+        ensures written { out.new ≡ machine.written_row self.old window most out.old }
+        ensures state { self.new ≡ core_after_many machine (emissions_of (machine.row self.old window most (length out.old))) window self.old }
+        ensures turns { IfSome result (λ told. IsRow machine self.old window told.0) }
+        ensures fits { IfSome result (λ told. told.0.start + told.0.count < 2 ^ 64) }
+        ensures none { IsNone result → sent_of machine self.old window ≡ None }
         ensures idle { IsNone result → self.new ≡ self.old };
 
     /// Of what is in flight the first segment goes out again (RFC 5681, 3.2): whether anything is in flight.

@@ -1,8 +1,10 @@
-ghost use Rattle.std.specs.Prelude.{IfSome, Some, is_some, max, min, false, true, ◌≡◌, ◌≤◌, ◌+◌, ◌<◌, ◌*◌, ◌^◌};
-ghost use Rattle.tcp_driver.specs.Deadlines.{last};
-ghost use Rattle.tcp_driver.specs.Limits.{limit_of};
-ghost use Rattle.tcp_driver.specs.Times.{goes_again, is_shut, later_by, opens, restarts, round_trip, shut_after, still};
+ghost use Rattle.std.specs.Prelude.{IfSome, None, Some, is_some, max, min, false, true, ◌≡◌, ◌==◌, ◌≤◌, ◌+◌, ◌<◌, ◌*◌, ◌^◌};
+ghost use Rattle.tcp_driver.specs.Deadlines.{kept, last};
+ghost use Rattle.tcp_driver.specs.Times.{restarts, round_trip};
 
+use crate::conditions::{
+    goes_again, is_shut, later_by, limit_of, opens, runs_none, shut_after, still,
+};
 use crate::deadlines::{Deadlines, LAST, earlier, is_kept, kept, no_later};
 use crate::limits::Limits;
 use crate::machine::{Report, Sent, Timer, Wants};
@@ -47,7 +49,7 @@ impl Model for Timers {
 }
 
 impl Timers {
-    ghost use Rattle.tcp_driver.specs.Times.{IsSoon, after_expiry, after_segment, after_window, expiry, first_times, followed, is_suspect, measured, next_expiry, rests, stands, taken, time_at, user_deadline, waits_on, with_user_timeout};
+    ghost use Rattle.tcp_driver.specs.Times.{IsSoon, after_expiry, after_segment, after_window, expiring, expiry, first_times, followed, is_suspect, measured, next_expiry, rests, stands, taken, time_at, user_deadline, waits_on, with_user_timeout};
     ghost use Rattle.tcp_timing.specs.Rules.{IsSound};
 
     /// No timer runs.
@@ -115,29 +117,25 @@ impl Timers {
         }
     }
 
-    /// Whether the retransmission timer runs as the end wants it already, and where it doesn't nothing is left of an earlier
-    /// wait.
-    fn waits_on(&self, runs: bool) -> bool
-        ensures { result ≡ waits_on self.now runs }
-    {
-        is_kept(runs, self.deadlines.retransmit)
-            && (is_kept(runs, self.since) && (runs || (self.resent == 0 && !self.restarted)))
-    }
-
-    /// Whether the timers run as the end wants them already, and nothing was acknowledged.
+    /// Whether the timers run as the end wants them already, and nothing was acknowledged. All that says so is looked at at once:
+    /// mostly it is so, and a jump for each costs more.
+    #[inline(always)]
+    #[tactic(auto, using(crate::proofs::Standing::at_once))]
     fn stands(&self, wants: Wants, una: u64) -> bool
         ensures { result ≡ stands self.now wants una }
     {
-        una == self.una
-            && (self.waits_on(wants.retransmit)
-                && (is_kept(wants.reorder, self.deadlines.reorder)
-                    && (is_kept(wants.time_wait, self.deadlines.time_wait)
-                        && is_kept(wants.fin_wait_2, self.left))))
+        let runs = wants.retransmit;
+        let are_kept = is_kept(runs, self.deadlines.retransmit)
+            & is_kept(runs, self.since)
+            & is_kept(wants.reorder, self.deadlines.reorder)
+            & is_kept(wants.time_wait, self.deadlines.time_wait)
+            & is_kept(wants.fin_wait_2, self.left);
+        una == self.una && (are_kept && (runs || (self.resent == 0 && !self.restarted)))
     }
 
     /// The timers run as the end wants them, and start anew where something was acknowledged. Mostly they do already, and
     /// nothing was: then only time passes.
-    #[inline]
+    #[inline(always)]
     pub fn follow(&mut self, wants: Wants, una: u64, now: u64)
         requires early { now ≤ last }
         requires later { self.old.clock ≤ now }
@@ -154,62 +152,133 @@ impl Timers {
         if self.stands(wants, una) {
             self.pass(now);
         } else {
-            self.start(wants, una, now);
+            self.pass(now);
+            self.start(
+                una,
+                wants.retransmit,
+                wants.reorder,
+                wants.time_wait,
+                wants.fin_wait_2,
+            );
         }
     }
 
-    /// As `follow`, whether they do already or not.
-    #[inline(never)]
-    fn start(&mut self, wants: Wants, una: u64, now: u64)
-        requires early { now ≤ last }
-        requires later { self.old.clock ≤ now }
-        ensures state { self.new ≡ followed self.old wants una now }
+    /// As `follow` now, whether they do already or not. What the end wants comes as words, which stay in registers.
+    #[inline(always)]
+    fn start(
+        &mut self,
+        una: u64,
+        retransmit: bool,
+        reorder: bool,
+        time_wait: bool,
+        fin_wait_2: bool,
+    )
+        ensures state { self.new ≡ followed self.old (record { retransmit = retransmit; reorder = reorder; time_wait = time_wait; fin_wait_2 = fin_wait_2 }) una self.old.clock }
         ensures soon { IsSoon self.new }
         ensures una { self.new.una ≡ una }
-        ensures retransmit { is_some self.new.deadlines.retransmit ≡ wants.retransmit }
-        ensures since { is_some self.new.since ≡ wants.retransmit }
-        ensures left { is_some self.new.left ≡ wants.fin_wait_2 }
-        ensures reorder { is_some self.new.deadlines.reorder ≡ wants.reorder }
-        ensures time_wait { is_some self.new.deadlines.time_wait ≡ wants.time_wait }
-        ensures rests { rests wants.retransmit self.new ≡ true }
+        ensures retransmit { is_some self.new.deadlines.retransmit ≡ retransmit }
+        ensures since { is_some self.new.since ≡ retransmit }
+        ensures left { is_some self.new.left ≡ fin_wait_2 }
+        ensures reorder { is_some self.new.deadlines.reorder ≡ reorder }
+        ensures time_wait { is_some self.new.deadlines.time_wait ≡ time_wait }
+        ensures rests { rests retransmit self.new ≡ true }
     {
-        let same = una == self.una;
-        let span = if same { self.span } else { self.round_trip() };
-        let rto = self.estimator.rto();
-        let time_wait = LAST.min(self.limits.time_wait);
-        self.deadlines = Deadlines {
-            retransmit: kept(wants.retransmit, same, self.deadlines.retransmit, now + rto),
-            reorder: kept(
-                wants.reorder,
-                same,
-                self.deadlines.reorder,
-                now + rto.min(span),
-            ),
-            time_wait: kept(
-                wants.time_wait,
-                true,
-                self.deadlines.time_wait,
-                now + time_wait,
-            ),
-        };
-        self.una = una;
-        self.since = kept(wants.retransmit, same, self.since, now);
-        self.resent = if wants.retransmit && same {
-            self.resent
+        if una == self.una {
+            self.start_some(retransmit, reorder, time_wait, fin_wait_2);
         } else {
-            0
-        };
-        self.restarted = still(wants.retransmit, same, self.restarted);
-        self.span = span;
-        self.left = kept(wants.fin_wait_2, true, self.left, now);
-        self.clock = now;
+            self.start_anew(una, retransmit, reorder, time_wait, fin_wait_2);
+        }
+    }
+
+    /// Those that don't run and have to start, where nothing was acknowledged.
+    #[inline(never)]
+    fn start_some(&mut self, retransmit: bool, reorder: bool, time_wait: bool, fin_wait_2: bool)
+        ensures state { self.new ≡ followed self.old (record { retransmit = retransmit; reorder = reorder; time_wait = time_wait; fin_wait_2 = fin_wait_2 }) self.old.una self.old.clock }
+        ensures soon { IsSoon self.new }
+        ensures una { self.new.una ≡ self.old.una }
+        ensures retransmit { is_some self.new.deadlines.retransmit ≡ retransmit }
+        ensures since { is_some self.new.since ≡ retransmit }
+        ensures left { is_some self.new.left ≡ fin_wait_2 }
+        ensures reorder { is_some self.new.deadlines.reorder ≡ reorder }
+        ensures time_wait { is_some self.new.deadlines.time_wait ≡ time_wait }
+        ensures rests { rests retransmit self.new ≡ true }
+    {
+        let now = self.clock;
+        let rto = self.estimator.rto();
+        self.deadlines.retransmit = kept(retransmit, true, self.deadlines.retransmit, now + rto);
+        self.since = kept(retransmit, true, self.since, now);
+        self.resent = if retransmit { self.resent } else { 0 };
+        self.restarted = still(retransmit, true, self.restarted);
+        self.start_others(true, reorder, time_wait, fin_wait_2);
+    }
+
+    /// All start anew that have to run, where something was acknowledged.
+    #[inline(never)]
+    fn start_anew(
+        &mut self,
+        una: u64,
+        retransmit: bool,
+        reorder: bool,
+        time_wait: bool,
+        fin_wait_2: bool,
+    )
+        requires { (una == self.old.una) ≡ false }
+        ensures state { self.new ≡ followed self.old (record { retransmit = retransmit; reorder = reorder; time_wait = time_wait; fin_wait_2 = fin_wait_2 }) una self.old.clock }
+        ensures soon { IsSoon self.new }
+        ensures una { self.new.una ≡ una }
+        ensures retransmit { is_some self.new.deadlines.retransmit ≡ retransmit }
+        ensures since { is_some self.new.since ≡ retransmit }
+        ensures left { is_some self.new.left ≡ fin_wait_2 }
+        ensures reorder { is_some self.new.deadlines.reorder ≡ reorder }
+        ensures time_wait { is_some self.new.deadlines.time_wait ≡ time_wait }
+        ensures rests { rests retransmit self.new ≡ true }
+    {
+        let now = self.clock;
+        let rto = self.estimator.rto();
+        self.deadlines.retransmit = if retransmit { Some(now + rto) } else { None };
+        self.since = if retransmit { Some(now) } else { None };
+        self.resent = 0;
+        self.restarted = false;
+        self.una = una;
+        self.span = self.round_trip();
+        self.start_others(false, reorder, time_wait, fin_wait_2);
+    }
+
+    /// The timers but that of retransmission. Mostly no other runs, and none is wanted.
+    #[inline(always)]
+    fn start_others(&mut self, same: bool, reorder: bool, time_wait: bool, fin_wait_2: bool)
+        ensures state { self.new ≡ record self.old { deadlines = record self.old.deadlines { reorder = kept reorder same self.old.deadlines.reorder (self.old.clock + min self.old.estimate.rto self.old.span); time_wait = kept time_wait true self.old.deadlines.time_wait (self.old.clock + min last self.old.limits.time_wait) }; left = kept fin_wait_2 true self.old.left self.old.clock } }
+        ensures soon { IsSoon self.new }
+    {
+        if runs_none(self.deadlines.reorder, self.deadlines.time_wait, self.left)
+            && !(reorder || time_wait || fin_wait_2)
+        {
+            return;
+        }
+        self.start_each(same, reorder, time_wait, fin_wait_2);
+    }
+
+    /// As `start_others`, whether one runs or is wanted, or not.
+    #[cold]
+    #[inline(never)]
+    fn start_each(&mut self, same: bool, reorder: bool, time_wait: bool, fin_wait_2: bool)
+        ensures state { self.new ≡ record self.old { deadlines = record self.old.deadlines { reorder = kept reorder same self.old.deadlines.reorder (self.old.clock + min self.old.estimate.rto self.old.span); time_wait = kept time_wait true self.old.deadlines.time_wait (self.old.clock + min last self.old.limits.time_wait) }; left = kept fin_wait_2 true self.old.left self.old.clock } }
+        ensures soon { IsSoon self.new }
+    {
+        let now = self.clock;
+        let late = now + self.estimator.rto().min(self.span);
+        let longest = LAST.min(self.limits.time_wait);
+        self.deadlines.reorder = kept(reorder, same, self.deadlines.reorder, late);
+        self.deadlines.time_wait = kept(time_wait, true, self.deadlines.time_wait, now + longest);
+        self.left = kept(fin_wait_2, true, self.left, now);
     }
 
     /// All before `una` is acknowledged.
     fn measure(&mut self, una: u64, now: u64)
         ensures { self.new ≡ measured self.old una now }
     {
-        if self.una == 0 && 0 < una && 0 < self.resent {
+        // Mostly nothing has expired.
+        if 0 < self.resent && (self.una == 0 && 0 < una) {
             self.estimator.syn_was_resent();
         }
         if let Some(rtt) = self.watch.acked(una, now) {
@@ -217,8 +286,20 @@ impl Timers {
         }
     }
 
-    /// The peer's window was taken, if one was.
+    /// The peer's window was taken, if one was. Mostly it was open and is, and nothing changes.
+    #[inline(always)]
     fn take_window(&mut self, una: u64, window: Option<u64>)
+        ensures { self.new ≡ after_window self.old una window }
+    {
+        if self.shut || is_shut(window) {
+            self.turn_window(una, window);
+        }
+    }
+
+    /// The same, whether it was open or not.
+    #[cold]
+    #[inline(never)]
+    fn turn_window(&mut self, una: u64, window: Option<u64>)
         ensures { self.new ≡ after_window self.old una window }
     {
         if opens(self.shut, window) {
@@ -242,7 +323,8 @@ impl Timers {
         if report.repeats_fin {
             self.deadlines.time_wait = None;
         }
-        if report.from_peer {
+        // Mostly it isn't in FIN-WAIT-2.
+        if self.left.is_some() && report.from_peer {
             self.left = None;
         }
     }
@@ -255,8 +337,23 @@ impl Timers {
         goes_again(&self.watch, sent) && (sent.start == self.una && !self.restarted)
     }
 
-    /// A segment has gone out.
+    /// A segment has gone out. Mostly it is new, and no timer starts anew.
+    #[inline(always)]
     pub fn emitted(&mut self, sent: Sent, now: u64)
+        requires fits { sent.start + sent.count < 2 ^ 64 }
+        ensures { self.new ≡ after_segment (Some sent) self.old now }
+    {
+        if goes_again(&self.watch, sent) {
+            self.emitted_again(sent, now);
+        } else {
+            self.watch.sent(sent.start, sent.count, now);
+        }
+    }
+
+    /// The same, whether it is new or not.
+    #[cold]
+    #[inline(never)]
+    fn emitted_again(&mut self, sent: Sent, now: u64)
         requires fits { sent.start + sent.count < 2 ^ 64 }
         ensures { self.new ≡ after_segment (Some sent) self.old now }
     {
@@ -289,6 +386,8 @@ impl Timers {
     }
 
     /// When the end is given up.
+    #[cold]
+    #[inline(never)]
     fn user_deadline(&self) -> Option<u64>
         ensures { result ≡ user_deadline self.now }
     {
@@ -301,6 +400,7 @@ impl Timers {
     }
 
     /// When a timer expires next.
+    #[inline(always)]
     pub fn next_expiry(&self) -> Option<u64>
         ensures { result ≡ next_expiry self.now }
     {
@@ -312,14 +412,35 @@ impl Timers {
         earlier(self.user_deadline(), soonest)
     }
 
-    /// The timer that has expired, if one has. None does in a burst.
+    /// Whether a timer may have expired, where the next one expires at `next`. None does in a burst, and mostly none has.
+    #[inline(always)]
     #[tactic(auto, using(crate::proofs::Expiring::none_expires))]
+    pub fn may_expire(&self, next: Option<u64>, now: u64) -> bool
+        requires { next ≡ next_expiry self.now }
+        ensures none { result ≡ false → expiry self.now now ≡ None }
+        ensures outside { result ≡ true → self.now.bursting ≡ false }
+    {
+        !self.bursting && no_later(next, now)
+    }
+
+    /// The timer that has expired, if one has.
+    #[inline(always)]
     pub fn expiry(&self, now: u64) -> Option<Timer>
         ensures { result ≡ expiry self.now now }
     {
-        if self.bursting || !no_later(self.next_expiry(), now) {
-            return None;
+        if self.may_expire(self.next_expiry(), now) {
+            self.first_expired(now)
+        } else {
+            None
         }
+    }
+
+    /// The first of the timers that have expired outside a burst.
+    #[cold]
+    #[inline(never)]
+    fn first_expired(&self, now: u64) -> Option<Timer>
+        ensures { result ≡ expiring self.now now }
+    {
         if no_later(self.user_deadline(), now) {
             Some(Timer::User)
         } else if no_later(self.deadlines.retransmit, now) {
@@ -373,71 +494,5 @@ impl Timers {
         ensures { self.new ≡ with_user_timeout self.old limit }
     {
         self.limits.user = limit;
-    }
-}
-
-/// How long what begins at SND.UNA may be without an answer: the SYN is at position 0.
-fn limit_of(limits: &Limits, una: u64) -> Option<u64>
-    ensures { result ≡ limit_of limits.now una }
-{
-    if una == 0 {
-        limits.handshake
-    } else {
-        limits.user
-    }
-}
-
-/// Whether something was done since the timer began to wait, and it waits on.
-fn still(runs: bool, same: bool, before: bool) -> bool
-    ensures { result ≡ still runs same before }
-{
-    runs && same && before
-}
-
-/// Whether a window was taken that is shut.
-fn is_shut(window: Option<u64>) -> bool
-    ensures { result ≡ is_shut window }
-{
-    match window {
-        Some(window) => window == 0,
-        None => false,
-    }
-}
-
-/// Whether a window was taken that is open, after it was shut.
-fn opens(shut: bool, window: Option<u64>) -> bool
-    ensures { result ≡ opens shut window }
-{
-    match window {
-        Some(window) => shut && window != 0,
-        None => false,
-    }
-}
-
-/// Whether the window is shut after this one was taken, if one was.
-fn shut_after(shut: bool, window: Option<u64>) -> bool
-    ensures { result ≡ shut_after shut window }
-{
-    match window {
-        Some(window) => window == 0,
-        None => shut,
-    }
-}
-
-/// Whether a segment goes out again.
-fn goes_again(watch: &Watch, sent: Sent) -> bool
-    ensures { result ≡ goes_again watch.now sent }
-{
-    0 < sent.count && sent.start < watch.highest
-}
-
-/// A time that lies so long after another.
-fn later_by(time: Option<u64>, span: Option<u64>) -> Option<u64>
-    requires { IfSome time (λ t. t ≤ last) }
-    ensures { result ≡ later_by time span }
-{
-    match (time, span) {
-        (Some(time), Some(span)) => Some(time + LAST.min(span)),
-        _ => None,
     }
 }

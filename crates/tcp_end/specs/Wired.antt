@@ -3,6 +3,7 @@ use Rattle.std.specs.Prelude.{ℕ, ◌+◌, ◌-◌, nat_lt, Bool, false, true, 
 use Rattle.tcp_timing.specs.declared.rules.Rules.{Rules}
 use Rattle.tcp_driver.specs.declared.limits.Limits.{Limits}
 use Rattle.tcp_driver.specs.declared.machine.Report.{Report}
+use Rattle.tcp_driver.specs.declared.machine.Row.{Row}
 use Rattle.tcp_driver.specs.declared.machine.Sent.{Sent}
 use Rattle.tcp_driver.specs.declared.machine.Timer.{Timer}
 use Rattle.tcp_driver.specs.declared.machine.Timer.TheVariants as timers
@@ -22,6 +23,7 @@ use Rattle.tcp_conn.specs.declared.arrive.judgement.Judgement.{Judgement}
 use Rattle.tcp_conn.specs.declared.arrive.judgement.Judgement.TheVariants.{TakenShut, Unacceptable}
 use Rattle.tcp_conn.specs.declared.arrive.judgement.Judgement.TheVariants as rules
 use Rattle.tcp_conn.specs.declared.arrive.report.Taken.{Taken}
+use Rattle.tcp_conn.specs.declared.emit.train.Train.{Train}
 use Rattle.tcp_conn.specs.declared.emit.transmit.Transmit.{Transmit}
 use Rattle.tcp_conn.specs.declared.outcome.CallError.{CallError}
 use Rattle.tcp_conn.specs.declared.phase.Phase.{Phase}
@@ -35,6 +37,7 @@ use Rattle.tcp_conn.specs.Phase.{is_time_wait}
 use Rattle.tcp_conn.specs.State.{State}
 use Rattle.tcp_conn.specs.Taking.{bytes_acked}
 use Rattle.tcp_conn.specs.Timers.{after_resend_first, after_timer, sends_again, timers_wanted}
+use Rattle.tcp_conn.specs.TrainWithin.{train_buffer_within, train_within}
 use Rattle.tcp_conn.specs.Transmission.{transmit_ack_alone, transmit_due}
 use Rattle.tcp_end.specs.declared.wired.Wired.{Wired}
 
@@ -60,6 +63,10 @@ expired s timers.User = after_abort s
 -- A SEGMENT takes the numbers between where it begins and where it ends
 abbrev pub sent_by : Transmit → Sent
 sent_by t = record { to = t.to.0; len = t.len; start = t.position; count = t.end - t.position }
+
+-- SEGMENTS AS ONE take the numbers between where the first begins and the last ends
+abbrev pub row_by : Train → Row
+row_by t = record { start = t.whole.position; count = t.whole.end - t.whole.position; each = t.each; segments = t.segments }
 
 -- A RESET COUNTS AS LOST in TIME-WAIT (RFC 1337, 3), and where all has come but the last acknowledgement, while it would discard text
 -- that the user hasn't read
@@ -147,6 +154,8 @@ machine = record {
   alone = λ w. option_map sent_by (transmit_ack_alone w.end);
   written_alone = λ w out. buffer_after_ack_alone w.end out;
   emitted_alone = λ w. record { end = after_ack_alone w.end };
+  row = λ w window most room. option_map row_by (train_within w.end window most room);
+  written_row = λ w window most out. train_buffer_within w.end window most out;
   can_resend = λ w. sends_again w.end;
   first_resent = λ w. record { end = after_resend_first w.end };
   sent = λ w text. record { end = after_send w.end text };

@@ -1,11 +1,13 @@
 ghost use Rattle.std.specs.Prelude.{◌≡◌};
 ghost use Rattle.tcp_timing.specs.Rules.{IsSound};
 ghost use Rattle.tcp_conn.specs.Guard.{reading_of};
-ghost use Rattle.tcp_end.specs.Wired.{connected, intake_of, is_last_fin, is_of_connection, listening, sent_by, waits_for_last_ack};
+ghost use Rattle.tcp_end.specs.Wired.{connected, intake_of, is_last_fin, is_of_connection, listening, row_by, sent_by, waits_for_last_ack};
 
 use std::alloc::{Allocator, Global};
-use tcp_conn::{Brought, CallError, Endpoint, Intake, Judgement, Phase, Received, Taken, Transmit};
-use tcp_driver::{Core, Driver, Limits, Report, Sent, Timer, Wants, Way};
+use tcp_conn::{
+    Brought, CallError, Endpoint, Intake, Judgement, Phase, Received, Taken, Train, Transmit,
+};
+use tcp_driver::{Core, Driver, Limits, Report, Row, Sent, Timer, Wants, Way};
 use tcp_timing::Rules;
 use tcp_wire::{Addr, RawSegment, Seq};
 
@@ -59,6 +61,7 @@ pub fn listen<A: Allocator>(
 impl<A: Allocator> Core for Wired<A> {
     ghost use Rattle.tcp_conn.specs.Calls.{abort_answer, close_answer, receive_answer, send_answer};
     ghost use Rattle.tcp_conn.specs.Lending.{consume_answer};
+    ghost use Rattle.tcp_conn.specs.TrainWithin.{train_within};
     ghost use Rattle.tcp_end.specs.Wired.{intake_of, machine, taken_of};
 
     type Sending = Result<usize, CallError>;
@@ -72,6 +75,8 @@ impl<A: Allocator> Core for Wired<A> {
     type Aborting = Result<(), CallError>;
 
     type Arriving = Taken;
+
+    type Train = Train;
 
     ghost machine = { machine };
 
@@ -87,7 +92,19 @@ impl<A: Allocator> Core for Wired<A> {
 
     ghost arrival_answer = { λ w src dst bytes way. taken_of (intake_of way) w.end src dst bytes };
 
+    ghost train_answer = { λ w window most room. train_within w.end window most room };
+
     fn wants(&self) -> Wants {
+        // Mostly text goes both ways.
+        if matches!(self.end.phase(), Phase::Established) {
+            let wanted = self.end.timers_wanted();
+            return Wants {
+                retransmit: wanted.retransmit,
+                reorder: wanted.reorder,
+                time_wait: false,
+                fin_wait_2: false,
+            };
+        }
         let wanted = self.end.timers_wanted();
         Wants {
             retransmit: wanted.retransmit,
@@ -107,6 +124,9 @@ impl<A: Allocator> Core for Wired<A> {
 
     fn ignores_resets(&self) -> bool {
         let phase = self.end.phase();
+        if !matches!(phase, Phase::Closing | Phase::LastAck | Phase::TimeWait) {
+            return false;
+        }
         matches!(phase, Phase::TimeWait) || waits_for_last_ack(phase) && self.end.unread() > 0
     }
 
@@ -146,8 +166,9 @@ impl<A: Allocator> Core for Wired<A> {
             repeats_fin: rests
                 && is_of_connection(taken.rule)
                 && is_last_fin(rcv_nxt, src, dst, bytes, way),
+            // No jump: the driver mostly doesn't ask.
             from_peer: is_of_connection(taken.rule)
-                && (!matches!(taken.brought, Brought::Nothing) || taken.window_taken),
+                & (!matches!(taken.brought, Brought::Nothing) | taken.window_taken),
         };
         (report, taken)
     }
@@ -155,6 +176,11 @@ impl<A: Allocator> Core for Wired<A> {
     fn transmit_within(&mut self, window: u64, out: &mut [u8]) -> Option<Sent> {
         let sent = self.end.transmit_within(window, out)?;
         Some(sent_by(sent))
+    }
+
+    fn transmit_train(&mut self, window: u64, out: &mut [u8], most: usize) -> Option<(Row, Train)> {
+        let train = self.end.train_within(window, out, most)?;
+        Some((row_by(train), train))
     }
 
     fn resend_first(&mut self) -> bool {
@@ -196,6 +222,18 @@ fn sent_by(sent: Transmit) -> Sent
         len: sent.len,
         start: sent.position,
         count: sent.end.saturating_sub(sent.position),
+    }
+}
+
+/// What the driver is told of segments as one.
+fn row_by(train: Train) -> Row
+    ensures { result ≡ row_by train }
+{
+    Row {
+        start: train.whole.position,
+        count: train.whole.end.saturating_sub(train.whole.position),
+        each: train.each as u64,
+        segments: train.segments,
     }
 }
 

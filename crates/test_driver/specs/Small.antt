@@ -1,10 +1,12 @@
 -- A small end as a machine: it sends numbers, one in a segment.
-use Rattle.std.specs.Prelude.{ℕ, ◌+◌, ◌-◌, ◌^◌, Bool, true, false, not, ◌&&◌, ◌||◌, ◌==◌, nat_lt, if◌then◌else◌, List, [], ◌∷◌, length, Option, Some, None, min, max}
+use Rattle.std.specs.Prelude.{ℕ, ◌+◌, ◌-◌, ◌^◌, Bool, true, false, not, ◌&&◌, ◌||◌, ◌==◌, nat_lt, if◌then◌else◌, List, [], ◌∷◌, length, Option, Some, None, is_some, option_map, min, max}
 use Rattle.tcp_driver.specs.declared.machine.Report.{Report}
+use Rattle.tcp_driver.specs.declared.machine.Row.{Row}
 use Rattle.tcp_driver.specs.declared.machine.Sent.{Sent}
 use Rattle.tcp_driver.specs.declared.machine.Timer.{Timer}
 use Rattle.tcp_driver.specs.declared.machine.Timer.TheVariants.{Retransmit, Reorder, TimeWait, User}
 use Rattle.tcp_driver.specs.declared.machine.Wants.{Wants}
+use Rattle.tcp_driver.specs.Driver.{holds_by}
 use Rattle.tcp_driver.specs.Machine.{Machine}
 use Rattle.test_driver.specs.declared.small.Small.{Small}
 
@@ -70,6 +72,13 @@ emitted s =
 abbrev pub alone : Small → Option Sent
 alone s = if s.is_owed && is_open s then Some (segment s.nxt 0) else None
 
+-- what goes out within a window, and each alone
+abbrev pub goes_out : Small → ℕ → Option Sent
+goes_out s window = if holds_by (due s) s.una (s.nxt - s.una) (is_some (alone s)) window then alone s else due s
+
+abbrev pub row_of : Sent → Row
+row_of sent = record { start = sent.start; count = sent.count; each = sent.count; segments = 1 }
+
 abbrev pub first_resent : Small → Small
 first_resent s = if is_in_flight s then record s { again = s.una; until = s.una + 1 } else s
 
@@ -95,6 +104,8 @@ machine = record {
   alone = alone;
   written_alone = λ s out. out;
   emitted_alone = λ s. record s { is_owed = false };
+  row = λ s window most room. option_map row_of (goes_out s window);
+  written_row = λ s window most out. out;
   can_resend = is_in_flight;
   first_resent = first_resent;
   sent = λ s text. accepted s (length text);

@@ -1,8 +1,8 @@
 //! A small end: numbers without bytes, one in a segment.
 ghost use Rattle.std.specs.Prelude.{◌≡◌, ◌≤◌, ◌+◌, ◌<◌, ◌^◌, IfSome, false};
-ghost use Rattle.test_driver.specs.Small.{segment};
+ghost use Rattle.test_driver.specs.Small.{row_of, segment};
 
-use tcp_driver::{Core, Report, Sent, Timer, Wants, Way, holds};
+use tcp_driver::{Core, Report, Row, Sent, Timer, Wants, Way, holds};
 
 /// The bytes of each of its segments.
 const SEGMENT: usize = 14;
@@ -114,8 +114,20 @@ impl Small {
     }
 }
 
+/// What the driver is told of a segment that goes alone.
+fn row_of(sent: Sent) -> Row
+    ensures { result ≡ row_of sent }
+{
+    Row {
+        start: sent.start,
+        count: sent.count,
+        each: sent.count,
+        segments: 1,
+    }
+}
+
 impl Core for Small {
-    ghost use Rattle.test_driver.specs.Small.{is_open, machine, takes_text};
+    ghost use Rattle.test_driver.specs.Small.{goes_out, is_open, machine, takes_text};
 
     type Sending = bool;
 
@@ -128,6 +140,8 @@ impl Core for Small {
     type Aborting = bool;
 
     type Arriving = bool;
+
+    type Train = Sent;
 
     ghost machine = { machine };
 
@@ -142,6 +156,8 @@ impl Core for Small {
     ghost abort_answer = { λ s. is_open s };
 
     ghost arrival_answer = { λ s src dst bytes way. is_open s };
+
+    ghost train_answer = { λ s window most room. goes_out s window };
 
     fn wants(&self) -> Wants {
         Wants {
@@ -211,6 +227,13 @@ impl Core for Small {
         } else {
             self.transmit()
         }
+    }
+
+    /// It has no device that cuts: each goes alone.
+    #[tactic(auto, unfolding(tcp_driver::specs::Rows::AreInTurn, tcp_driver::specs::Rows::core_after_many))]
+    fn transmit_train(&mut self, window: u64, out: &mut [u8], _most: usize) -> Option<(Row, Sent)> {
+        let sent = self.transmit_within(window, out)?;
+        Some((row_of(sent), sent))
     }
 
     fn resend_first(&mut self) -> bool {

@@ -1,6 +1,6 @@
 //! The way in with its parameters, and the guard against segments of somebody who sees nothing of a connection (RFC
 //! 5961, 1.1 and 5.2).
-ghost use Rattle.std.specs.Prelude.{◌≡◌};
+ghost use Rattle.std.specs.Prelude.{◌≡◌, Option, true, false, ℕ};
 ghost use Rattle.tcp_wire.specs.View.{raw_content};
 ghost use Rattle.tcp_conn.specs.Guard.{acks_behind, guarded, is_elsewhere, is_kept_out, is_old_ack};
 
@@ -35,8 +35,20 @@ impl Intake {
 }
 
 impl<A: Allocator> Endpoint<A> {
-    /// The rule that applies with this guard, where without one it is `rule`.
+    /// Whether all of a segment is taken, whatever the guard: mostly so, since what is taken acknowledges nothing before SND.UNA.
     #[inline(always)]
+    #[tactic(auto, unfolding(crate::specs::Guard::guarded))]
+    pub(crate) fn is_taken_by_any(&self, rule: Judgement, segment: &RawSegment<'_>) -> bool
+        ensures rule { result ≡ true → rule ≡ Judgement.Taken }
+        ensures guarded { (guard : Option ℕ) → result ≡ true → guarded guard rule self.now (raw_content segment.now) ≡ rule }
+    {
+        match rule {
+            Judgement::Taken => !self.acks_behind(segment),
+            _ => false,
+        }
+    }
+
+    /// The rule that applies with this guard, where without one it is `rule`.
     #[tactic(auto, unfolding(crate::specs::Guard::guarded))]
     pub(crate) fn guarded(
         &self,
@@ -47,14 +59,8 @@ impl<A: Allocator> Endpoint<A> {
         ensures { result ≡ guarded guard rule self.now (raw_content segment.now) }
     {
         match guard {
-            None => rule,
-            Some(reach) => {
-                if self.is_kept_out(reach, rule, segment) {
-                    Judgement::Unacceptable
-                } else {
-                    rule
-                }
-            }
+            Some(reach) if self.is_kept_out(reach, rule, segment) => Judgement::Unacceptable,
+            _ => rule,
         }
     }
 
@@ -69,6 +75,18 @@ impl<A: Allocator> Endpoint<A> {
                 || self.is_elsewhere(reach, segment),
             _ => false,
         }
+    }
+
+    /// Whether it acknowledges what lies before SND.UNA. Where it doesn't it is no old acknowledgement, whatever the reach.
+    #[inline(always)]
+    #[tactic(auto, unfolding(crate::specs::Guard::is_old_ack))]
+    fn acks_behind(&self, segment: &RawSegment<'_>) -> bool
+        ensures { (reach : ℕ) → result ≡ false → is_old_ack reach self.now (raw_content segment.now) ≡ false }
+    {
+        let behind = self
+            .number_of(self.sender.snd_una)
+            .minus(segment.header.ack);
+        behind.wrapping_sub(1) < 1 << 31
     }
 
     /// Whether it acknowledges what lies before SND.UNA - reach (RFC 5961, 5.2).

@@ -4,6 +4,7 @@ ghost use Rattle.tcp_reasm.specs.Reassembly.{runs};
 ghost use Rattle.tcp_wire.specs.View.{raw_content};
 ghost use Rattle.tcp_conn.specs.Arrival.{after_judgement};
 ghost use Rattle.tcp_conn.specs.AtOnce.{breaks_order, is_urgent};
+ghost use Rattle.tcp_conn.specs.Guard.{guarded};
 ghost use Rattle.tcp_conn.specs.Judgement.{answer_of};
 ghost use Rattle.tcp_conn.specs.Taking.{brought_by, bytes_acked, is_duplicate_ack, is_duplicate_by, takes_window_by};
 
@@ -60,7 +61,7 @@ impl Taken {
 }
 
 impl<A: Allocator> Endpoint<A> {
-    /// Takes a segment by the rule that applies to it, and reports on it.
+    /// Takes a segment by the rule that applies to it, and reports on it. It is compiled in place, where the rule is known.
     #[inline(always)]
     pub(crate) fn take_by(&mut self, rule: Judgement, src: Addr, segment: &RawSegment<'_>) -> Taken
         ensures answer { result.arrival ≡ answer_of rule }
@@ -87,6 +88,29 @@ impl<A: Allocator> Endpoint<A> {
         }
     }
 
+    /// Takes a segment by the rule that applies to it past this guard, and reports on it, where that is mostly another than that
+    /// all is taken.
+    #[cold]
+    #[inline(never)]
+    pub(crate) fn take_rarely(
+        &mut self,
+        guard: Option<u32>,
+        rule: Judgement,
+        src: Addr,
+        segment: &RawSegment<'_>,
+    ) -> Taken
+        ensures answer { result.arrival ≡ answer_of (guarded guard rule self.old (raw_content segment.now)) }
+        ensures at_once { result.at_once ≡ is_urgent (guarded guard rule self.old (raw_content segment.now)) (nat_lt 0 (length (runs self.old.receiving.inbox.held))) self.new (raw_content segment.now) }
+        ensures rule { result.rule ≡ Some (guarded guard rule self.old (raw_content segment.now)) }
+        ensures acked { result.acked ≡ bytes_acked self.old self.new }
+        ensures duplicate { result.is_duplicate ≡ is_duplicate_by (guarded guard rule self.old (raw_content segment.now)) self.old (raw_content segment.now) }
+        ensures window { result.window_taken ≡ takes_window_by (guarded guard rule self.old (raw_content segment.now)) self.old (raw_content segment.now) }
+        ensures brought { result.brought ≡ brought_by (guarded guard rule self.old (raw_content segment.now)) self.old (raw_content segment.now) }
+        ensures state { self.new ≡ after_judgement (guarded guard rule self.old (raw_content segment.now)) self.old src.0 (raw_content segment.now) }
+    {
+        self.take_by(self.guarded(guard, rule, segment), src, segment)
+    }
+
     /// Whether a segment to which this rule applies is a duplicate acknowledgement (RFC 5681, 2).
     fn is_duplicate(&self, rule: Judgement, segment: &RawSegment<'_>) -> bool
         ensures { result ≡ is_duplicate_by rule self.now (raw_content segment.now) }
@@ -101,11 +125,16 @@ impl<A: Allocator> Endpoint<A> {
     fn is_duplicate_ack(&self, segment: &RawSegment<'_>) -> bool
         ensures { result ≡ is_duplicate_ack self.now (raw_content segment.now) }
     {
+        // Mostly it has text, or acknowledges more.
         let flags = segment.header.flags;
-        let is_bare = segment.text.is_empty() && !flags.is_syn() && !flags.is_fin();
-        let is_at_una = self.position_near(segment.header.ack) == self.sender.snd_una;
+        if !segment.text.is_empty()
+            || self.position_near(segment.header.ack) != self.sender.snd_una
+        {
+            return false;
+        }
+        let is_bare = !flags.is_syn() && !flags.is_fin();
         let is_same_window = self.window_from(segment.header.window) == self.sender.snd_wnd;
-        self.in_flight() > 0 && is_bare && is_at_una && is_same_window
+        self.in_flight() > 0 && is_bare && is_same_window
     }
 
     /// Whether a segment that was taken by this judgement has to be answered at once (RFC 5681, 4.2).

@@ -1,13 +1,14 @@
 //! Segments of new text as one, for a device that cuts them and computes their checksums (segmentation offload).
-ghost use Rattle.std.specs.Prelude.{◌≡◌, ◌<◌, ◌≤◌, ◌-◌, Some, ℕ, length, option_map, IfSome};
+ghost use Rattle.std.specs.Prelude.{◌≡◌, ◌<◌, ◌≤◌, ◌+◌, ◌-◌, Some, ℕ, length, option_map, IfSome};
 ghost use Rattle.tcp_sendq.specs.SendQueue.{max_capacity};
-ghost use Rattle.tcp_halves.specs.Config.{max_mss};
+ghost use Rattle.tcp_halves.specs.Config.{max_mss, stream_limit};
 ghost use Rattle.tcp_halves.specs.declared.sent.Sent.TheVariants.{NewText};
 ghost use Rattle.tcp_conn.specs.declared.emit.due.Due.TheVariants.{Text};
 ghost use Rattle.tcp_conn.specs.Due.{IsSendable, due_of};
-ghost use Rattle.tcp_conn.specs.Emission.{destination};
+ghost use Rattle.tcp_conn.specs.Emission.{destination, state_after};
 ghost use Rattle.tcp_conn.specs.State.{IsWithin};
-ghost use Rattle.tcp_conn.specs.Train.{IsTogether, after_emissions, as_one, count_together, emissions, text_allowed, text_as_one, train_after, train_count, train_end, train_length, train_segments, train_text};
+ghost use Rattle.tcp_conn.specs.Train.{IsTogether, after_emissions, as_one, count_together, emissions, text_allowed, text_as_one, train_after, train_count, train_end, train_length, train_segments, train_text, train_with};
+ghost use Rattle.tcp_conn.specs.TrainWithin.{train_of};
 ghost use Rattle.tcp_conn.specs.Transmission.{count_due, kind_due, position_due};
 ghost use Rattle.tcp_conn.specs.Writing.{IsWritable};
 
@@ -37,7 +38,7 @@ pub struct Train {
 
 impl<A: Allocator> Endpoint<A> {
     /// How much new text the queue and the peer's window allow, in bytes.
-    fn text_allowed(&self) -> usize
+    pub(crate) fn text_allowed(&self) -> usize
         ensures value { result ≡ text_allowed self.now.sending }
         ensures most { result ≤ max_capacity }
     {
@@ -52,8 +53,8 @@ impl<A: Allocator> Endpoint<A> {
 
     /// How many segments go out as one.
     #[tactic(auto, using(crate::proofs::Trains::new_text_not_empty, crate::proofs::Together::together, crate::proofs::Segments::offset_of_report))]
-    fn count_together(&self, due: Due, most: usize, room: usize) -> usize
-        requires due { due_of self.now ≡ Some due }
+    pub(crate) fn count_together(&self, due: Due, most: usize, room: usize) -> usize
+        requires due { (start each : ℕ) → due ≡ Text (NewText start each) → due_of self.now ≡ Some due }
         requires sendable { IsSendable self.now.sending max_mss due }
         requires room { EMIT_ROOM ≤ room }
         ensures value { result ≡ count_together self.now most room due }
@@ -81,7 +82,7 @@ impl<A: Allocator> Endpoint<A> {
     }
 
     /// What is due as one segment with the text of so many.
-    fn as_one(&self, due: Due, segments: usize, room: usize) -> Due
+    pub(crate) fn as_one(&self, due: Due, segments: usize, room: usize) -> Due
         requires sendable { IsSendable self.now.sending max_mss due }
         requires some { 0 < segments }
         requires room { EMIT_ROOM ≤ room }
@@ -102,6 +103,30 @@ impl<A: Allocator> Endpoint<A> {
                 Sent::Resend(..) | Sent::Fin(_) | Sent::ResentFin(_) => due,
             },
             Due::Reset | Due::Syn | Due::Acknowledgement => due,
+        }
+    }
+
+    /// What may go out goes out, as one with the text of as many segments as go together, at most `most`.
+    #[inline(always)]
+    #[tactic(auto, unfolding(crate::specs::Writing::written_of, crate::specs::Writing::bytes_of))]
+    pub(crate) fn send_together(&mut self, due: Due, most: usize, out: &mut [u8]) -> Train
+        requires due { (start each : ℕ) → due ≡ Text (NewText start each) → due_of self.old ≡ Some due }
+        requires sendable { IsSendable self.old.sending max_mss due }
+        requires room { EMIT_ROOM ≤ length out.old }
+        ensures train { result ≡ train_of self.old (count_together self.old most (length out.old) due) due }
+        ensures ends { result.whole.end ≤ 2 + stream_limit }
+        ensures some { 0 < result.segments }
+        ensures bytes { out.new ≡ train_with self.old (count_together self.old most (length out.old) due) (Some due) out.old }
+        ensures state { self.new ≡ state_after self.old (as_one self.old (count_together self.old most (length out.old) due) due) }
+    {
+        let segments = self.count_together(due, most, out.len());
+        let one = self.as_one(due, segments, out.len());
+        let whole = self.send_out(one, Sum::Partial, out);
+        Train {
+            whole,
+            header: whole.len.saturating_sub(whole.count),
+            each: due.count(),
+            segments,
         }
     }
 
@@ -134,16 +159,9 @@ impl<A: Allocator> Endpoint<A> {
         // So that the proof knows the invariant of an end.
         let _ = &self.config;
         let due = self.due()?;
-        let segments = self.count_together(due, most, out.len());
-        let one = self.as_one(due, segments, out.len());
-        let whole = self.send_out(one, Sum::Partial, out);
+        let train = self.send_together(due, most, out);
         // So that the proof knows the invariant of an end.
         let _ = &self.config;
-        Some(Train {
-            whole,
-            header: whole.len.saturating_sub(whole.count),
-            each: due.count(),
-            segments,
-        })
+        Some(train)
     }
 }

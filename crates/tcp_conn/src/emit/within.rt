@@ -24,14 +24,15 @@ impl<A: Allocator> Endpoint<A> {
         let before = start.saturating_sub(una);
         let count = self.end_of(due).saturating_sub(start);
         let flight = self.sender.snd_nxt.saturating_sub(una);
+        // Mostly it is new, and no acknowledgement is looked for.
         (una < start && window.saturating_sub(before) < count)
-            || (self.ack_alone().is_some() && before < flight)
+            || (before < flight && self.ack_alone().is_some())
     }
 
     /// What may go out within the window.
     #[inline(always)]
     #[tactic(auto, using(crate::proofs::Segments::sendable_as_text), unfolding(crate::specs::Within::due_within))]
-    fn due_within(&self, window: u64) -> Option<Due>
+    pub(crate) fn due_within(&self, window: u64) -> Option<Due>
         ensures value { result ≡ due_within self.now window }
         ensures sendable { IfSome result (IsSendable self.now.sending max_mss) }
     {
