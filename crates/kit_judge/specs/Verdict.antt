@@ -8,7 +8,7 @@ use Rattle.tcp_judge.specs.Judgement.{finding_at, known_past}
 use Rattle.tcp_judge.specs.Log.{PassageContent, Came, Went}
 use Rattle.tcp_judge.specs.declared.finding.Finding.{Finding}
 use Rattle.kit_judge.specs.Logs.{Passages, passages_of, first_bad_line}
-use Rattle.kit_judge.specs.Findings.{rule_number, is_against_came, is_damage, finding_lines}
+use Rattle.kit_judge.specs.Findings.{rule_number, wants_whole_log, is_damage, finding_lines}
 use Rattle.kit_judge.specs.declared.judging.Findings.{Findings}
 use Rattle.kit_judge.specs.declared.report.Shown.{Shown}
 use Rattle.kit_judge.specs.declared.report.Shown.TheVariants.{FirstOfRule, Each}
@@ -20,12 +20,12 @@ abbrev pub Found : Type 0
 Found = ℕ × Finding
 
 -- THE FINDINGS of a log: each segment that was sent and breaks a rule, with the number of its line. Of a log that isn't complete
--- no finding counts that compares with what came, and a wrong checksum is a note: it may be damage on the path
+-- no finding counts that wants a log of which nothing is missing, and a wrong checksum is a note: it may be damage on the path
 abbrev pub is_note : Bool → Finding → Bool
 is_note complete finding = not complete && is_damage finding
 
 abbrev pub counts : Bool → Finding → Bool
-counts complete finding = not (is_note complete finding) && (complete || not (is_against_came finding))
+counts complete finding = not (is_note complete finding) && (complete || not (wants_whole_log finding))
 
 abbrev pub found_at : Bool → ℕ → Option Finding → List Found
 found_at complete line None = []
@@ -105,10 +105,10 @@ note_text count first =
 abbrev pub notes_line : List ℕ → List ℕ
 notes_line notes = if length notes == 0 then [] else note_text (length notes) (slice_index notes 0)
 
--- WHAT ISN'T JUDGED is said: of a log that isn't complete nothing that compares with what came
+-- WHAT ISN'T JUDGED is said: of a log that isn't complete nothing that wants all that was sent or all that came
 abbrev pub unjudged_line : Bool → List ℕ
 unjudged_line complete =
-    if complete then [] else codes "note: acknowledgements and blocks aren't judged, as what came may be missing" ++ (10 ∷ [])
+    if complete then [] else codes "note: order, acknowledgements and blocks aren't judged, as segments may be missing" ++ (10 ∷ [])
 
 -- THE LAST LINE counts all segments, and all that break a rule
 unfoldable pub counts_line : ℕ → ℕ → List ℕ

@@ -1,14 +1,14 @@
 //! A finding in words.
 ghost use Rattle.std.specs.Prelude.{◌≡◌, ◌++◌, OnOk, string_bytes};
 ghost use Rattle.tcp_wire.specs.Refusals.{decode_error_text};
-ghost use Rattle.kit_judge.specs.Findings.{rule_number, is_against_came, is_damage, unreadable_text, initial_text, byte_text, fin_text, early_text, ack_text, back_text, block_text, finding_text, finding_line};
+ghost use Rattle.kit_judge.specs.Findings.{rule_number, wants_whole_log, is_damage, unreadable_text, initial_text, byte_text, fin_text, early_text, before_ack_text, after_reset_text, gap_text, behind_text, window_text, stray_text, ack_text, back_text, block_text, finding_text, finding_line};
 
 use std::alloc::{AllocError, Allocator};
 use tcp_judge::Finding;
 use tcp_wire::{DecodeError, Seq};
 
-/// The first rule that compares with what came.
-const FIRST_AGAINST_CAME: usize = 8;
+/// The first rule that wants a log of which nothing is missing.
+const FIRST_OF_WHOLE_LOGS: usize = 8;
 
 /// The number of the rule.
 pub fn rule_of(finding: Finding) -> usize
@@ -23,19 +23,25 @@ pub fn rule_of(finding: Finding) -> usize
         Finding::BeforeFirst(_) => 5,
         Finding::OtherByte(_) => 6,
         Finding::BeyondFin(_, _) => 7,
-        Finding::AckBeyond(_) => 8,
-        Finding::AckBack(_, _) => 9,
-        Finding::Unoffered => 10,
-        Finding::Unpermitted => 11,
-        Finding::BlockBeyond(_, _) => 12,
+        Finding::BeforeAck(_) => 8,
+        Finding::AfterReset(_) => 9,
+        Finding::Gap(_) => 10,
+        Finding::AckBeyond(_) => 11,
+        Finding::AckBack(_, _) => 12,
+        Finding::Unoffered => 13,
+        Finding::Unpermitted => 14,
+        Finding::BlockBeyond(_, _) => 15,
+        Finding::BehindNext(_) => 16,
+        Finding::BeyondWindow(_) => 17,
+        Finding::StrayReset(_) => 18,
     }
 }
 
-/// Whether the rule compares with what came, of which nothing may be missing.
-pub fn is_against_came(finding: Finding) -> bool
-    ensures { result ≡ is_against_came finding }
+/// Whether the rule wants a log of which nothing is missing: it compares with all that came, or with all that was sent.
+pub fn wants_whole_log(finding: Finding) -> bool
+    ensures { result ≡ wants_whole_log finding }
 {
-    rule_of(finding) >= FIRST_AGAINST_CAME
+    rule_of(finding) >= FIRST_OF_WHOLE_LOGS
 }
 
 /// Whether it is a wrong checksum, which damage on the path makes too.
@@ -98,6 +104,63 @@ fn push_fin<A: Allocator>(text: &mut String<A>, place: u64, end: u64) -> Result<
     )
 }
 
+fn push_before_ack<A: Allocator>(text: &mut String<A>, seq: Seq) -> Result<(), AllocError>
+    ensures { OnOk result (string_bytes text.new ≡ string_bytes text.old ++ before_ack_text seq.0) }
+{
+    let seq = seq.0;
+    write!(
+        text,
+        "text before the SYN is acknowledged, at {seq} (RFC 9293, 3.10.2)"
+    )
+}
+
+fn push_after_reset<A: Allocator>(text: &mut String<A>, seq: Seq) -> Result<(), AllocError>
+    ensures { OnOk result (string_bytes text.new ≡ string_bytes text.old ++ after_reset_text seq.0) }
+{
+    let seq = seq.0;
+    write!(
+        text,
+        "text or FIN after the end's own reset, at {seq} (RFC 9293, 3.10.5)"
+    )
+}
+
+fn push_gap<A: Allocator>(text: &mut String<A>, seq: Seq) -> Result<(), AllocError>
+    ensures { OnOk result (string_bytes text.new ≡ string_bytes text.old ++ gap_text seq.0) }
+{
+    let seq = seq.0;
+    write!(
+        text,
+        "text or FIN behind a gap in what was sent, at {seq} (RFC 9293, 3.4)"
+    )
+}
+
+fn push_behind<A: Allocator>(text: &mut String<A>, seq: Seq) -> Result<(), AllocError>
+    ensures { OnOk result (string_bytes text.new ≡ string_bytes text.old ++ behind_text seq.0) }
+{
+    let seq = seq.0;
+    write!(
+        text,
+        "a segment without text behind all that was sent, at {seq} (RFC 9293, 3.10.7.4)"
+    )
+}
+
+fn push_window<A: Allocator>(text: &mut String<A>, seq: Seq) -> Result<(), AllocError>
+    ensures { OnOk result (string_bytes text.new ≡ string_bytes text.old ++ window_text seq.0) }
+{
+    let seq = seq.0;
+    write!(text, "text beyond the window, at {seq} (RFC 9293, 3.8.6)")
+}
+
+fn push_stray<A: Allocator>(text: &mut String<A>, seq: Seq) -> Result<(), AllocError>
+    ensures { OnOk result (string_bytes text.new ≡ string_bytes text.old ++ stray_text seq.0) }
+{
+    let seq = seq.0;
+    write!(
+        text,
+        "a reset at {seq}, which was neither sent nor acknowledged (RFC 9293, 3.5.2)"
+    )
+}
+
 fn push_ack<A: Allocator>(text: &mut String<A>, acked_number: Seq) -> Result<(), AllocError>
     ensures { OnOk result (string_bytes text.new ≡ string_bytes text.old ++ ack_text acked_number.0) }
 {
@@ -147,6 +210,12 @@ pub fn push_rule<A: Allocator>(text: &mut String<A>, finding: Finding) -> Result
         Finding::BeforeFirst(seq) => push_early(text, seq),
         Finding::OtherByte(seq) => push_byte(text, seq),
         Finding::BeyondFin(place, end) => push_fin(text, place, end),
+        Finding::BeforeAck(seq) => push_before_ack(text, seq),
+        Finding::AfterReset(seq) => push_after_reset(text, seq),
+        Finding::Gap(seq) => push_gap(text, seq),
+        Finding::BehindNext(seq) => push_behind(text, seq),
+        Finding::BeyondWindow(seq) => push_window(text, seq),
+        Finding::StrayReset(seq) => push_stray(text, seq),
         Finding::AckBeyond(acked_number) => push_ack(text, acked_number),
         Finding::AckBack(acked_number, last) => push_back(text, acked_number, last),
         Finding::Unoffered => text.push_str(

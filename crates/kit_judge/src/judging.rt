@@ -5,7 +5,7 @@ ghost use Rattle.kit_judge.specs.Logs.{passage_by, packet_content, passages_of, 
 ghost use Rattle.kit_judge.specs.Verdict.{found_at, note_at, is_sent, found_in, Finds};
 
 use crate::error::LogError;
-use crate::finding::{is_against_came, is_damage};
+use crate::finding::{is_damage, wants_whole_log};
 use crate::packet::{Packet, Way, read_packet};
 use kit_text::{LineError, Lines};
 use std::alloc::{AllocError, Allocator, Global};
@@ -66,7 +66,7 @@ fn add<A: Allocator>(
             notes.push(line)?;
             Ok(())
         }
-        Some(finding) if is_complete || !is_against_came(finding) => {
+        Some(finding) if is_complete || !wants_whole_log(finding) => {
             found.push((line, finding))?;
             Ok(())
         }

@@ -2,9 +2,9 @@
 //!
 //! A line of a log is `came SOURCE DESTINATION HEX` or `went SOURCE DESTINATION HEX`: bytes that came to the end, and
 //! bytes that it sent. [`judge_text`] judges a whole log, and reports in [`Report`] each segment that was sent and
-//! breaks a rule of `tcp_judge`, or the first of each rule ([`Shown`]). Where the log isn't complete no rule is tried
-//! against what came, which a line of the report says, and a wrong checksum is a note. A log in which the end sent nothing is never clean. [`LogError`]
-//! has each way in which there is no report.
+//! breaks a rule of `tcp_judge`, or the first of each rule ([`Shown`]). Where the log isn't complete no rule is tried of
+//! order or against what came, which a line of the report says, and a wrong checksum is a note. A log in which the end
+//! sent nothing is never clean. [`LogError`] has each way in which there is no report.
 #![tactic(auto)]
 
 mod error;
@@ -14,5 +14,5 @@ mod packet;
 mod report;
 
 pub use error::LogError;
-pub use finding::{is_against_came, is_damage, push_rule, rule_of};
+pub use finding::{is_damage, push_rule, rule_of, wants_whole_log};
 pub use report::{Report, Shown, judge_text};

@@ -103,14 +103,16 @@ fn push_notes<A: Allocator>(text: &mut String<A>, notes: &[usize]) -> Result<(),
     push_note(text, notes.len(), notes[0])
 }
 
-/// Appends what isn't judged of a log that may lack what came.
+/// Appends what isn't judged of a log that may lack segments.
 fn push_unjudged<A: Allocator>(text: &mut String<A>, is_complete: bool) -> Result<(), AllocError>
     ensures { OnOk result (string_bytes text.new ≡ string_bytes text.old ++ unjudged_line is_complete) }
 {
     if is_complete {
         return Ok(());
     }
-    text.push_str("note: acknowledgements and blocks aren't judged, as what came may be missing\n")
+    text.push_str(
+        "note: order, acknowledgements and blocks aren't judged, as segments may be missing\n",
+    )
 }
 
 /// Appends the counts.
@@ -152,8 +154,8 @@ fn report_of<A: Allocator + Copy>(
 }
 
 /// The report of a log of any bytes: a line for each segment that was sent and breaks a rule, or for the first of each
-/// rule, and then the counts. `is_complete` says that nothing that came is missing: only then rules are tried against
-/// what came, and a wrong checksum is a finding; else it is a note. `NoMemory` can come at any line.
+/// rule, and then the counts. `is_complete` says that no segment is missing: only then order, acknowledgements and blocks
+/// are judged, and a wrong checksum is a finding; else it is a note. `NoMemory` can come at any line.
 #[tactic(auto, unfolding(crate::specs::Verdict::report_of, crate::specs::Verdict::sends_any))]
 pub fn judge_text<A: Allocator + Copy>(
     alloc: A,

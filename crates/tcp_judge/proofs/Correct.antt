@@ -1,7 +1,8 @@
 -- A LOG whose segments are each of form and the user's is clean.
-use Rattle.std.proofs.Common.{◌≡◌, ℕ, suc, ◌+◌, ◌^◌, ◌<◌, List, [], ◌∷◌, ◌++◌, length, refl, sym, ◌∙◌, ap, subst, append-nil, append_assoc, arith}
-use Rattle.std.specs.Prelude.{Bool, false, Option, Some, None, option_to_list, Result, Ok, Err, slice_get}
+use Rattle.std.proofs.Common.{◌≡◌, ℕ, suc, ◌+◌, ◌^◌, ◌<◌, List, [], ◌∷◌, ◌++◌, length, refl, sym, ◌∙◌, ap, subst, append-nil, append_assoc}
+use Rattle.std.specs.Prelude.{Bool, false, if◌then◌else◌, Option, Some, None, option_to_list, Result, Ok, Err, slice_get}
 use Rattle.std.specs.List.{AllByRecursion}
+use Rattle.std.proofs.lemmas.Bool.{cond_both}
 use Rattle.tcp_wire.specs.Decoded.{decode_answer}
 use Rattle.tcp_wire.specs.Flags.{rst, has}
 use Rattle.tcp_wire.specs.Wire.{Content}
@@ -12,59 +13,54 @@ use Rattle.tcp_replay.specs.Solo.{SoloState, solo_with_runs, solo_run, alone_wit
 use Rattle.tcp_replay.specs.SoloEvents.{SoloContent, HasRanges, Emit, EmitAcknowledgement, Arrive}
 use Rattle.tcp_replay.specs.Truthful.{IsOfUser}
 use Rattle.tcp_replay.proofs.one_end.SoloRuns.{one_end_is_true_lem, content-is}
-use Rattle.tcp_judge.specs.Known.{Known, nothing_known}
+use Rattle.tcp_replay.proofs.Lists.{by_test}
+use Rattle.tcp_judge.specs.Heard.{is_elsewhere, after_came}
+use Rattle.tcp_judge.specs.Known.{Known, nothing_known, known_with}
 use Rattle.tcp_judge.specs.Log.{PassageContent, Came, Went, went_from, log_of, log_with_runs}
 use Rattle.tcp_judge.specs.Judgement.{finding_read, known_read, known_came, first_finding, placed_or, IsClean}
-use Rattle.tcp_judge.specs.Rules.{form_finding, heard_finding, finding_of}
+use Rattle.tcp_judge.specs.Known.{place_of}
+use Rattle.tcp_judge.specs.Rules.{form_finding, heard_finding, order_finding, finding_of}
 use Rattle.tcp_judge.specs.Taken.{taken_of}
 use Rattle.tcp_judge.specs.Law.{heard_read, heard_went, IsSaidRight, AllSaidRight}
 use Rattle.tcp_judge.proofs.Runs.{said-right}
-use Rattle.tcp_judge.proofs.Streams.{IsKnown, keeps-positions, known-kept, came-kept}
-
--- what holds of each segment that went
-abbrev AllWent : (List ℕ → List ℕ → List ℕ → Type 0) → List PassageContent → Type 0
-AllWent P [] = Unit {0}
-AllWent P (Came src dst bytes ∷ log) = AllWent P log
-AllWent P (Went src dst bytes ∷ log) = P src dst bytes × AllWent P log
-
--- it can be read, and is the user's
-abbrev IsUsers : ℕ → List ℕ → Bool → List ℕ → List ℕ → List ℕ → Type 0
-IsUsers isn accepted closed src dst bytes =
-    (v : Content) × (decode_answer src dst bytes ≡ Ok v) × (has rst v.flags ≡ false → IsOfUser isn accepted closed v)
-
--- bytes say one thing
-abbrev read_as : Content → Result Content DecodeError
-read_as v = Ok v
+use Rattle.tcp_judge.proofs.Streams.{IsKnown, nothing-known, keeps-positions, known-kept, came-kept}
+use Rattle.tcp_judge.proofs.Users.{AllWent, IsUsers}
+use Rattle.tcp_judge.proofs.Ordered.{IsInOrder, AllInOrder, in-order}
 
 module _ (isn : ℕ) (accepted : List ℕ) (closed : Bool) (small : isn < 2 ^ 32) (short : 2 + length accepted < 2 ^ 31) where
   -- ONE SEGMENT
   keeps-rules : (k : Known) (v : Content) → IsKnown isn accepted k → form_finding v ≡ None → heard_finding k.heard v ≡ None
-      → (has rst v.flags ≡ false → IsOfUser isn accepted closed v)
+      → order_finding k (place_of k v) v ≡ None → (has rst v.flags ≡ false → IsOfUser isn accepted closed v)
       → finding_of k v ≡ None
-  keeps-rules k v h form right user = rw (form, keeps-positions isn accepted closed small short k v h user) right
+  keeps-rules k v h form right order user = rw (form, keeps-positions isn accepted closed small short k v h user, right) order
 
   record IsPast (k : Known) (r : Result Content DecodeError) : Type 0 where
     finding : finding_read k r ≡ None
     known : IsKnown isn accepted (known_read k r)
 
-  past-segment : (k : Known) (src dst bytes : List ℕ) → IsKnown isn accepted k → IsSaidRight k.heard src dst bytes → IsUsers isn accepted closed src dst bytes
-      → IsPast k (decode_answer src dst bytes)
-  past-segment k src dst bytes h formed users =
+  past-segment : (k : Known) (src dst bytes : List ℕ) → IsKnown isn accepted k → IsSaidRight k.heard src dst bytes → IsInOrder k (decode_answer src dst bytes)
+      → IsUsers isn accepted closed src dst bytes → IsPast k (decode_answer src dst bytes)
+  past-segment k src dst bytes h formed ordered users =
       let v = users.0 in
       let same : formed.0 ≡ v = content-is (sym formed.1 ∙ users.1) in
       let form : form_finding v ≡ None = ap form_finding (sym same) ∙ formed.2 in
       let right : heard_finding k.heard v ≡ None = ap (heard_finding k.heard) (sym same) ∙ formed.3 in
+      let order : order_finding k (place_of k v) v ≡ None = subst (IsInOrder k) users.1 ordered in
       subst (IsPast k) (sym users.1)
-      (record { finding = keeps-rules k v h form right users.2; known = known-kept isn accepted closed small short k v h users.2 })
+      (record { finding = keeps-rules k v h form right order users.2; known = known-kept isn accepted closed small short k v h users.2 })
 
   -- what came leaves what is known of the stream
   came-known : (k : Known) (taken : Option Content) → IsKnown isn accepted k → IsKnown isn accepted (known_came k taken)
-  came-known k (Some v) h = came-kept isn accepted closed small short k v h
+  came-known k (Some v) h =
+      cond_both (is_elsewhere k.heard.ports v) k (known_with k v) (IsKnown isn accepted) (λ _. h) (λ _. came-kept isn accepted closed small short k v h)
   came-known k None h = h
 
   came-heard : (k : Known) (taken : Option Content) (log : List PassageContent) → AllSaidRight (heard_read k.heard taken) log
       → AllSaidRight (known_came k taken).heard log
-  came-heard k (Some v) log h = h
+  came-heard k (Some v) log h =
+      by_test (is_elsewhere k.heard.ports v)
+      (λ b. AllSaidRight (if b then k.heard else after_came k.heard v) log → AllSaidRight (if b then k else known_with k v).heard log) (λ _ said. said)
+      (λ _ said. said) h
   came-heard k None log h = h
 
   went-heard : (k : Known) (r : Result Content DecodeError) (log : List PassageContent) → AllSaidRight (heard_went k.heard r) log
@@ -74,16 +70,16 @@ module _ (isn : ℕ) (accepted : List ℕ) (closed : Bool) (small : isn < 2 ^ 32
 
   -- ALL SEGMENTS
   clean-log : (log : List PassageContent) (k : Known) (place : ℕ) → IsKnown isn accepted k → AllSaidRight k.heard log
-      → AllWent (IsUsers isn accepted closed) log → first_finding k place log ≡ None
-  clean-log [] k place h said users = refl
-  clean-log (Came src dst bytes ∷ log) k place h said users =
+      → AllInOrder k log → AllWent (IsUsers isn accepted closed) log → first_finding k place log ≡ None
+  clean-log [] k place h said ordered users = refl
+  clean-log (Came src dst bytes ∷ log) k place h said ordered users =
       let taken = taken_of src dst bytes in
-      clean-log log (known_came k taken) (suc place) (came-known k taken h) (came-heard k taken log said) users
-  clean-log (Went src dst bytes ∷ log) k place h said users =
+      clean-log log (known_came k taken) (suc place) (came-known k taken h) (came-heard k taken log said) ordered users
+  clean-log (Went src dst bytes ∷ log) k place h said ordered users =
       let r = decode_answer src dst bytes in
-      let past = past-segment k src dst bytes h said.0 users.0 in
+      let past = past-segment k src dst bytes h said.0 ordered.0 users.0 in
       ap (λ f. placed_or place f (first_finding (known_read k r) (suc place) log)) past.finding
-      ∙ clean-log log (known_read k r) (suc place) past.known (went-heard k r log said.1) users.1
+      ∙ clean-log log (known_read k r) (suc place) past.known (went-heard k r log said.1) ordered.1 users.1
 
 -- WHAT WENT is what was emitted
 abbrev segments_of : List PassageContent → List (List ℕ × List ℕ)
@@ -155,4 +151,4 @@ clean c runs list is fits short =
     went-same (λ from to bytes. (from ≡ src) × P to bytes) (IsUsers c.isn.0 x.accepted x.closed) log
     (λ a b bytes h. subst (λ (from : List ℕ). IsUsers c.isn.0 x.accepted x.closed from b bytes) (sym h.0) h.1) members in
     clean-log c.isn.0 x.accepted x.closed is.isn short log nothing_known 0
-    (record { initial = tt; stream = record { inside = omega arith; part = refl }; fin = tt }) (said-right c runs list is fits) users
+    (nothing-known c.isn.0 x.accepted) (said-right c runs list is fits) (in-order c runs list x.accepted x.closed short is fits users) users

@@ -92,10 +92,10 @@ module _ (x : SoloState) (e : SoloContent) (h : Heard) (irs k : ℕ) (fits : Has
       let first = number irs (1 + length x.delivered) in
       let m = hears.since - (1 + length x.delivered) in
       feeds-by (λ e. FromOn (heard_past h e).spans first m)
-      (λ src dst bytes v bytes_fit read. text-of (ByNumber (FromOn (heard_past h (Arrive src dst bytes)).spans first m) v.seq) 0 0 v.text refl
+      (λ src dst bytes v bytes_fit read plain. text-of (ByNumber (FromOn (heard_past h (Arrive src dst bytes)).spans first m) v.seq) 0 0 v.text refl
       (λ i byte is from. let same : i ≡ 0 + i = omega arith in
       subst (λ (j : ℕ). has_come (heard_past h (Arrive src dst bytes)).spans (number v.seq j) ≡ true) same
-      (byte-read h v src dst bytes bytes_fit read i byte is)))
+      (byte-read h v src dst bytes bytes_fit read plain i byte is)))
       (record x { delivered = [] }) e (number irs (length x.delivered)) (length x.endpoint.receiving.inbox.unread) fits alone (rebased was)
 
   -- a position from the last one that was told on is one by its number, too
@@ -228,7 +228,7 @@ module _ (x : SoloState) (e : SoloContent) (h : Heard) (irs k : ℕ) (fits : Has
             let quiet : h.acked_number ≡ None = sym (acked_number-same h e) ∙ silent in
             by_test s.receiving.opened (λ _. HasSyn h'.syns irs')
             (λ had. subst (HasSyn h'.syns) (sym (irs-same s irs e had)) (syns-more h e irs (hears.syn quiet had)))
-            (λ shut. ⊎_elim (λ (had : s.receiving.opened ≡ true). absurd (false≢true (sym shut ∙ had))) (λ is. syn-new h s irs e quiet is shut)
+            (λ shut. ⊎_elim (λ (had : s.receiving.opened ≡ true). absurd (false≢true (sym shut ∙ had))) (λ is. syn-new h s irs e quiet is shut opened)
             (took.opens opened));
         fin = fin-comes;
         capacity = hears.capacity;

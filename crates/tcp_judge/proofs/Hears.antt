@@ -110,7 +110,7 @@ anything-comes seq place (byte ∷ text) = (tt, anything-comes seq (suc place) t
 pub takes : (x : SoloState) (e : SoloContent) (irs k : ℕ) → HasRanges e → IsAloneIn (party_in x)
     → IsFed Anything x.endpoint.receiving irs k x.delivered (discards x.endpoint.ending)
     → Feeds Anything (BringsSyn e) x.endpoint (end_after x.endpoint e) (next_irs x.endpoint irs e) k (x.delivered ++ bytes_put_out x.endpoint e)
-takes x e irs k fits alone fed = feeds-by (λ _. Anything) (λ src dst bytes v _ _. anything-comes v.seq 0 v.text) x e irs k fits alone fed
+takes x e irs k fits alone fed = feeds-by (λ _. Anything) (λ src dst bytes v _ _ _. anything-comes v.seq 0 v.text) x e irs k fits alone fed
 
 -- an end that gave up doesn't go on: else its count would be two numbers
 further : (r : Receiving) (irs k : ℕ) (delivered : List ℕ) → r.opened ≡ true → IsFed Anything r irs k delivered true

@@ -2,7 +2,6 @@
 use Rattle.std.proofs.Common.{◌≡◌, ℕ, List, [], ◌∷◌, refl, sym, subst, inl, inr}
 use Rattle.std.specs.Prelude.{◌⊎◌, Bool, true, is_some}
 use Rattle.std.proofs.lemmas.Bool.{and_parts, false≢true}
-use Rattle.tcp_wire.specs.Flags.{syn, has}
 use Rattle.tcp_wire.specs.Options.{OptionContent, Nop, Mss, WindowScale, SackPermitted, Sack, Unknown}
 use Rattle.tcp_wire.specs.Wire.{Content}
 use Rattle.tcp_conn.specs.declared.arrive.judgement.Judgement.{Judgement}
@@ -52,13 +51,13 @@ unfolding after_peer_accepts
 accepts-link s v = refl
 
 -- A SEGMENT ARRIVES
-pub links-judgement : (Q : Link → Type 0) (s : State) (src dst : List ℕ) (v : Content) → (has syn v.flags ≡ true → Q (link_of s.config v.options))
+pub links-judgement : (Q : Link → Type 0) (s : State) (src dst : List ℕ) (v : Content) → (IsSyn v → Q (link_of s.config v.options))
     → Links Q s (after_judgement (judgement s src dst v) s src v)
 links-judgement Q s src dst v came =
     let J : Judgement → Type 0 = λ j. Links Q s (after_judgement j s src v) in
     let same : J Foreign = inl refl in
-    let opens : IsSyn v → J PeerOpens = λ is. inr (subst Q (sym (opens-link s src v)) (came is.is_syn)) in
-    let accepts : IsSyn v → J PeerAccepts = λ is. inr (subst Q (sym (accepts-link s v)) (came is.is_syn)) in
+    let opens : IsSyn v → J PeerOpens = λ is. inr (subst Q (sym (opens-link s src v)) (came is)) in
+    let accepts : IsSyn v → J PeerAccepts = λ is. inr (subst Q (sym (accepts-link s v)) (came is)) in
     let taken : J Taken = inl (taking-link s v) in
     let shut : J TakenShut = inl (shut-link s v) in
     judged s v J (assumption) src dst

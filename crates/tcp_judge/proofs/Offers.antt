@@ -10,16 +10,16 @@ use Rattle.tcp_wire.specs.declared.fault.DecodeError.{DecodeError}
 use Rattle.tcp_wire.specs.declared.header.Header.{Header}
 use Rattle.tcp_judge.specs.Taken.{any_offer}
 
-pub offer_reads : options_in 40 header_len (3 ∷ 3 ∷ 0 ∷ 4 ∷ 2 ∷ []) ≡ Ok (any_offer, 0)
+pub offer_reads : options_in 40 header_len (3 ∷ 3 ∷ 14 ∷ 4 ∷ 2 ∷ 34 ∷ 2 ∷ []) ≡ Ok (any_offer, 0)
 unfolding options_in option_at padding_at
 offer_reads = refl
 
-pub offer_readable : IsReadable (3 ∷ 3 ∷ 0 ∷ 4 ∷ 2 ∷ [])
+pub offer_readable : IsReadable (3 ∷ 3 ∷ 14 ∷ 4 ∷ 2 ∷ 34 ∷ 2 ∷ [])
 unfolding options_in option_at padding_at
 offer_readable = refl
 
 -- the content of a segment with these bytes for its options
 pub offer-content : (header : Header) (text : List ℕ)
-    → content_of header (options_of (3 ∷ 3 ∷ 0 ∷ 4 ∷ 2 ∷ [])).0 (options_of (3 ∷ 3 ∷ 0 ∷ 4 ∷ 2 ∷ [])).1 text ≡ content_of header any_offer 0 text
+    → content_of header (options_of (3 ∷ 3 ∷ 14 ∷ 4 ∷ 2 ∷ 34 ∷ 2 ∷ [])).0 (options_of (3 ∷ 3 ∷ 14 ∷ 4 ∷ 2 ∷ 34 ∷ 2 ∷ [])).1 text ≡ content_of header any_offer 0 text
 offer-content header text =
     ap (λ (r : Result (List OptionContent × ℕ) DecodeError). content_of header (result_unwrap_or r ([], 0)).0 (result_unwrap_or r ([], 0)).1 text) offer_reads

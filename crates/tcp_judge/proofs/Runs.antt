@@ -34,7 +34,7 @@ use Rattle.tcp_numbers.specs.declared.seq.Seq.{Seq}
 use Rattle.tcp_replay.proofs.one_end.SoloRuns.{party_in, alone-step}
 use Rattle.tcp_replay.proofs.one_end.Phases.{handshake-knows}
 use Rattle.tcp_judge.specs.Heard.{Heard, nothing_heard, has_come, goes_on, begins, is_of_came, is_further, carries_ack, acks_beyond, goes_further, without_passed}
-use Rattle.tcp_judge.specs.Heard.{after_acknowledging, after_went}
+use Rattle.tcp_judge.specs.Heard.{after_acknowledging, after_telling, after_went, ports_after}
 use Rattle.tcp_judge.specs.Heard.{any_scale, answers_more, oversteps}
 use Rattle.tcp_judge.specs.Log.{PassageContent, went_from, log_of, log_with_runs}
 use Rattle.tcp_judge.specs.Rules.{ack_finding}
@@ -45,9 +45,10 @@ use Rattle.tcp_judge.proofs.Links.{Offered}
 use Rattle.tcp_judge.proofs.Blocks.{due-report}
 use Rattle.tcp_judge.proofs.Forms.{due-form}
 use Rattle.tcp_judge.proofs.PeerNotDiscarded.{not-gone}
-use Rattle.tcp_judge.proofs.Hearing.{heard_past}
+use Rattle.tcp_judge.proofs.Elsewhere.{ports-due}
+use Rattle.tcp_judge.proofs.Heeding.{Heeds, heard_next, heeds-step}
 use Rattle.tcp_judge.proofs.Hears.{IsSince, since-most, Hears, hears-new, held-inside}
-use Rattle.tcp_judge.proofs.Hearings.{hears-step, address-step}
+use Rattle.tcp_judge.proofs.Hearings.{address-step}
 
 -- ACKNOWLEDGEMENTS
 record CarriesAck (s : State) (v : Content) : Type 0 where
@@ -131,6 +132,21 @@ after-acknowledging h x irs k v hears t =
       offered = hears.offered;
     }
 
+-- whatever the ports are
+with-ports : (h : Heard) (x : SoloState) (irs k : ℕ) (ports : Option (ℕ × ℕ)) → Hears h x irs k → Hears (record h { ports = ports }) x irs k
+with-ports h x irs k ports hears = record {
+  since = hears.since;
+  acked_number = hears.acked_number;
+  fed = hears.fed;
+  comes = hears.comes;
+  syn = hears.syn;
+  fin = hears.fin;
+  capacity = hears.capacity;
+  small = hears.small;
+  room = hears.room;
+  offered = hears.offered;
+}
+
 record HasAcked (h : Heard) (x : SoloState) (irs k : ℕ) (v : Content) : Type 0 where
   right : ack_finding h v ≡ None
   after : Hears (after_went h v) x irs k
@@ -146,8 +162,9 @@ carries_ack-right h x irs k v hears tell =
           (unless (carries_ack v) (not (is_of_came h.acked_number h.spans h.syns v.ack))
           (λ e. let t = plain e in
           ap not (acked_number-right x h irs k hears.since v h.acked_number hears.acked_number (λ silent. hears.syn silent t.opened) (reach x h irs k v hears t))));
-      after = cond_both (goes_further h v) (after_acknowledging h v.ack) h (λ (g : Heard). Hears g x irs k)
-          (λ e. after-acknowledging h x irs k v hears (plain (goes-acked_number h v e))) (λ _. hears);
+      after = with-ports (after_telling h v) x irs k (ports_after h.ports v)
+          (cond_both (goes_further h v) (after_acknowledging h v.ack) h (λ (g : Heard). Hears g x irs k)
+          (λ e. after-acknowledging h x irs k v hears (plain (goes-acked_number h v e))) (λ _. hears));
     }
 
 -- A SYN that answers has what was offered
@@ -191,15 +208,23 @@ due-answers s h Reset offered = waiting-answers s h s.pending.reset
 due-answers s h Syn offered = syn-answers s h offered
 due-answers s h other offered = plain-answers s h other
 
+-- its address stays
+still-at : (src : List ℕ) (x : SoloState) (e : SoloContent) (h : Heard) → HasRanges e → IsAloneIn (party_in x) → Heeds h x → x.endpoint.config.addr.0 ≡ src
+    → (end_after x.endpoint e).config.addr.0 ≡ src
+still-at src x e h fits a heeds at = ap (λ (c : Config). c.addr.0) (address-step x e h heeds.irs heeds.k fits a heeds.hears) ∙ at
+
 -- WHAT GOES OUT, and all after it
-said-due : (src : List ℕ) (x : SoloState) (h : Heard) (irs k : ℕ) (log : List PassageContent) (due : Option Due) → x.endpoint.config.addr.0 ≡ src
-    → IfSome due (GoesOutAlone x.endpoint x.accepted x.closed) → IsAloneIn (party_in x) → Hears h x irs k
-    → ((h' : Heard) → Hears h' x irs k → AllSaidRight h' log)
+said-due : (src : List ℕ) (x : SoloState) (h : Heard) (log : List PassageContent) (due : Option Due) → x.endpoint.config.addr.0 ≡ src
+    → IfSome due (GoesOutAlone x.endpoint x.accepted x.closed) → IsAloneIn (party_in x) → Heeds h x
+    → ((h' : Heard) → Heeds h' x → AllSaidRight h' log)
     → AllSaidRight h (went_from src (option_map {U = List ℕ × List ℕ} (λ due. ((destination_of x.endpoint due).addr.0, bytes_of x.endpoint due)) due) ++ log)
 unfolding bytes_of
-said-due src x h irs k log None at out a hears further = further h hears
-said-due src x h irs k log (Some due) at out a hears further =
+said-due src x h log None at out a heeds further = further h heeds
+said-due src x h log (Some due) at out a heeds further =
     let s = x.endpoint in
+    let irs = heeds.irs in
+    let k = heeds.k in
+    let hears = heeds.hears in
     let v = segment_of s due in
     let to = (destination_of s due).addr.0 in
     let bytes = encoded_bytes s.config.addr.0 to v in
@@ -214,26 +239,27 @@ said-due src x h irs k log (Some due) at out a hears further =
         rw (acked_number.right, none-found (oversteps h v) _ (due-answers s h due hears.offered))
             (due-report s x.accepted x.closed h due out a hears.offered small (λ going. (hears.comes going).held)),
       ),
-      subst (λ (r : Result Content DecodeError). AllSaidRight (heard_went h r) log) (sym read) (further (after_went h v) acked_number.after),
+      subst (λ (r : Result Content DecodeError). AllSaidRight (heard_went h r) log) (sym read)
+          (further (after_went h v) (record { irs = irs; k = k; hears = acked_number.after; ports = ports-due h.ports s x.accepted x.closed due out heeds.ports })),
     )
 
-runs : (src : List ℕ) (x : SoloState) (list : List SoloContent) (h : Heard) (irs k : ℕ) → x.endpoint.config.addr.0 ≡ src → AllByRecursion HasRanges list
-    → IsAloneIn (party_in x) → Hears h x irs k → AllSaidRight h (log_of src x.endpoint list)
+runs : (src : List ℕ) (x : SoloState) (list : List SoloContent) (h : Heard) → x.endpoint.config.addr.0 ≡ src → AllByRecursion HasRanges list
+    → IsAloneIn (party_in x) → Heeds h x → AllSaidRight h (log_of src x.endpoint list)
 unfolding log_of segment_due segment_alone
-runs src x [] h irs k at fits a hears = tt
-runs src x (Emit ∷ list) h irs k at fits a hears =
-    said-due src x h irs k (log_of src (end_after x.endpoint Emit) list) (due_of x.endpoint) at (due-alone x.endpoint x.accepted x.closed a) a hears
-    (λ h' hears'. runs src (after_solo x Emit) list h' _ _ (ap (λ (c : Config). c.addr.0) (address-step x Emit h' irs k fits.0 a hears') ∙ at) fits.1
-    (alone-step x Emit fits.0 a) (hears-step x Emit h' irs k fits.0 a hears'))
-runs src x (EmitAcknowledgement ∷ list) h irs k at fits a hears =
+runs src x [] h at fits a heeds = tt
+runs src x (Emit ∷ list) h at fits a heeds =
+    said-due src x h (log_of src (end_after x.endpoint Emit) list) (due_of x.endpoint) at (due-alone x.endpoint x.accepted x.closed a) a heeds
+    (λ h' heeds'. runs src (after_solo x Emit) list h' (still-at src x Emit h' fits.0 a heeds' at) fits.1 (alone-step x Emit fits.0 a)
+    (heeds-step x h' a heeds' Emit fits.0))
+runs src x (EmitAcknowledgement ∷ list) h at fits a heeds =
     let e = EmitAcknowledgement in
-    said-due src x h irs k (log_of src (end_after x.endpoint e) list) (ack_alone x.endpoint) at (ack-alone-goes x.endpoint x.accepted x.closed a) a hears
-    (λ h' hears'. runs src (after_solo x e) list h' _ _ (ap (λ (c : Config). c.addr.0) (address-step x e h' irs k fits.0 a hears') ∙ at) fits.1
-    (alone-step x e fits.0 a) (hears-step x e h' irs k fits.0 a hears'))
-runs src x (e ∷ list) h irs k at fits a hears =
-    runs src (after_solo x e) list (heard_past h e) _ _ (ap (λ (c : Config). c.addr.0) (address-step x e h irs k fits.0 a hears) ∙ at) fits.1
-    (alone-step x e fits.0 a) (hears-step x e h irs k fits.0 a hears)
+    said-due src x h (log_of src (end_after x.endpoint e) list) (ack_alone x.endpoint) at (ack-alone-goes x.endpoint x.accepted x.closed a) a heeds
+    (λ h' heeds'. runs src (after_solo x e) list h' (still-at src x e h' fits.0 a heeds' at) fits.1 (alone-step x e fits.0 a) (heeds-step x h' a heeds' e fits.0))
+runs src x (e ∷ list) h at fits a heeds =
+    runs src (after_solo x e) list (heard_next h e) (still-at src x e h fits.0 a heeds at) fits.1 (alone-step x e fits.0 a) (heeds-step x h a heeds e fits.0)
 
 pub said-right : (c : Config) (most : ℕ) (list : List SoloContent) → IsConfig c → AllByRecursion HasRanges list
     → AllSaidRight nothing_heard (log_with_runs c most list)
-said-right c most list is fits = runs c.addr.0 (solo_with_runs c most) list nothing_heard 0 0 refl fits (alone-new c most is) (hears-new c most is)
+said-right c most list is fits =
+    runs c.addr.0 (solo_with_runs c most) list nothing_heard refl fits (alone-new c most is)
+    (record { irs = 0; k = 0; hears = hears-new c most is; ports = tt })

@@ -14,7 +14,8 @@ use Rattle.tcp_replay.specs.Truthful.{IsOfUser}
 use Rattle.tcp_replay.proofs.Lists.{by_test, drop-take_sub}
 use Rattle.tcp_judge.specs.Heard.{carries_ack}
 use Rattle.tcp_judge.specs.Stream.{Stream, nothing_sent, count_sent, with_text, count_both, agrees, changes_bytes, count_covered, without_front}
-use Rattle.tcp_judge.specs.Known.{Known, is_syn, initial_after, place_by, place_of, fin_after, known_after, is_keep_alive, acked_by, count_acked, leads_back, known_with}
+use Rattle.tcp_judge.specs.Known.{Known, nothing_known, initial_after, place_by, place_of, fin_after, known_after, is_keep_alive, acked_by, count_acked, leads_back, known_with}
+use Rattle.tcp_judge.specs.Heard.{is_syn}
 use Rattle.tcp_judge.specs.Rules.{finding_if, initial_by, early_by, fin_by, fin_finding, text_finding, position_finding}
 use Rattle.tcp_judge.specs.declared.finding.Finding.{Finding}
 
@@ -23,7 +24,7 @@ pub unless : (a b : Bool) → (a ≡ true → b ≡ false) → a && b ≡ false
 unless true b h = h refl
 unless false b h = refl
 
-not-none : (n : ℕ) → not (n == 0) ≡ true → 0 < n
+pub not-none : (n : ℕ) → not (n == 0) ≡ true → 0 < n
 not-none zero e = absurd (false≢true e)
 not-none (suc n) e = omega arith
 
@@ -84,7 +85,7 @@ pub record IsPart (accepted : List ℕ) (d : Stream) : Type 0 where
   pub inside : d.released ≤ length accepted
   pub part : d.sent ≡ take (length d.sent) (drop d.released accepted)
 
-part-most : (accepted : List ℕ) (d : Stream) → IsPart accepted d → count_sent d ≤ length accepted
+pub part-most : (accepted : List ℕ) (d : Stream) → IsPart accepted d → count_sent d ≤ length accepted
 part-most accepted d h = omega (arith, ap length h.part, length-take (length d.sent) (drop d.released accepted), length-drop d.released accepted, h.inside)
 
 part-without : (accepted : List ℕ) (d : Stream) (n : ℕ) → n ≤ length d.sent → IsPart accepted d → IsPart accepted (without_front d n)
@@ -96,11 +97,11 @@ part-without accepted d n fits h = record {
 }
 
 -- WHERE A SEGMENT STANDS in the user's stream
-record IsAt (accepted : List ℕ) (place : ℕ) (v : Content) : Type 0 where
-  least : 1 ≤ place
-  text : v.text ≡ take (length v.text) (drop (place - 1) accepted)
-  ends : 0 < length v.text → place + length v.text ≤ 1 + length accepted
-  has_fin : has fin v.flags ≡ true → place + length v.text ≡ 1 + length accepted
+pub record IsAt (accepted : List ℕ) (place : ℕ) (v : Content) : Type 0 where
+  pub least : 1 ≤ place
+  pub text : v.text ≡ take (length v.text) (drop (place - 1) accepted)
+  pub ends : 0 < length v.text → place + length v.text ≤ 1 + length accepted
+  pub has_fin : has fin v.flags ≡ true → place + length v.text ≡ 1 + length accepted
 
 text-own : (text xs : List ℕ) → (0 < length text → text ≡ take (length text) xs) → text ≡ take (length text) xs
 text-own [] xs h = refl
@@ -137,6 +138,21 @@ pub record IsKnown (isn : ℕ) (accepted : List ℕ) (k : Known) : Type 0 where
   pub stream : IsPart accepted k.stream
   pub fin : IfSome k.fin (λ place. place ≡ 1 + length accepted)
 
+pub nothing-known : (isn : ℕ) (accepted : List ℕ) → IsKnown isn accepted nothing_known
+nothing-known isn accepted = record { initial = tt; stream = record { inside = omega arith; part = refl }; fin = tt }
+
+-- WHATEVER IS ACKNOWLEDGED, no more is forgotten than was kept
+covered-most : (d : Stream) (has_fin : Bool) (position : ℕ) → count_covered d has_fin position ≤ length d.sent
+covered-most d has_fin position =
+    cond_both (nat_le position (1 + count_sent d + (if has_fin then 1 else 0))) (min (length d.sent) (position - (1 + d.released))) 0
+    (λ (n : ℕ). n ≤ length d.sent) (λ _. omega arith) (λ _. omega arith)
+
+pub acked-most : (known : Option Seq) (d : Stream) (has_fin : Bool) (v : Content) → acked_by known d has_fin v ≤ length d.sent
+acked-most None d has_fin v = omega arith
+acked-most (Some n) d has_fin v =
+    cond_both (carries_ack v) (count_covered d has_fin (position_of n.0 (count_sent d) v.ack)) 0 (λ (n : ℕ). n ≤ length d.sent)
+    (λ _. covered-most d has_fin (position_of n.0 (count_sent d) v.ack)) (λ _. omega arith)
+
 module _ (isn : ℕ) (accepted : List ℕ) (closed : Bool) (small : isn < 2 ^ 32) (short : 2 + length accepted < 2 ^ 31) where
   -- a SYN has the initial number
   syn-number : (v : Content) → (has rst v.flags ≡ false → IsOfUser isn accepted closed v) → is_syn v ≡ true → v.seq ≡ isn
@@ -156,7 +172,7 @@ module _ (isn : ℕ) (accepted : List ℕ) (closed : Bool) (small : isn < 2 ^ 32
   initial-kept (Some n) v h user = h
 
   -- where the initial number is known a place is right,
-  placed-plain : (n : Seq) (count : ℕ) (v : Content) → n.0 ≡ isn → count ≤ length accepted → IsOfUser isn accepted closed v
+  pub placed-plain : (n : Seq) (count : ℕ) (v : Content) → n.0 ≡ isn → count ≤ length accepted → IsOfUser isn accepted closed v
       → IsAt accepted (position_of n.0 count v.seq + (if has syn v.flags then 1 else 0)) v
   placed-plain n count v h inside own =
       let p = own.position in
@@ -280,18 +296,7 @@ module _ (isn : ℕ) (accepted : List ℕ) (closed : Bool) (small : isn < 2 ^ 32
         fin = fin-kept k.fin (place_of k v) v h.fin at;
       }
 
-  -- AND AFTER WHAT CAME: whatever it acknowledges, no more is forgotten than was kept
-  covered-most : (d : Stream) (has_fin : Bool) (position : ℕ) → count_covered d has_fin position ≤ length d.sent
-  covered-most d has_fin position =
-      cond_both (nat_le position (1 + count_sent d + (if has_fin then 1 else 0))) (min (length d.sent) (position - (1 + d.released))) 0
-      (λ (n : ℕ). n ≤ length d.sent) (λ _. omega arith) (λ _. omega arith)
-
-  acked-most : (known : Option Seq) (d : Stream) (has_fin : Bool) (v : Content) → acked_by known d has_fin v ≤ length d.sent
-  acked-most None d has_fin v = omega arith
-  acked-most (Some n) d has_fin v =
-      cond_both (carries_ack v) (count_covered d has_fin (position_of n.0 (count_sent d) v.ack)) 0 (λ (n : ℕ). n ≤ length d.sent)
-      (λ _. covered-most d has_fin (position_of n.0 (count_sent d) v.ack)) (λ _. omega arith)
-
+  -- AND AFTER WHAT CAME
   pub came-kept : (k : Known) (v : Content) → IsKnown isn accepted k → IsKnown isn accepted (known_with k v)
   came-kept k v h = record {
     initial = cond_both (leads_back k v) None k.initial (λ (known : Option Seq). IfSome known (λ n. n.0 ≡ isn)) (λ _. tt) (λ _. h.initial);

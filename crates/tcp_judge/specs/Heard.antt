@@ -20,9 +20,23 @@ pub record Heard : Type 0 where
   -- whether a SYN that came offered a window scale, and one permitted selective acknowledgement
   pub scaling : Bool
   pub sack : Bool
+  -- the ports of the connection, the end's own first: those of the last SYN that was sent, until a reset comes
+  pub ports : Option (ℕ × ℕ)
 
 abbrev pub nothing_heard : Heard
-nothing_heard = record { spans = []; syns = []; acked_number = None; reset = false; scaling = false; sack = false }
+nothing_heard = record { spans = []; syns = []; acked_number = None; reset = false; scaling = false; sack = false; ports = None }
+
+-- a SYN, and no reset
+abbrev pub is_syn : Content → Bool
+is_syn v = has syn v.flags && not (has rst v.flags)
+
+-- WHAT CAME WITH OTHER PORTS is of another connection (RFC 9293, 3.3.1 and 3.10.7)
+abbrev pub is_elsewhere : Option (ℕ × ℕ) → Content → Bool
+is_elsewhere None v = false
+is_elsewhere (Some ports) v = not (v.dst_port == ports.0) || not (v.src_port == ports.1)
+
+abbrev pub ports_after : Option (ℕ × ℕ) → Content → Option (ℕ × ℕ)
+ports_after known v = if is_syn v then Some (v.src_port, v.dst_port) else known
 
 -- OFFERS of a SYN
 abbrev pub is_scale : OptionContent → Bool
@@ -109,21 +123,25 @@ without_passed acked_number spans = filter (λ span. not (is_passed acked_number
 abbrev pub after_acknowledging : Heard → ℕ → Heard
 after_acknowledging h acked_number = record h { spans = without_passed acked_number h.spans; syns = []; acked_number = Some (record { 0 = acked_number }) }
 
+abbrev pub after_telling : Heard → Content → Heard
+after_telling h v = if goes_further h v then after_acknowledging h v.ack else h
+
 -- after a segment that was sent,
 abbrev pub after_went : Heard → Content → Heard
-after_went h v = if goes_further h v then after_acknowledging h v.ack else h
+after_went h v = record (after_telling h v) { ports = ports_after h.ports v }
 
--- and one that came: it is kept where it takes a number; a SYN, where the end may take it: before anything is acknowledged, and
--- behind a reset, which leads an end that listens back to where it was (RFC 9293, 3.10.7.4)
+-- and one that came: it is kept where it takes a number, and nothing of a reset is (RFC 9293, 3.5.3); a SYN, where the end may take it:
+-- before anything is acknowledged, and behind a reset, which leads an end that listens back to where it was, so that its peer may be another
+-- (RFC 9293, 3.10.7.4)
 abbrev pub spans_of : Content → List (Seq × ℕ)
-spans_of v = if count_numbers v == 0 then [] else (record { 0 = v.seq }, count_numbers v) ∷ []
+spans_of v = if has rst v.flags || count_numbers v == 0 then [] else (record { 0 = v.seq }, count_numbers v) ∷ []
 
 abbrev pub may_open : Option Seq → Bool → Bool
 may_open None reset = true
 may_open (Some acked_number) reset = reset
 
 abbrev pub syns_of : Option Seq → Bool → Content → List Seq
-syns_of acked_number reset v = if has syn v.flags && may_open acked_number reset then record { 0 = v.seq } ∷ [] else []
+syns_of acked_number reset v = if is_syn v && may_open acked_number reset then record { 0 = v.seq } ∷ [] else []
 
 abbrev pub after_came : Heard → Content → Heard
 after_came h v = record {
@@ -131,6 +149,7 @@ after_came h v = record {
   syns = h.syns ++ syns_of h.acked_number h.reset v;
   acked_number = h.acked_number;
   reset = h.reset || has rst v.flags;
-  scaling = h.scaling || (has syn v.flags && any_scale v.options);
-  sack = h.sack || (has syn v.flags && any_permission v.options);
+  scaling = h.scaling || (is_syn v && any_scale v.options);
+  sack = h.sack || (is_syn v && any_permission v.options);
+  ports = if has rst v.flags then None else h.ports;
 }

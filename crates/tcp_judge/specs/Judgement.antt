@@ -1,8 +1,9 @@
 -- THE JUDGEMENT OF A LOG: the first segment that was sent and breaks a rule, judged by what came and was sent before it.
-use Rattle.std.specs.Prelude.{◌≡◌, ℕ, suc, List, [], ◌∷◌, Option, Some, None, Result, Ok, Err}
+use Rattle.std.specs.Prelude.{◌≡◌, ℕ, suc, if◌then◌else◌, List, [], ◌∷◌, Option, Some, None, Result, Ok, Err}
 use Rattle.tcp_wire.specs.Wire.{Content}
 use Rattle.tcp_wire.specs.Decoded.{decode_answer}
 use Rattle.tcp_wire.specs.declared.fault.DecodeError.{DecodeError}
+use Rattle.tcp_judge.specs.Heard.{is_elsewhere}
 use Rattle.tcp_judge.specs.Known.{Known, nothing_known, known_after, known_with}
 use Rattle.tcp_judge.specs.Log.{PassageContent, Came, Went}
 use Rattle.tcp_judge.specs.Rules.{finding_of}
@@ -19,10 +20,10 @@ abbrev pub known_read : Known → Result Content DecodeError → Known
 known_read k (Ok v) = known_after k v
 known_read k (Err fault) = k
 
--- what came adds to it as far as an end may take it
+-- what came adds to it as far as an end may take it, and it is of its connection
 abbrev pub known_came : Known → Option Content → Known
 known_came k None = k
-known_came k (Some v) = known_with k v
+known_came k (Some v) = if is_elsewhere k.heard.ports v then k else known_with k v
 
 -- what came is not judged
 abbrev pub finding_at : Known → PassageContent → Option Finding

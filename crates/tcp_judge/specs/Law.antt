@@ -1,5 +1,5 @@
 -- NO CORRECT END IS ACCUSED: over every list of events, whoever the peer is and whatever bytes arrive.
-use Rattle.std.specs.Prelude.{◌≡◌, ℕ, ◌+◌, ◌^◌, ◌<◌, ◌≤◌, List, [], ◌∷◌, length, Option, Some, None, Result, Ok, Err}
+use Rattle.std.specs.Prelude.{◌≡◌, ℕ, ◌+◌, ◌^◌, ◌<◌, ◌≤◌, if◌then◌else◌, List, [], ◌∷◌, length, Option, Some, None, Result, Ok, Err}
 use Rattle.std.specs.List.{AllByRecursion}
 use Rattle.tcp_wire.specs.Wire.{Content}
 use Rattle.tcp_wire.specs.Decoded.{decode_answer}
@@ -9,15 +9,15 @@ use Rattle.tcp_halves.specs.Config.{IsConfig, default_limit}
 use Rattle.tcp_replay.specs.Solo.{alone_with_runs, run_alone}
 use Rattle.tcp_replay.specs.SoloEvents.{SoloContent, HasRanges}
 use Rattle.tcp_judge.specs.Log.{PassageContent, Came, Went, log_alone, log_with_runs}
-use Rattle.tcp_judge.specs.Heard.{Heard, nothing_heard, after_went, after_came}
+use Rattle.tcp_judge.specs.Heard.{Heard, nothing_heard, is_elsewhere, after_went, after_came}
 use Rattle.tcp_judge.specs.Rules.{form_finding, heard_finding}
 use Rattle.tcp_judge.specs.Judgement.{IsClean}
 use Rattle.tcp_judge.specs.Taken.{taken_of}
 
--- what is known to have come after what came, as far as an end may take it, and after bytes that were sent
+-- what is known to have come after what came, as far as an end may take it and it is of its connection, and after bytes that were sent
 abbrev pub heard_read : Heard → Option Content → Heard
 heard_read h None = h
-heard_read h (Some v) = after_came h v
+heard_read h (Some v) = if is_elsewhere h.ports v then h else after_came h v
 
 abbrev pub heard_went : Heard → Result Content DecodeError → Heard
 heard_went h (Ok v) = after_went h v

@@ -4,6 +4,8 @@ pub mod Heard
 pub mod Run
 pub mod Reports
 pub mod Stream
+pub mod Answers
+pub mod Edge
 pub mod Known
 pub mod Rules
 pub mod Judgement

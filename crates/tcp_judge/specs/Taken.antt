@@ -1,6 +1,6 @@
 -- WHAT CAME, AS AN END MAY TAKE IT (RFC 9293, 3.1).
 use Rattle.std.specs.Prelude.{ℕ, List, [], ◌∷◌, Option, Some, None, Result, Ok, Err}
-use Rattle.tcp_wire.specs.Options.{OptionContent, WindowScale, SackPermitted}
+use Rattle.tcp_wire.specs.Options.{OptionContent, WindowScale, SackPermitted, Unknown}
 use Rattle.tcp_wire.specs.Wire.{Content}
 use Rattle.tcp_wire.specs.Decoded.{content_at, decode_answer}
 use Rattle.tcp_wire.specs.declared.fault.DecodeError.{DecodeError}
@@ -9,7 +9,7 @@ use Rattle.tcp_wire.specs.declared.fault.DecodeError.TheVariants.{BadOption, Bad
 -- An option of an illegal length is handled as an end likes (RFC 9293, 3.1, MUST-7): it may drop the segment, or take its text
 -- and the options that it can read. So it counts as one that offers what a SYN may offer
 abbrev pub any_offer : List OptionContent
-any_offer = WindowScale 0 ∷ SackPermitted ∷ []
+any_offer = WindowScale 14 ∷ SackPermitted ∷ Unknown 34 [] ∷ []
 
 -- a segment, or bytes whose header and checksum can be read, though their options can't
 abbrev pub taken_as : List ℕ → Result Content DecodeError → Option Content

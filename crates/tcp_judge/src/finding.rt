@@ -21,6 +21,22 @@ pub enum Finding {
     /// Text or FIN beyond the FIN: the position of the FIN, and that where the text or the other FIN ends (RFC 9293,
     /// 3.4 and 3.6).
     BeyondFin(u64, u64),
+    /// The text of the segment with this number goes before the end's SYN is acknowledged, without TCP Fast Open (RFC
+    /// 9293, 3.10.2).
+    BeforeAck(Seq),
+    /// The text or the FIN of the segment with this number goes after the end's own reset of the connection (RFC 9293,
+    /// 3.10.5).
+    AfterReset(Seq),
+    /// The text or the FIN of the segment with this number begins behind SND.NXT, so that there is a gap in what was sent
+    /// (RFC 9293, 3.4).
+    Gap(Seq),
+    /// The segment with this number has neither text nor SYN, FIN or RST, and is behind SND.NXT (RFC 9293, 3.10.7.4).
+    BehindNext(Seq),
+    /// The text of the segment with this number ends behind what is acknowledged and the greatest window that came (RFC 9293,
+    /// 3.8.6).
+    BeyondWindow(Seq),
+    /// A reset has this number, which is none that the end sent nor SND.NXT, and answers nothing that came (RFC 9293, 3.5.2).
+    StrayReset(Seq),
     /// This acknowledgement covers what didn't come (RFC 9293, 3.4).
     AckBeyond(Seq),
     /// This acknowledgement is less than the other one, which went before it (RFC 9293, 3.10.7.4).

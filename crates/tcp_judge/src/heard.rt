@@ -6,7 +6,7 @@ ghost use Rattle.tcp_wire.specs.View.{raw_content, option_content};
 ghost use Rattle.tcp_wire.specs.Wire.{max_text_len};
 ghost use Rattle.tcp_conn.specs.Judgement.{count_numbers};
 ghost use Rattle.tcp_wire.specs.Position.{distance};
-ghost use Rattle.tcp_judge.specs.Heard.{is_scale, any_scale, is_permission, any_permission, goes_on, begins, is_of_came, carries_ack, is_further, spans_of, may_open, syns_of};
+ghost use Rattle.tcp_judge.specs.Heard.{is_syn, is_elsewhere, ports_after, is_scale, any_scale, is_permission, any_permission, goes_on, begins, is_of_came, carries_ack, is_further, spans_of, may_open, syns_of};
 ghost use Rattle.tcp_judge.specs.Rules.{ack_rule};
 ghost use Rattle.tcp_judge.specs.Run.{any_within};
 
@@ -17,7 +17,7 @@ use std::alloc::{AllocError, Allocator};
 use tcp_wire::{OptionsLeft, RawSegment, Seq, TcpOption};
 
 /// How many numbers SYN, text and FIN take, SEG.LEN (RFC 9293, 3.4).
-fn count_numbers(segment: &RawSegment<'_>) -> u32
+pub(crate) fn count_numbers(segment: &RawSegment<'_>) -> u32
     requires { length segment.now.text.now ≤ max_text_len }
     ensures { result ≡ count_numbers (raw_content segment.now) }
 {
@@ -30,6 +30,33 @@ fn count_numbers(segment: &RawSegment<'_>) -> u32
         count += 1;
     }
     count
+}
+
+/// Whether it is a SYN, and no reset.
+pub(crate) fn is_syn(segment: &RawSegment<'_>) -> bool
+    ensures { result ≡ is_syn (raw_content segment.now) }
+{
+    segment.header.flags.is_syn() && !segment.header.flags.is_rst()
+}
+
+/// Whether it came with other ports than these, the end's own and its peer's.
+pub(crate) fn is_elsewhere(ports: Option<(u16, u16)>, segment: &RawSegment<'_>) -> bool
+    ensures { result ≡ is_elsewhere ports (raw_content segment.now) }
+{
+    match ports {
+        Some((own, peer)) => segment.header.dst_port != own || segment.header.src_port != peer,
+        None => false,
+    }
+}
+
+/// The ports of the connection after a segment that was sent.
+pub(crate) fn ports_after(known: Option<(u16, u16)>, segment: &RawSegment<'_>) -> Option<(u16, u16)>
+    ensures { result ≡ ports_after known (raw_content segment.now) }
+{
+    if is_syn(segment) {
+        return Some((segment.header.src_port, segment.header.dst_port));
+    }
+    known
 }
 
 pub(crate) fn carries_ack(segment: &RawSegment<'_>) -> bool
@@ -84,16 +111,16 @@ fn any_permission(options: OptionsLeft<'_>) -> bool
 
 /// Whether it is a SYN with a window scale.
 pub(crate) fn offers_scale(segment: &RawSegment<'_>) -> bool
-    ensures { result ≡ (has syn (raw_content segment.now).flags && any_scale (raw_content segment.now).options) }
+    ensures { result ≡ (is_syn (raw_content segment.now) && any_scale (raw_content segment.now).options) }
 {
-    segment.header.flags.is_syn() && any_scale(segment.options_left())
+    is_syn(segment) && any_scale(segment.options_left())
 }
 
 /// Whether it is a SYN that permits selective acknowledgement.
 pub(crate) fn offers_sack(segment: &RawSegment<'_>) -> bool
-    ensures { result ≡ (has syn (raw_content segment.now).flags && any_permission (raw_content segment.now).options) }
+    ensures { result ≡ (is_syn (raw_content segment.now) && any_permission (raw_content segment.now).options) }
 {
-    segment.header.flags.is_syn() && any_permission(segment.options_left())
+    is_syn(segment) && any_permission(segment.options_left())
 }
 
 /// Whether a SYN that acknowledges another has a window scale that wasn't offered.
@@ -174,7 +201,7 @@ pub(crate) fn ack_rule(last: Option<Seq>, acked_number: Seq) -> Finding
     }
 }
 
-/// Adds a segment that came, where it takes a number.
+/// Adds a segment that came, where it takes a number and is no reset.
 pub(crate) fn keep_span<A: Allocator + Copy>(
     spans: &mut Spans<A>,
     segment: &RawSegment<'_>,
@@ -184,7 +211,7 @@ pub(crate) fn keep_span<A: Allocator + Copy>(
     ensures err { OnErr result (spans.new ≡ spans.old) }
 {
     let count = count_numbers(segment);
-    if count == 0 {
+    if segment.header.flags.is_rst() || count == 0 {
         return Ok(());
     }
     spans.push(segment.header.seq, count)
@@ -210,7 +237,7 @@ pub(crate) fn keep_syn<A: Allocator>(
     requires room { vec_len syns.old < vec_capacity syns.old }
     ensures { syns.new.items ≡ syns.old.items ++ syns_of acked_number reset (raw_content segment.now) }
 {
-    if segment.header.flags.is_syn() && may_open(acked_number, reset) {
+    if is_syn(segment) && may_open(acked_number, reset) {
         syns.push_reserved(segment.header.seq);
     }
 }

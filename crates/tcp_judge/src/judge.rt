@@ -4,20 +4,27 @@ ghost use Rattle.std.specs.Option.{option_or};
 ghost use Rattle.tcp_wire.specs.Decoded.{decode_answer};
 ghost use Rattle.tcp_wire.specs.View.{raw_content};
 ghost use Rattle.tcp_wire.specs.Wire.{max_text_len};
-ghost use Rattle.tcp_judge.specs.Known.{nothing_known, is_syn, initial_after, place_of, is_keep_alive, known_after, count_acked, acks_syn, known_with};
+ghost use Rattle.tcp_judge.specs.Known.{nothing_known, place_of, is_keep_alive, ends_by, known_after, count_acked, acked_position, known_with};
 ghost use Rattle.tcp_judge.specs.Heard.{acks_beyond, is_further, goes_further, acked_number_after, after_went};
-ghost use Rattle.tcp_judge.specs.Rules.{initial_by, early_by, fin_by, fin_finding, form_finding, text_finding, position_finding, report_finding, heard_finding};
+ghost use Rattle.tcp_judge.specs.Rules.{fin_finding, form_finding, text_finding, position_finding, order_finding, report_finding, heard_finding};
 ghost use Rattle.tcp_judge.specs.Judgement.{finding_read, known_read, known_came, finding_at, known_past};
 ghost use Rattle.tcp_judge.specs.Log.{passage_content};
 ghost use Rattle.tcp_judge.specs.Taken.{taken_of};
 
+use crate::answers::{goes_elsewhere, is_stray, keep_answer};
+use crate::edge::Edge;
 use crate::finding::Finding;
 use crate::form::form_finding;
 use crate::heard::{
-    ack_rule, carries_ack, keep_span, keep_syn, offers_sack, offers_scale, oversteps, standing,
+    ack_rule, carries_ack, is_elsewhere, is_syn, keep_span, keep_syn, offers_sack, offers_scale,
+    oversteps, ports_after, standing,
 };
 use crate::lookup::is_from;
 use crate::passage::Passage;
+use crate::positions::{
+    acked_position_by, early_by, fin_by, initial_after, initial_by, next_finding, opens_fast,
+    takes_numbers,
+};
 use crate::reports::{any_report, options_finding};
 use crate::spans::Spans;
 use crate::stream::Stream;
@@ -38,6 +45,14 @@ pub struct Judge<A: Allocator = Global> {
     fin: Option<u64>,
     /// Whether its SYN was acknowledged.
     acked: bool,
+    /// Whether text may go before that: a SYN has the option of TCP Fast Open, or text.
+    fast: bool,
+    /// Whether it reset the connection.
+    ended: bool,
+    /// What the peer's windows allow.
+    edge: Edge,
+    /// The resets that answer what came, as far as it acknowledges none of the end's numbers.
+    answers: Vec<(Seq, Option<Seq>), A>,
     /// The number of each segment that came, and how many numbers it takes, as far as they aren't acknowledged.
     spans: Spans<A>,
     /// The number of each SYN that came before anything was acknowledged, or behind a reset, since the last
@@ -51,6 +66,8 @@ pub struct Judge<A: Allocator = Global> {
     scaling: bool,
     /// Whether a SYN that came permitted selective acknowledgement.
     sack: bool,
+    /// The ports of the connection, the end's own first: those of the last SYN that was sent, until a reset comes.
+    ports: Option<(u16, u16)>,
 }
 
 impl<A: Allocator> Model for Judge<A> {
@@ -58,76 +75,7 @@ impl<A: Allocator> Model for Judge<A> {
 
     ghost Value = { Known };
 
-    ghost view = { λ j. record { initial = j.initial; stream = j.stream; fin = j.fin; acked = j.acked; heard = record { spans = j.spans; syns = j.syns.items; acked_number = j.acked_number; reset = j.reset; scaling = j.scaling; sack = j.sack } } };
-}
-
-fn is_syn(segment: &RawSegment<'_>) -> bool
-    ensures { result ≡ is_syn (raw_content segment.now) }
-{
-    segment.header.flags.is_syn() && !segment.header.flags.is_rst()
-}
-
-fn initial_after(known: Option<Seq>, segment: &RawSegment<'_>) -> Option<Seq>
-    ensures { result ≡ initial_after known (raw_content segment.now) }
-{
-    match known {
-        Some(number) => Some(number),
-        None => {
-            if is_syn(segment) {
-                Some(segment.header.seq)
-            } else {
-                None
-            }
-        }
-    }
-}
-
-fn initial_by(known: Option<Seq>, segment: &RawSegment<'_>) -> Option<Finding>
-    ensures { result ≡ initial_by known (raw_content segment.now) }
-{
-    let Some(first) = known else {
-        return None;
-    };
-    let number = segment.header.seq;
-    if is_syn(segment) && number.0 != first.0 {
-        return Some(Finding::OtherInitial(first, number));
-    }
-    None
-}
-
-/// The FIN's rule, where text is known to end before `behind` and the segment ends before `end`.
-fn fin_by(known: Option<u64>, behind: u64, end: u64, segment: &RawSegment<'_>) -> Option<Finding>
-    ensures { result ≡ fin_by known behind end (raw_content segment.now) }
-{
-    let is_fin = segment.header.flags.is_fin();
-    match known {
-        None => {
-            if is_fin && end < behind {
-                return Some(Finding::BeyondFin(end, behind));
-            }
-            None
-        }
-        Some(place) => {
-            if (!segment.text.is_empty() && place < end) || (is_fin && end != place) {
-                return Some(Finding::BeyondFin(place, end));
-            }
-            None
-        }
-    }
-}
-
-/// The rule of text and FIN before the first byte, at this position or at an unknown one, 0.
-fn early_by(known: Option<Seq>, place: u64, segment: &RawSegment<'_>) -> Option<Finding>
-    ensures { result ≡ early_by known place (raw_content segment.now) }
-{
-    if known.is_none() {
-        return None;
-    }
-    let flags = segment.header.flags;
-    if (place == 0 && !flags.is_rst()) && (!segment.text.is_empty() || flags.is_fin()) {
-        return Some(Finding::BeforeFirst(segment.header.seq));
-    }
-    None
+    ghost view = { λ j. record { initial = j.initial; stream = j.stream; fin = j.fin; acked = j.acked; fast = j.fast; ended = j.ended; edge = j.edge; answers = j.answers.items; heard = record { spans = j.spans; syns = j.syns.items; acked_number = j.acked_number; reset = j.reset; scaling = j.scaling; sack = j.sack; ports = j.ports } } };
 }
 
 impl Judge {
@@ -149,12 +97,17 @@ impl<A: Allocator + Copy> Judge<A> {
             stream: Stream::new(alloc),
             fin: None,
             acked: false,
+            fast: false,
+            ended: false,
+            edge: Edge::none(),
+            answers: Vec::new(alloc),
             spans: Spans::new(alloc),
             syns: Vec::new(alloc),
             acked_number: None,
             reset: false,
             scaling: false,
             sack: false,
+            ports: None,
         }
     }
 
@@ -230,7 +183,38 @@ impl<A: Allocator + Copy> Judge<A> {
         self.text_finding(place, segment)
     }
 
-    /// The first rule of form or positions that the segment breaks.
+    /// The first rule of order that the segment breaks: when text and FIN may go, and what is at SND.NXT or before it. None
+    /// is tried once a reset came.
+    fn order_finding(&self, place: u64, segment: &RawSegment<'_>) -> Option<Finding>
+        requires place { place < 2 ^ 63 + 2 ^ 32 }
+        requires short { length segment.now.text.now ≤ max_text_len }
+        ensures { result ≡ order_finding self.now place (raw_content segment.now) }
+    {
+        if self.reset {
+            return None;
+        }
+        let number = segment.header.seq;
+        let may_send = self.acked || self.fast || segment.header.flags.is_syn();
+        if place > 0 && !may_send && !segment.text.is_empty() {
+            return Some(Finding::BeforeAck(number));
+        }
+        if self.ended && (place > 0 && takes_numbers(segment)) {
+            return Some(Finding::AfterReset(number));
+        }
+        let next = self.stream.count_taken(self.fin.is_some());
+        if let Some(finding) = next_finding(place, next, segment) {
+            return Some(finding);
+        }
+        if self.edge.is_beyond(place, segment) {
+            return Some(Finding::BeyondWindow(number));
+        }
+        if is_stray(self.ports, self.initial, next, &self.answers, segment) {
+            return Some(Finding::StrayReset(number));
+        }
+        None
+    }
+
+    /// The first rule of form or of positions that the segment breaks.
     fn early_finding(&self, place: u64, segment: &RawSegment<'_>) -> Option<Finding>
         requires place { place < 2 ^ 63 + 2 ^ 32 }
         requires short { length segment.now.text.now ≤ max_text_len }
@@ -240,6 +224,24 @@ impl<A: Allocator + Copy> Judge<A> {
             return Some(finding);
         }
         self.position_finding(place, segment)
+    }
+
+    /// The first rule that the segment breaks, which is `before` where that is one: those of order come last, so that where they
+    /// aren't tried none is hidden by them.
+    fn last_finding(
+        &self,
+        before: Option<Finding>,
+        place: u64,
+        segment: &RawSegment<'_>,
+    ) -> Option<Finding>
+        requires place { place < 2 ^ 63 + 2 ^ 32 }
+        requires short { length segment.now.text.now ≤ max_text_len }
+        ensures { result ≡ option_or before (order_finding self.now place (raw_content segment.now)) }
+    {
+        match before {
+            Some(finding) => Some(finding),
+            None => self.order_finding(place, segment),
+        }
     }
 
     /// The first rule that the segment breaks against what came.
@@ -347,17 +349,31 @@ impl<A: Allocator + Copy> Judge<A> {
         (!is_of_came, is_further && is_of_came)
     }
 
-    /// Adds the acknowledgement of a segment that was sent, and forgets what came before it.
+    /// Adds the ports and the acknowledgement of a segment that was sent, and forgets what came before this.
     fn tell(&mut self, is_further: bool, segment: &RawSegment<'_>)
         requires { is_further ≡ goes_further self.old.heard (raw_content segment.now) }
         ensures { self.new ≡ record self.old { heard = after_went self.old.heard (raw_content segment.now) } }
     {
+        self.ports = ports_after(self.ports, segment);
         if !is_further {
             return;
         }
         self.spans.forget(segment.header.ack);
         self.syns.clear();
         self.acked_number = Some(segment.header.ack);
+    }
+
+    /// Whether it is the end's own reset, at SND.NXT and with the connection's ports, of one whose SYN was acknowledged.
+    fn ends_by(&self, segment: &RawSegment<'_>) -> bool
+        ensures { result ≡ ends_by self.now (raw_content segment.now) }
+    {
+        let Some(first) = self.initial else {
+            return false;
+        };
+        let count = self.stream.count_taken(self.fin.is_some()) % (1 << 32);
+        let next = first.plus(count as u32);
+        let is_here = segment.header.seq.0 == next.0 && !goes_elsewhere(self.ports, segment);
+        (segment.header.flags.is_rst() && self.acked) && is_here
     }
 
     /// Adds a segment that was sent to what is known.
@@ -374,6 +390,7 @@ impl<A: Allocator + Copy> Judge<A> {
         ensures known { OnOk result (self.new ≡ known_after self.old (raw_content segment.now)) }
         ensures err { OnErr result (self.new ≡ self.old) }
     {
+        let is_end = self.ends_by(segment);
         if !self.is_keep_alive(place, segment) {
             self.stream.extend(place, segment.text)?;
         }
@@ -381,8 +398,18 @@ impl<A: Allocator + Copy> Judge<A> {
             self.fin = Some(place + segment.text.len() as u64);
         }
         self.initial = initial_after(self.initial, segment);
+        self.fast = self.fast || opens_fast(segment);
+        self.ended = !is_syn(segment) && (self.ended || is_end);
         self.tell(is_further, segment);
         Ok(())
+    }
+
+    /// The position that a segment which came acknowledges: 0 where that is none, or more than was sent.
+    fn acked_position(&self, segment: &RawSegment<'_>) -> u64
+        ensures { result ≡ acked_position self.now (raw_content segment.now) }
+    {
+        let next = self.stream.count_taken(self.fin.is_some());
+        acked_position_by(self.initial, self.stream.count(), next, segment)
     }
 
     /// How many of the bytes that are kept a segment that came acknowledges.
@@ -390,36 +417,17 @@ impl<A: Allocator + Copy> Judge<A> {
         ensures count { result ≡ count_acked self.now (raw_content segment.now) }
         ensures most { result ≤ length self.now.stream.sent }
     {
-        let Some(number) = self.initial else {
-            return 0;
-        };
-        if !carries_ack(segment) {
-            return 0;
-        }
-        let position = segment.header.ack.position(number, self.stream.count());
+        let position = self.acked_position(segment);
         self.stream.count_covered(self.fin.is_some(), position)
-    }
-
-    /// Whether a segment that came acknowledges the SYN, and no more than was sent.
-    fn acks_syn(&self, segment: &RawSegment<'_>) -> bool
-        ensures { result ≡ acks_syn self.now (raw_content segment.now) }
-    {
-        let Some(number) = self.initial else {
-            return false;
-        };
-        if !carries_ack(segment) {
-            return false;
-        }
-        let position = segment.header.ack.position(number, self.stream.count());
-        position > 0 && position <= self.stream.count_taken(self.fin.is_some())
     }
 
     /// What a segment that came changes of what was sent: what it acknowledges is forgotten, and all where it leads back
     /// to where nothing is sent.
     fn follow(&mut self, segment: &RawSegment<'_>)
-        ensures { self.new ≡ record (known_with self.old (raw_content segment.now)) { heard = self.old.heard } }
+        ensures { self.new ≡ record (known_with self.old (raw_content segment.now)) { answers = self.old.answers; heard = self.old.heard } }
     {
-        let acks_syn = self.acks_syn(segment);
+        let position = self.acked_position(segment);
+        self.edge.widen(position, segment);
         if segment.header.flags.is_rst() && !self.acked {
             self.initial = None;
             self.stream.forget();
@@ -428,11 +436,12 @@ impl<A: Allocator + Copy> Judge<A> {
             let acked = self.count_acked(segment);
             self.stream.release(acked);
         }
-        self.acked = self.acked || acks_syn;
+        self.acked = self.acked || position > 0;
+        self.fast = self.fast || opens_fast(segment);
     }
 
-    /// A segment came from `src` to `dst`. The text that it acknowledges is forgotten. After an `Err`, for which there was
-    /// no memory, no more is known than before.
+    /// A segment came from `src` to `dst`. The text that it acknowledges is forgotten. One with other ports than those of the
+    /// SYN that was sent adds nothing. After an `Err`, for which there was no memory, no more is known than before.
     pub fn came(&mut self, src: Addr, dst: Addr, bytes: &[u8]) -> Result<(), AllocError>
         ensures known { OnOk result (self.new ≡ known_came self.old (taken_of src.0 dst.0 bytes.now)) }
         ensures err { OnErr result (self.new ≡ self.old) }
@@ -440,20 +449,29 @@ impl<A: Allocator + Copy> Judge<A> {
         let Some(segment) = read_taken(src, dst, bytes) else {
             return Ok(());
         };
+        if is_elsewhere(self.ports, &segment) {
+            return Ok(());
+        }
         self.syns.reserve(1)?;
+        self.answers.reserve(1)?;
         keep_span(&mut self.spans, &segment)?;
         keep_syn(self.acked_number, self.reset, &mut self.syns, &segment);
+        let next = self.stream.count_taken(self.fin.is_some());
+        keep_answer(self.initial, next, &mut self.answers, &segment);
         self.follow(&segment);
         self.reset = self.reset || segment.header.flags.is_rst();
         self.scaling = self.scaling || offers_scale(&segment);
         self.sack = self.sack || offers_sack(&segment);
+        if segment.header.flags.is_rst() {
+            self.ports = None;
+        }
         Ok(())
     }
 
     /// A segment was sent from `src` to `dst`: the first rule that it breaks, if it breaks one. What it acknowledges is
     /// forgotten. After an `Err`, for which there was no memory, no more is known than before; a stream of 2^63 bytes has
     /// none.
-    #[tactic(auto, using(crate::proofs::Orders::option_or_three))]
+    #[tactic(auto, using(crate::proofs::Orders::option_or_four))]
     pub fn went(
         &mut self,
         src: Addr,
@@ -472,7 +490,8 @@ impl<A: Allocator + Copy> Judge<A> {
         let early = self.early_finding(place, &segment);
         self.note_spans(early.is_none(), &segment);
         let (is_beyond, is_further) = self.look(early.is_none(), &segment);
-        let finding = self.finding(early, is_beyond, is_further, &segment);
+        let found = self.finding(early, is_beyond, is_further, &segment);
+        let finding = self.last_finding(found, place, &segment);
         self.learn(place, is_further, &segment)?;
         Ok(finding)
     }

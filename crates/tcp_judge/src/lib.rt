@@ -1,6 +1,6 @@
 //! A judge of one end of a TCP connection, which is proved to accuse no correct one. It compares what an end sent with
-//! the rules of form, of positions, of acknowledgements and of blocks (RFC 9293, 3.1 to 3.6; RFC 7323, 2; RFC 2018, 2 to
-//! 4).
+//! the rules of form, of positions, of the order of text, of acknowledgements and of blocks (RFC 9293, 3.1 to 3.6 and
+//! 3.10; RFC 7323, 2; RFC 2018, 2 to 4).
 //!
 //! - [`Judge`] takes what came and was sent in the order of the end, and returns a [`Finding`] for a segment that
 //!   breaks a rule.
@@ -11,9 +11,11 @@
 //! What is acknowledged is forgotten. What came is kept until then, also where the end refused it, so that the state isn't
 //! bounded by what is in flight.
 //!
-//! Left out: windows, which block comes first, and when anything happens.
+//! Left out: windows that shrink, which block comes first, and when anything happens.
 #![tactic(auto)]
 
+mod answers;
+mod edge;
 mod finding;
 mod form;
 mod headline;
@@ -22,6 +24,7 @@ mod judge;
 mod judging;
 mod lookup;
 mod passage;
+mod positions;
 mod reports;
 mod run_list;
 mod spans;

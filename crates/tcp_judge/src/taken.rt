@@ -8,8 +8,8 @@ ghost use Rattle.tcp_judge.specs.Taken.{any_offer, taken_of};
 use byteorder::{BigEndian, ByteOrder};
 use tcp_wire::{Addr, DecodeError, Flags, Header, RawSegment, Seq};
 
-/// What a SYN may offer, as bytes: a window scale and SACK-permitted.
-const OFFER: [u8; 5] = [3, 3, 0, 4, 2];
+/// What a SYN may offer, as bytes: the greatest window scale, SACK-permitted and TCP Fast Open.
+const OFFER: [u8; 7] = [3, 3, 14, 4, 2, 34, 2];
 
 /// The header of bytes whose options can't be read.
 fn header_of(bytes: &[u8]) -> Header

@@ -188,8 +188,8 @@ fn judged<A: Allocator + Copy>(
 }
 
 /// Judges a log of one end, and writes a line for each finding, one for all notes and then the counts: [`WELL`] where no
-/// rule is broken, [`REFUSED`] where one is or the end sent nothing. Where `is_complete` is 0 something that came may be
-/// missing: no rule is tried against what came, and a wrong checksum is a note. Where `is_first` isn't 0 only the first
+/// rule is broken, [`REFUSED`] where one is or the end sent nothing. Where `is_complete` is 0 segments may be missing: no
+/// rule is tried of order or against what came, and a wrong checksum is a note. Where `is_first` isn't 0 only the first
 /// finding of each rule has a line. With a bad line nothing is written: the answer is [`FAULT`], and `line` is its
 /// number, else 0.
 #[unsafe(no_mangle)]

@@ -5,7 +5,7 @@ use Rattle.tcp_judge.specs.Taken.{any_offer}
 use Rattle.tcp_judge.proofs.Offers.{offer_readable, offer-content}
 use Rattle.tcp_judge.proofs.taken.read_around.Goals as goal
 
--- the options are five bytes, and the text is what lies behind at least twenty
+-- the options are seven bytes, and the text is what lies behind at least twenty
 pub invariant_of-result : goal.invariant_of-result
 invariant_of-result c =
     let bytes = c.args.bytes.now in
