@@ -29,11 +29,12 @@ else
     # Without what a check keeps beside them.
     libraries=$(sed -nE "s/$lines.*/crates\/\1/p" crates.txt)
     tar --exclude=out -cf - HANDLES crates/tcp_web $libraries | tar -xf - -C "$place"
-    # The libraries that the gate has built are taken as they are, by their stamps; without them all is proved and built anew.
-    for folder in $libraries; do
-        if [[ -d $folder/out/rlib ]]; then
-            mkdir -p "$place/$folder/out"
-            cp -R "$folder/out/rlib" "$place/$folder/out"
+    # The libraries that the gate has built are taken as they are, by their stamps, and of tcp_web what its proof for another machine
+    # has kept; without them all is proved and built anew.
+    for folder in $(sed 's|$|/out/rlib|' <<<"$libraries") crates/tcp_web/out/incremental; do
+        if [[ -d $folder ]]; then
+            mkdir -p "$place/${folder%/*}"
+            cp -R "$folder" "$place/${folder%/*}"
         fi
     done
 fi

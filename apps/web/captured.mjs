@@ -84,8 +84,8 @@ function findings_told({ count, counts, left, complete, columns, findings }) {
     return parts_told([
         unknown.length > 0 ? `The module can't get the memory that it needs to judge ${unknown.join(" and ")}.`
             : sum === 0 ? `No finding in ${count} segments.` : `${counted(sum, "finding")} in ${count} segments: ${counts[0]} of A's, ${counts[1]} of B's.`,
-        whole === "" ? "Findings are of form and positions alone: something that came may be missing."
-            : `Findings are of form and positions, and of ${whole}'s acknowledgements and blocks.`,
+        whole === "" ? "Findings are of form and positions alone: segments may be missing."
+            : `Findings are of form and positions, and of ${whole}'s order, acknowledgements and blocks.`,
         "That there is none doesn't say that nothing is wrong.",
         left === 0 ? "" : `${left} checksum${left === 1 ? " was" : "s were"} left to a device, and made right.`,
         drawn === count ? "" : `The ladder has the first ${drawn} segments.`,

@@ -170,8 +170,8 @@ function expect_numbers(name, module_calls, script, report) {
 // What the program's stored run (crates/tcpjudge) leaves out, as its rule has a finding before; and the lines of that log whose
 // findings compare with what came, by the comments there.
 const AGAIN = "line 40: an acknowledgement of 5, up to which not all came (RFC 9293, 3.4)\n", AGAINST_CAME = [26, 34, 36, 38, 40];
-// A wrong checksum is a note where something that came may be missing.
-const UNJUDGED = "note: acknowledgements and blocks aren't judged, as what came may be missing\n";
+// A wrong checksum is a note where segments may be missing.
+const UNJUDGED = "note: order, acknowledgements and blocks aren't judged, as segments may be missing\n";
 const DAMAGED = 20, NOTE = `note: wrong checksums: 1, the first in line ${DAMAGED} (RFC 9293, 3.1)\n`;
 
 // A log is judged as the program judges it, but each finding has its line.

@@ -43,8 +43,8 @@ async function judged(tab, expect, open) {
         const [, number, rule] = /^line (\d+): (.*)$/.exec(line);
         // The capture's times are the numbers of the lines in seconds, and are shown since the first.
         // Line 20 has a wrong checksum, which is a note where something may be missing.
-        const is_against_came = ["20", "26", "34", "36", "38", "40"].includes(number);
-        return { number: places.indexOf(Number(number)) + 1, time: `${number - places[0]}.000000 s`, is_against_came, rule };
+        const wants_whole_log = ["20", "26", "34", "36", "38", "40"].includes(number);
+        return { number: places.indexOf(Number(number)) + 1, time: `${number - places[0]}.000000 s`, wants_whole_log, rule };
     });
     const lines_of = findings => findings.map(({ number, time, rule }) => `line ${number}, ${time}, B (10.0.0.2:2): ${rule}`);
     const arrows_of = findings => findings.map(({ number, rule }) => `B ${number} ${rule}`);
@@ -55,7 +55,7 @@ async function judged(tab, expect, open) {
         }, id, is_checked);
         await tab.until(rested);
     };
-    const form = found.filter(one => !one.is_against_came);
+    const form = found.filter(one => !one.wants_whole_log);
     const faults = await open("faults.pcap", capture_of_log(log)), accent = await tab.run(() => getComputedStyle(
         document.querySelector("#heads .phase")).fill);
     expect("planted faults", faults, {

@@ -33,3 +33,7 @@ guard_some false x y is = (refl, cc)
 pub guard_none : {A : Type 0} (test : Bool) (x : A) → (if test then None else Some x) ≡ None → test ≡ true
 guard_none true x is = refl
 guard_none false x is = absurd cc
+
+pub some_guard : {A : Type 0} (test : Bool) (x y : A) → (if test then Some x else None) ≡ Some y → (test ≡ true) × (x ≡ y)
+some_guard true x y is = (refl, cc)
+some_guard false x y is = absurd cc

@@ -18,7 +18,7 @@ pub enum Stop {
 }
 
 /// Where reading ends in so many bytes, with these behind the last frame.
-fn stop_before(whole: usize, behind: &[u8]) -> Stop
+pub(crate) fn stop_before(whole: usize, behind: &[u8]) -> Stop
     requires { length behind.now ≤ whole }
     ensures { result ≡ stop_before whole behind.now }
 {

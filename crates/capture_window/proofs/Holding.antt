@@ -1,13 +1,13 @@
 -- What a window holds.
 use Rattle.std.proofs.Common.{◌≡◌, ℕ, ◌+◌, ◌-◌, ◌≤◌, length, drop, ◌<◌, ltb, List, [], ◌∷◌, ◌++◌, Option, Some, None, refl, sym, ap, subst, ◌∙◌, append_assoc, arith}
-use Rattle.std.specs.Prelude.{Bool, true, false, not, IfSome, IsSome, map, option_map}
+use Rattle.std.specs.Prelude.{Bool, true, false, not, IfSome, map, option_map}
 use Rattle.std.specs.Io.KnownBytes.{IsAtEnd}
 use Rattle.std.proofs.lemmas.Bool.{and_parts, ltb-false, ltb-true}
 use Rattle.std.proofs.lemmas.List.{append-nil, drop-append-le, drop-drop, length-drop}
 use Rattle.capture_form.specs.declared.form.Form.{Form}
 use Rattle.capture_form.specs.Pcap.{FrameContent, captured_len, form_of, is_damaged, max_captured, record_at}
 use Rattle.capture_form.proofs.Records.{record_some, records_some, records_none}
-use Rattle.capture_form.proofs.Cuts.{damaged_more, form_more, form_short, record_more}
+use Rattle.capture_form.proofs.Cuts.{damaged_more, form_more, record_more}
 use Rattle.capture_window.specs.Windows.{Holds, HoldsBehind, first_wire, wires, Tells}
 
 pub tells_start : (form : Form) (a : Option (List ℕ)) (window found : List ℕ) → found ≡ [] → Tells form a window found a window

@@ -1,7 +1,8 @@
 -- A WINDOW on an input.
-use Rattle.std.specs.Prelude.{◌≡◌, ℕ, List, ◌++◌, drop, map, option_map, Option, Some, None, ⊤}
+use Rattle.std.specs.Prelude.{◌≡◌, ℕ, List, [], ◌∷◌, ◌++◌, drop, map, option_map, Option, Some, None, ⊤}
 use Rattle.capture_form.specs.declared.form.Form.{Form}
 use Rattle.capture_form.specs.Pcap.{FrameContent, record_at, records_of}
+use Rattle.capture_form.specs.Sections.{SectionContent, step_at, blocks_of}
 
 -- what the window holds and what remains of the input, where that is known, are together what they were
 abbrev pub Holds : Option (List ℕ) → List ℕ → Option (List ℕ) → List ℕ → Type 0
@@ -28,3 +29,22 @@ abbrev pub Tells : Form → Option (List ℕ) → List ℕ → List ℕ → Opti
 Tells form None window found new held = ⊤
 Tells form (Some bytes) window found None held = ⊥
 Tells form (Some bytes) window found (Some left) held = found ++ wires form (held ++ left) ≡ wires form (window ++ bytes)
+
+-- THE SAME of the pcapng form, in a section that may have begun
+abbrev pub section_wires : SectionContent → List ℕ → List ℕ
+section_wires s bytes = map (λ (f : FrameContent). f.wire) (blocks_of s bytes).0
+
+-- the section behind the first block, the length of the frame that it is, and the bytes behind it
+abbrev pub wire_step : SectionContent → List ℕ → Option ((SectionContent × Option ℕ) × List ℕ)
+wire_step s bytes =
+    option_map (λ (r : (SectionContent × Option FrameContent) × List ℕ). ((r.0.0, option_map (λ (f : FrameContent). f.wire) r.0.1), r.1)) (step_at s bytes)
+
+-- what a block adds to the lengths that were found
+abbrev pub more_wires : List ℕ → Option ℕ → List ℕ
+more_wires found None = found
+more_wires found (Some wire) = found ++ wire ∷ []
+
+abbrev pub TellsSections : SectionContent → Option (List ℕ) → List ℕ → List ℕ → SectionContent → Option (List ℕ) → List ℕ → Type 0
+TellsSections first None window found s new held = ⊤
+TellsSections first (Some bytes) window found s None held = ⊥
+TellsSections first (Some bytes) window found s (Some left) held = found ++ section_wires s (held ++ left) ≡ section_wires first (window ++ bytes)

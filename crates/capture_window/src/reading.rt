@@ -1,4 +1,4 @@
-ghost use Rattle.std.specs.Prelude.{◌≡◌, ◌<◌, ◌++◌, ◌∷◌, [], None, Some, MatchOption, IsSome, IfSome, IfOk, OnOk, length, false, true};
+ghost use Rattle.std.specs.Prelude.{◌≡◌, ◌<◌, ◌^◌, ◌++◌, ◌∷◌, [], None, Some, MatchOption, IsSome, IfSome, IfOk, OnOk, length, false, true};
 ghost use Rattle.std.specs.Io.KnownBytes.{IsAtEnd};
 ghost use Rattle.capture_form.specs.Pcap.{form_of, is_damaged, record_at};
 ghost use Rattle.capture_window.specs.Windows.{Holds, HoldsBehind, first_wire, wires};
@@ -14,17 +14,35 @@ const CHUNK: usize = 65536;
 /// How many bytes of a capture tell its form.
 const HEAD: usize = 24;
 
+/// Reads once, and answers whether anything was read. The buffer is here, so that what finds enough in the window doesn't
+/// pay for it.
+#[inline(never)]
+pub(crate) fn read_on<I: Input>(input: &mut I, window: &mut Window) -> Result<bool, ReadError>
+    ensures held { OnOk result (Holds (I.remaining input.old) window.old (I.remaining input.new) window.new) }
+    ensures more { IfOk result (λ some. some ≡ true → length window.old < length window.new) }
+    ensures room { IfOk result (λ some. some ≡ true → length window.new < 2 ^ 63) }
+    ensures same { IfOk result (λ some. some ≡ false → window.new ≡ window.old) }
+    ensures end { IfOk result (λ some. some ≡ false → IsAtEnd (I.remaining input.new)) }
+{
+    let mut buffer = [0u8; CHUNK];
+    match input.read(&mut buffer) {
+        Err(_) => Err(ReadError::Fault),
+        Ok(0) => Ok(false),
+        Ok(count) => {
+            window.push(&buffer[..count])?;
+            Ok(true)
+        }
+    }
+}
+
 /// Reads on until the window holds this many bytes, or the input ends.
 pub fn fill_to<I: Input>(count: usize, input: &mut I, window: &mut Window) -> Result<(), ReadError>
     ensures held { OnOk result (Holds (I.remaining input.old) window.old (I.remaining input.new) window.new) }
     ensures met { OnOk result (length window.new < count → IsAtEnd (I.remaining input.new)) }
 {
-    let mut buffer = [0u8; CHUNK];
     while window.bytes().len() < count {
-        match input.read(&mut buffer) {
-            Err(_) => return Err(ReadError::Fault),
-            Ok(0) => return Ok(()),
-            Ok(read) => window.push(&buffer[..read])?,
+        if !read_on(input, window)? {
+            return Ok(());
         }
     }
     Ok(())
@@ -53,7 +71,6 @@ pub fn fill<I: Input>(form: Form, input: &mut I, window: &mut Window) -> Result<
     ensures end { IfOk result (λ found. found ≡ false → record_at form window.new ≡ None) }
     ensures met { IfOk result (λ found. found ≡ false → is_damaged form window.new ≡ false → IsAtEnd (I.remaining input.new)) }
 {
-    let mut buffer = [0u8; CHUNK];
     loop {
         if read_record(form, window.bytes()).is_some() {
             return Ok(true);
@@ -61,10 +78,8 @@ pub fn fill<I: Input>(form: Form, input: &mut I, window: &mut Window) -> Result<
         if is_damaged(form, window.bytes()) {
             return Ok(false);
         }
-        match input.read(&mut buffer) {
-            Err(_) => return Err(ReadError::Fault),
-            Ok(0) => return Ok(false),
-            Ok(count) => window.push(&buffer[..count])?,
+        if !read_on(input, window)? {
+            return Ok(false);
         }
     }
 }
@@ -83,7 +98,7 @@ pub fn pass_record(form: Form, window: &mut Window) -> Option<u32>
 }
 
 /// Adds a length at the end.
-fn keep(found: &mut Vec<u32>, wire: u32) -> Result<(), ReadError>
+pub(crate) fn keep(found: &mut Vec<u32>, wire: u32) -> Result<(), ReadError>
     ensures { OnOk result (found.new.items ≡ found.old.items ++ wire ∷ []) }
 {
     if found.push(wire).is_err() {

@@ -1,6 +1,7 @@
 //! The connections of a capture.
 use crate::judged_end::{JudgedEnd, Packet};
-use crate::side::{Key, Side, key_between, key_of};
+use crate::side::{Host, Hosts, Key, Place, Side, key_of, number_of, place_of};
+use capture_form::stand_in;
 use std::alloc::{AllocError, Global};
 use std::collections::BTreeMap;
 use tcp_numbers::partial_checksum;
@@ -14,6 +15,8 @@ const MOST: usize = 65_515;
 /// A connection: the side of its first packet, and the other one.
 #[derive(Drop)]
 pub(crate) struct Connection {
+    /// The side of its first packet as a number.
+    opener: Place,
     pub(crate) first: JudgedEnd,
     pub(crate) second: JudgedEnd,
     pub(crate) begin: Packet,
@@ -25,7 +28,7 @@ pub(crate) struct Connection {
 /// What is left out of the judgement.
 #[derive(Clone, Copy, Default)]
 pub(crate) struct LeftOut {
-    /// Packets without TCP over IPv4.
+    /// Packets without TCP.
     pub(crate) others: usize,
     pub(crate) fragments: usize,
     /// Segments that weren't captured whole.
@@ -37,6 +40,7 @@ pub(crate) struct LeftOut {
 #[derive(Drop)]
 pub(crate) struct Connections {
     pub(crate) list: Vec<Connection>,
+    hosts: Hosts,
     /// Where the newest connection between two sides is in the list.
     places: BTreeMap<Key, usize>,
     /// A segment whose checksum was left to a device, mended.
@@ -45,6 +49,10 @@ pub(crate) struct Connections {
     /// The addresses between which a fragment went, or a segment that is cut short. Ports are in the first fragment alone,
     /// so it may be of any connection between them.
     gaps: BTreeMap<Key, ()>,
+    /// The latest time of a segment.
+    latest: u64,
+    /// Whether one has an earlier time than one before it, as where several interfaces are captured.
+    pub(crate) goes_back: bool,
 }
 
 /// How far the checksum of a segment is to be trusted.
@@ -63,10 +71,24 @@ fn field_at(bytes: &[u8], at: usize) -> u16 {
     }
 }
 
-fn addr_at(packet: &[u8], at: usize) -> Option<Addr> {
+fn addr_at(packet: &[u8], at: usize) -> Option<Host> {
     match packet.get(at..) {
-        Some([a, b, c, d, ..]) => Some(Addr([*a, *b, *c, *d])),
+        Some([a, b, c, d, ..]) => Some(Host::V4(Addr([*a, *b, *c, *d]))),
         _ => None,
+    }
+}
+
+fn addr6_at(packet: &[u8], at: usize) -> Option<Host> {
+    let bytes = packet.get(at..)?.first_chunk::<16>()?;
+    Some(Host::V6(*bytes))
+}
+
+/// The addresses of a packet (RFC 791, 3.1; RFC 8200, 3).
+fn hosts_of(packet: &[u8]) -> Option<(Host, Host)> {
+    if packet.first()? / 16 == 6 {
+        Some((addr6_at(packet, 8)?, addr6_at(packet, 24)?))
+    } else {
+        Some((addr_at(packet, 12)?, addr_at(packet, 16)?))
     }
 }
 
@@ -99,7 +121,7 @@ fn bits_of(bytes: &[u8]) -> u8 {
     }
 }
 
-fn number_of(bytes: &[u8]) -> Seq {
+fn seq_of(bytes: &[u8]) -> Seq {
     Seq(u32::from(field_at(bytes, 4)) * 65_536 + u32::from(field_at(bytes, 6)))
 }
 
@@ -116,7 +138,7 @@ fn opening_of(bytes: &[u8]) -> Option<Opening> {
         return None;
     }
     Some(Opening {
-        number: number_of(bytes),
+        number: seq_of(bytes),
         is_answer: bits & ACK != 0,
     })
 }
@@ -125,9 +147,19 @@ fn opening_of(bytes: &[u8]) -> Option<Opening> {
 /// 3.4.2): two minutes.
 const LIFETIME: u64 = 120_000_000_000;
 
+/// Where a segment comes from, and where it goes to: both addresses by their numbers, and as sums have them.
+#[derive(Clone, Copy)]
+struct Way {
+    source: u64,
+    target: u64,
+    src: Addr,
+    dst: Addr,
+}
+
 impl Connection {
-    fn new(alloc: Global, packet: Packet, from: Side, to: Side) -> Self {
+    fn new(alloc: Global, packet: Packet, source: Place, from: Side, to: Side) -> Self {
         Connection {
+            opener: source,
             first: JudgedEnd::new(alloc, from),
             second: JudgedEnd::new(alloc, to),
             begin: packet,
@@ -138,8 +170,8 @@ impl Connection {
 
     /// Whether a SYN from this side with this number begins another connection: the side had another number, and the
     /// connection is over, was silent for long, or was never answered, unless the SYN is an answer itself.
-    fn is_left_by(&self, packet: Packet, from: Side, opening: Opening) -> bool {
-        let (initial, answers) = if from == self.first.side {
+    fn is_left_by(&self, packet: Packet, source: Place, opening: Opening) -> bool {
+        let (initial, answers) = if source == self.opener {
             (self.first.initial, self.second.segments)
         } else {
             (self.second.initial, self.first.segments)
@@ -155,12 +187,11 @@ impl Connection {
         }
     }
 
-    /// Takes a segment from one side to the other; one whose checksum is wrong ends nothing.
+    /// Takes a segment from one side to the other one; one whose checksum is wrong ends nothing.
     fn take(
         &mut self,
         packet: Packet,
-        from: Side,
-        to: Side,
+        source: Place,
         bytes: &[u8],
         is_right: bool,
     ) -> Result<(), AllocError> {
@@ -168,14 +199,18 @@ impl Connection {
         if is_right && bits_of(bytes) & (FIN | RST) != 0 {
             self.is_over = true;
         }
-        if from == self.first.side {
+        if source == self.opener {
             let has_peer = self.second.initial.is_some();
-            self.first.went(packet, to.addr, bytes, has_peer)?;
-            return self.second.came(from.addr, bytes);
+            let other = &mut self.second;
+            self.first
+                .went(packet, other.addr, bytes, has_peer, &mut other.flow)?;
+            return self.second.came(self.first.addr, bytes);
         }
         let has_peer = self.first.initial.is_some();
-        self.second.went(packet, to.addr, bytes, has_peer)?;
-        self.first.came(from.addr, bytes)
+        let other = &mut self.first;
+        self.second
+            .went(packet, other.addr, bytes, has_peer, &mut other.flow)?;
+        self.first.came(self.second.addr, bytes)
     }
 }
 
@@ -200,62 +235,75 @@ impl Connections {
     pub(crate) fn new(alloc: Global) -> Self {
         Connections {
             list: Vec::new(alloc),
+            hosts: Hosts::new(alloc),
             places: BTreeMap::new(alloc),
             mended: Vec::new(alloc),
             left_out: LeftOut::default(),
             gaps: BTreeMap::new(alloc),
+            latest: 0,
+            goes_back: false,
         }
     }
 
-    /// A packet of IPv4 whose segment is left out (RFC 791, 3.1).
+    /// A packet whose segment is left out.
     pub(crate) fn leave_out(&mut self, packet: &[u8]) -> Result<(), AllocError> {
-        if let (Some(src), Some(dst)) = (addr_at(packet, 12), addr_at(packet, 16)) {
-            self.gaps.insert(key_between(src, dst), ())?;
+        if let Some((src, dst)) = hosts_of(packet) {
+            let key = key_of(self.hosts.number(src)?, self.hosts.number(dst)?);
+            self.gaps.insert(key, ())?;
         }
         Ok(())
     }
 
     /// Whether each segment between the two addresses is there whole.
-    pub(crate) fn is_whole(&self, one: Addr, other: Addr) -> bool {
-        self.gaps.get(&key_between(one, other)).is_none()
+    pub(crate) fn is_whole(&self, one: Host, other: Host) -> bool {
+        match (self.hosts.find(one), self.hosts.find(other)) {
+            (Some(one), Some(other)) => self.gaps.get(&key_of(one, other)).is_none(),
+            _ => true,
+        }
     }
 
     /// The place of the connection that goes on with a segment, if there is one.
-    fn place_of(
+    fn known(
         &self,
         packet: Packet,
-        from: Side,
-        to: Side,
+        source: Place,
+        target: Place,
         opening: Option<Opening>,
     ) -> Option<usize> {
-        let place = self.places.get(&key_of(from, to)).copied()?;
+        let place = self.places.get(&key_of(source, target)).copied()?;
         let connection = self.list.get(place)?;
         match opening {
-            Some(syn) if connection.is_left_by(packet, from, syn) => None,
+            Some(syn) if connection.is_left_by(packet, source, syn) => None,
             _ => Some(place),
         }
     }
 
-    /// The place of a segment's connection, which a segment with a right checksum begins where there is none.
-    fn place(
+    /// Begins a connection, and returns its place.
+    fn begin(
         &mut self,
         alloc: Global,
         packet: Packet,
-        from: Side,
-        to: Side,
-        opening: Option<Opening>,
+        way: Way,
+        bytes: &[u8],
     ) -> Result<usize, AllocError> {
-        if let Some(place) = self.place_of(packet, from, to, opening) {
-            return Ok(place);
-        }
+        let from = Side {
+            host: self.hosts.host(way.source),
+            port: field_at(bytes, 0),
+        };
+        let to = Side {
+            host: self.hosts.host(way.target),
+            port: field_at(bytes, 2),
+        };
+        let source = place_of(way.source, from.port);
+        let target = place_of(way.target, to.port);
         let place = self.list.len();
-        self.list.push(Connection::new(alloc, packet, from, to))?;
-        self.places.insert(key_of(from, to), place)?;
+        self.list
+            .push(Connection::new(alloc, packet, source, from, to))?;
+        self.places.insert(key_of(source, target), place)?;
         Ok(place)
     }
 
-    /// Takes a segment from one address to another. Only one with a right checksum, or with one that was left to a device,
-    /// begins a connection.
+    /// Takes a segment over IPv4.
     pub(crate) fn take(
         &mut self,
         alloc: Global,
@@ -264,29 +312,64 @@ impl Connections {
         dst: Addr,
         bytes: &[u8],
     ) -> Result<(), AllocError> {
-        let sum = sum_of(src, dst, bytes);
-        let from = Side {
-            addr: src,
-            port: field_at(bytes, 0),
+        let way = Way {
+            source: number_of(src),
+            target: number_of(dst),
+            src,
+            dst,
         };
-        let to = Side {
-            addr: dst,
-            port: field_at(bytes, 2),
+        self.take_on(alloc, packet, way, bytes)
+    }
+
+    /// Takes a segment over IPv6.
+    pub(crate) fn take6(
+        &mut self,
+        alloc: Global,
+        packet: Packet,
+        src: [u8; 16],
+        dst: [u8; 16],
+        bytes: &[u8],
+    ) -> Result<(), AllocError> {
+        let way = Way {
+            source: self.hosts.number(Host::V6(src))?,
+            target: self.hosts.number(Host::V6(dst))?,
+            src: stand_in(src),
+            dst: stand_in(dst),
         };
-        if sum == Sum::Wrong && self.place_of(packet, from, to, None).is_none() {
-            self.left_out.strays = self.left_out.strays.saturating_add(1);
-            return Ok(());
-        }
+        self.take_on(alloc, packet, way, bytes)
+    }
+
+    /// Takes a segment from one address to another. Only one with a right checksum, or with one that was left to a device,
+    /// begins a connection.
+    fn take_on(
+        &mut self,
+        alloc: Global,
+        packet: Packet,
+        way: Way,
+        bytes: &[u8],
+    ) -> Result<(), AllocError> {
+        self.goes_back = self.goes_back || packet.time < self.latest;
+        self.latest = self.latest.max(packet.time);
+        let sum = sum_of(way.src, way.dst, bytes);
         let is_right = sum != Sum::Wrong;
         let opening = if is_right { opening_of(bytes) } else { None };
-        let place = self.place(alloc, packet, from, to, opening)?;
+        let source = place_of(way.source, field_at(bytes, 0));
+        let target = place_of(way.target, field_at(bytes, 2));
+        let place = match self.known(packet, source, target, opening) {
+            Some(place) => place,
+            None if is_right => self.begin(alloc, packet, way, bytes)?,
+            None => {
+                self.left_out.strays = self.left_out.strays.saturating_add(1);
+                return Ok(());
+            }
+        };
         let Some(connection) = self.list.get_mut(place) else {
             return Ok(());
         };
         if sum == Sum::LeftToDevice {
-            mend(&mut self.mended, src, dst, bytes)?;
-            return connection.take(packet, from, to, &self.mended, is_right);
+            mend(&mut self.mended, way.src, way.dst, bytes)?;
+            return connection.take(packet, source, &self.mended, is_right);
         }
-        connection.take(packet, from, to, bytes, is_right)
+        connection.take(packet, source, bytes, is_right)
     }
 }

@@ -26,14 +26,11 @@ pub(crate) enum Fault {
     #[error("45 no segment that the end sent")]
     NothingSent,
     /// The capture has no segment that could be judged.
-    #[error("45 no segment of TCP over IPv4 that is whole")]
+    #[error("45 no segment of TCP over IPv4 or IPv6 that is whole")]
     NothingJudged,
     /// The capture ends in a record that is cut short, or damaged: what is before it was judged.
     #[error("46 the capture is cut short or damaged")]
     CutCapture,
-    /// The capture is in the pcapng form.
-    #[error("47 a capture in the pcapng form: 'editcap -F pcap' makes one in the pcap form")]
-    NextGeneration,
     /// Whether a capture is complete isn't the caller's word.
     #[error("48 --complete is of logs; of a capture --at names the end where it was taken")]
     CompleteCapture,

@@ -1,7 +1,9 @@
-//! A capture's report as JSON, a line for each finding, each end and the capture.
+//! A capture's report as JSON, a line for each finding, each note, each end and the capture.
 use crate::capture::Capture;
-use crate::judged_end::{Broken, JudgedEnd, counts};
-use crate::telling::{Verdict, relative_number};
+use crate::end_report::relative_number;
+use crate::judged_end::{Broken, JudgedEnd, Note, counts};
+use crate::notes::KINDS;
+use crate::telling::Verdict;
 use kit_judge::push_rule;
 use std::alloc::AllocError;
 use tcp_judge::Finding;
@@ -17,6 +19,12 @@ fn name_of(finding: Finding) -> &'static str {
         Finding::BeforeFirst(_) => "BeforeFirst",
         Finding::OtherByte(_) => "OtherByte",
         Finding::BeyondFin(_, _) => "BeyondFin",
+        Finding::BeforeAck(_) => "BeforeAck",
+        Finding::AfterReset(_) => "AfterReset",
+        Finding::Gap(_) => "Gap",
+        Finding::BehindNext(_) => "BehindNext",
+        Finding::BeyondWindow(_) => "BeyondWindow",
+        Finding::StrayReset(_) => "StrayReset",
         Finding::AckBeyond(_) => "AckBeyond",
         Finding::AckBack(_, _) => "AckBack",
         Finding::Unoffered => "Unoffered",
@@ -25,7 +33,7 @@ fn name_of(finding: Finding) -> &'static str {
     }
 }
 
-/// Appends a time as seconds from 1970 on, with six digits behind the point: the most that a reader of JSON keeps.
+/// Appends a time as seconds, with six digits behind the point: the most that a reader of JSON keeps of one from 1970 on.
 fn push_time(text: &mut String, nanoseconds: u64) -> Result<(), AllocError> {
     let seconds = nanoseconds / 1_000_000_000;
     let micros = nanoseconds % 1_000_000_000 / 1000;
@@ -87,6 +95,40 @@ pub(crate) fn push_findings(
     Ok(findings)
 }
 
+/// Appends what was counted of an end, and its round trips.
+pub(crate) fn push_notes(
+    text: &mut String,
+    connection: usize,
+    end: &JudgedEnd,
+    peer: &JudgedEnd,
+) -> Result<(), AllocError> {
+    let notes = &end.flow.notes;
+    for kind in KINDS {
+        let Note { count, first } = notes.of(kind);
+        let name = kind.name();
+        if count > 0 {
+            push_start(text, "note", connection, end, peer)?;
+            write!(
+                text,
+                ",\"name\":\"{name}\",\"count\":{count},\"first\":{first}}}\n"
+            )?;
+        }
+    }
+    let trips = notes.trips;
+    let count = trips.count;
+    if count == 0 {
+        return Ok(());
+    }
+    push_start(text, "round_trips", connection, end, peer)?;
+    write!(text, ",\"count\":{count},\"least\":")?;
+    push_time(text, trips.least)?;
+    text.push_str(",\"mean\":")?;
+    push_time(text, trips.mean())?;
+    text.push_str(",\"greatest\":")?;
+    push_time(text, trips.greatest)?;
+    text.push_str("}\n")
+}
+
 /// What is said of an end: that nothing was judged, that it breaks a rule, or that it breaks none.
 fn verdict_of(end: &JudgedEnd, findings: usize) -> &'static str {
     if end.segments == 0 {
@@ -128,6 +170,7 @@ pub(crate) fn push_capture(
     let packets = capture.packets;
     let connections = capture.connections.list.len();
     let is_cut = capture.is_cut;
+    let is_lossy = capture.is_lossy;
     let left_out = capture.connections.left_out;
     let others = left_out.others;
     let fragments = left_out.fragments;
@@ -138,7 +181,7 @@ pub(crate) fn push_capture(
     let complete = verdict.complete;
     write!(
         text,
-        "{{\"kind\":\"capture\",\"packets\":{packets},\"connections\":{connections},\"is_cut\":{is_cut}"
+        "{{\"kind\":\"capture\",\"packets\":{packets},\"connections\":{connections},\"is_cut\":{is_cut},\"is_lossy\":{is_lossy}"
     )?;
     write!(
         text,

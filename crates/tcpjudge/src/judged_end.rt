@@ -1,6 +1,7 @@
 //! One end of a connection: its judge, and what is found of it.
+use crate::flow::Flow;
 use crate::side::Side;
-use kit_judge::{is_against_came, is_damage, rule_of};
+use kit_judge::{is_damage, rule_of, wants_whole_log};
 use std::alloc::{AllocError, Global};
 use tcp_judge::{Finding, Judge};
 use tcp_wire::{Addr, RawSegment, Seq};
@@ -44,6 +45,8 @@ pub(crate) const NONE: Note = Note { count: 0, first: 0 };
 #[derive(Drop)]
 pub(crate) struct JudgedEnd {
     pub(crate) side: Side,
+    /// Its address in checksums.
+    pub(crate) addr: Addr,
     judge: Judge,
     /// The number of its first SYN, from which relative numbers count.
     pub(crate) initial: Option<Seq>,
@@ -57,6 +60,8 @@ pub(crate) struct JudgedEnd {
     /// Whether what it acknowledges can't be compared with what came: it acknowledged something before a SYN came to it or it
     /// sent one, so that what came before isn't in the capture.
     pub(crate) lacks_beginning: bool,
+    /// What it sent and acknowledged, with the notes.
+    pub(crate) flow: Flow,
 }
 
 /// Adds a finding to those of its rule.
@@ -83,6 +88,7 @@ impl JudgedEnd {
     pub(crate) fn new(alloc: Global, side: Side) -> Self {
         JudgedEnd {
             side,
+            addr: side.host.in_sums(),
             judge: Judge::new(alloc),
             initial: None,
             segments: 0,
@@ -90,6 +96,7 @@ impl JudgedEnd {
             broken: Vec::new(alloc),
             damaged: NONE,
             lacks_beginning: false,
+            flow: Flow::new(alloc),
         }
     }
 
@@ -106,18 +113,22 @@ impl JudgedEnd {
         }
     }
 
-    /// It sent a segment. `has_peer` says that a SYN came to it before.
+    /// It sent a segment to an end with this address and this flow. `has_peer` says that a SYN came to it before.
     pub(crate) fn went(
         &mut self,
         packet: Packet,
         dst: Addr,
         bytes: &[u8],
         has_peer: bool,
+        peer: &mut Flow,
     ) -> Result<(), AllocError> {
-        let src = self.side.addr;
+        let src = self.addr;
         self.segments = self.segments.saturating_add(1);
         if let Ok(segment) = RawSegment::parse(src, dst, bytes) {
             self.tell(&segment, has_peer);
+            if !segment.header.flags.is_rst() {
+                self.flow.went(peer, packet, &segment)?;
+            }
         }
         let Some(finding) = self.judge.went(src, dst, bytes)? else {
             return Ok(());
@@ -130,11 +141,25 @@ impl JudgedEnd {
 
     /// A segment came to it.
     pub(crate) fn came(&mut self, src: Addr, bytes: &[u8]) -> Result<(), AllocError> {
-        self.judge.came(src, self.side.addr, bytes)
+        self.judge.came(src, self.addr, bytes)
     }
 }
 
-/// Whether a finding counts, where all rules may be tried and where they mayn't.
+/// Whether it is of the order in which segments go.
+fn is_of_order(finding: Finding) -> bool {
+    matches!(
+        finding,
+        Finding::BeforeAck(_)
+            | Finding::AfterReset(_)
+            | Finding::Gap(_)
+            | Finding::BehindNext(_)
+            | Finding::BeyondWindow(_)
+            | Finding::StrayReset(_)
+    )
+}
+
+/// Whether a finding counts, where all rules may be tried and where they mayn't. One of order never does: the machine's
+/// own queue may have dropped a segment before it was captured, and a firewall may have sent a reset.
 pub(crate) fn counts(finding: Finding, is_complete: bool) -> bool {
-    is_complete || (!is_against_came(finding) && !is_damage(finding))
+    !is_of_order(finding) && (is_complete || (!wants_whole_log(finding) && !is_damage(finding)))
 }

@@ -6,16 +6,27 @@
 
 mod capture;
 mod connections;
+mod end_report;
 mod fault;
+mod flow;
 mod json;
 mod judged_end;
+mod notes;
+mod paint;
 mod program;
+mod progress;
 mod side;
 mod telling;
 mod words;
 
+use crate::program::Terminals;
+use std::io::IsTerminal;
 use std::process::ExitCode;
 
 fn main(rt: HostRuntime) -> ExitCode {
-    ExitCode::from(program::run(&rt))
+    let terminals = Terminals {
+        output: rt.stdout().is_terminal(),
+        errors: rt.stderr().is_terminal(),
+    };
+    ExitCode::from(program::run(&rt, terminals))
 }

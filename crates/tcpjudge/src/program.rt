@@ -1,16 +1,18 @@
 //! The program: its words, its file, and its exit status.
-use crate::capture::read_capture;
+use crate::capture::{Capture, read_capture, read_sections};
 use crate::fault::Fault;
+use crate::paint::{Paint, When};
+use crate::progress::Progress;
+use crate::side::Host;
 use crate::telling::report;
 use crate::words::{Job, read_words};
-use capture_form::Form;
+use capture_form::pcapng::is_section;
 use capture_window::{Window, open};
 use kit_io::{Counted, Input, read_all, write_all};
 use kit_judge::{Shown, judge_text};
 use std::fs::File;
 use std::rt::{Env, Files};
 use std::{env, io};
-use tcp_wire::Addr;
 
 const STANDARD_INPUT: &str = "/dev/stdin";
 
@@ -19,7 +21,7 @@ const HELP: &str = "tcpjudge [--complete] FILE
 
 Judges one end of a TCP connection by a log of what came to it and what it sent, in its order. A line is
 'came SOURCE DESTINATION HEX' or 'went SOURCE DESTINATION HEX'; FILE is - for the standard input.
---complete says that nothing that came is missing: only then rules are tried against what came.
+--complete says that no segment is missing: only then order, acknowledgements and blocks are judged.
 Prints the first finding of each rule with its line and section, and then the counts.
 Where something may be missing, wrong checksums are a note and no finding: they may be damage on the path.
 The status is 0 where no rule is broken, 1 where one is, and 2 where the words, the file or a line have a fault, or
@@ -28,19 +30,20 @@ where the log has no segment that the end sent.
 
 /// And of captures.
 const CAPTURE_HELP: &str = "
-tcpjudge [--at ADDRESS] [--json] FILE
+tcpjudge [--at ADDRESS] [--json] [--color WHEN] FILE
 
-Judges both ends of each connection of TCP over IPv4 in a capture in the pcap form, as tcpdump -w writes it.
---at names the IPv4 address of the machine where it was taken: at that end rules are tried against what came too, unless
-packets are cut short or the connection's beginning is missing.
-Prints for each end the first packet that breaks each rule, and how many do, and then what was judged.
---json prints the same as JSON, a line for each finding, each end, and last the capture.
+Judges both ends of each TCP connection in a capture in the pcap or pcapng form, as tcpdump and dumpcap write it, over
+IPv4 and IPv6.
+--at names the address of the machine where it was taken: at that end acknowledgements and blocks are judged too,
+unless packets are cut short, the capture shows that some are missing, or the connection's beginning is missing.
+Prints for each end the first packet that breaks each rule, and how many do; notes, which accuse nobody: what was sent
+again, lost, repeated or full, and the round trips; and then what was judged.
+--json prints the same as JSON, a line for each finding, each note, each end, and last the capture.
+--color WHEN is auto, always or never. auto, which is what holds without it, has colors where standard output is a
+terminal and NO_COLOR isn't set.
 The status is 0 where no rule is broken, 1 where one is, and 2 where the words or the file have a fault, where the
 capture is cut short or damaged, or where no end was judged.
 ";
-
-/// The first bytes of a capture in the pcapng form.
-const SECTION: [u8; 4] = [10, 13, 13, 10];
 
 /// No rule is broken.
 const CLEAN: u8 = 0;
@@ -50,6 +53,13 @@ const FOUND: u8 = 1;
 
 /// The words, the file or its text have a fault, or nothing was judged.
 const FAULT: u8 = 2;
+
+/// Which of the standard streams are terminals.
+#[derive(Clone, Copy)]
+pub(crate) struct Terminals {
+    pub(crate) output: bool,
+    pub(crate) errors: bool,
+}
 
 /// The program's words, its name first.
 fn words(rt: &(impl Env + AllocGlobal)) -> Result<Vec<String>, Fault> {
@@ -74,8 +84,9 @@ fn write_text(rt: &impl Print, text: &str) -> Result<(), Fault> {
 #[derive(Clone, Copy)]
 struct Wanted {
     is_complete: bool,
-    at: Option<Addr>,
+    at: Option<Host>,
     is_json: bool,
+    color: When,
 }
 
 /// Judges a log, of which the window has the first bytes.
@@ -100,19 +111,30 @@ fn judge_log<I: Input>(
     Ok(report.is_clean)
 }
 
-/// Judges a capture of this form.
-fn judge_capture<I: Input>(
-    rt: &(impl Print + AllocGlobal),
-    form: Form,
-    input: &mut I,
-    window: &mut Window,
-    wanted: &Wanted,
-) -> Result<bool, Fault> {
-    if wanted.is_complete {
-        return Err(Fault::CompleteCapture);
+/// Whether the report has colors. NO_COLOR counts where it has a value.
+fn is_painted(rt: &(impl Env + AllocGlobal), color: When, terminals: Terminals) -> bool {
+    match color {
+        When::Always => true,
+        When::Never => false,
+        When::Auto if !terminals.output => false,
+        When::Auto => match env::var(rt, "NO_COLOR") {
+            Ok(value) => value.is_empty(),
+            Err(_) => true,
+        },
     }
-    let capture = read_capture(rt.alloc(), form, input, window)?;
-    let (text, verdict) = report(rt.alloc(), &capture, wanted.at, wanted.is_json)?;
+}
+
+/// Writes what is found in a capture.
+fn tell_capture(
+    rt: &(impl Env + Print + AllocGlobal),
+    capture: &Capture,
+    wanted: &Wanted,
+    terminals: Terminals,
+) -> Result<bool, Fault> {
+    let paint = Paint {
+        is_on: is_painted(rt, wanted.color, terminals),
+    };
+    let (text, verdict) = report(rt.alloc(), capture, wanted.at, wanted.is_json, paint)?;
     write_text(rt, &text)?;
     if capture.is_cut {
         return Err(Fault::CutCapture);
@@ -125,9 +147,10 @@ fn judge_capture<I: Input>(
 
 /// Judges a file, or the standard input where its name is `-`, as what it is.
 fn judge_file(
-    rt: &(impl Files + Print + AllocGlobal),
+    rt: &(impl Env + Files + Print + Eprint + AllocGlobal),
     path: &str,
     wanted: &Wanted,
+    terminals: Terminals,
 ) -> Result<bool, Fault> {
     let path = if path == "-" { STANDARD_INPUT } else { path };
     let Ok(file) = File::open(rt, path) else {
@@ -135,15 +158,27 @@ fn judge_file(
     };
     let mut input = Counted::new(file);
     let mut window = Window::new(rt.alloc());
-    match open(&mut input, &mut window)? {
-        Some(form) => judge_capture(rt, form, &mut input, &mut window, wanted),
-        None if window.bytes().starts_with(&SECTION) => Err(Fault::NextGeneration),
-        None => judge_log(rt, &mut input, &window, wanted),
+    let form = open(&mut input, &mut window)?;
+    if form.is_none() && !is_section(window.bytes()) {
+        return judge_log(rt, &mut input, &window, wanted);
     }
+    if wanted.is_complete {
+        return Err(Fault::CompleteCapture);
+    }
+    let progress = Progress::new(rt, terminals.errors);
+    let capture = match form {
+        Some(form) => read_capture(rt.alloc(), form, &mut input, &mut window, &progress)?,
+        None => read_sections(rt.alloc(), &mut input, &mut window, &progress)?,
+    };
+    progress.end(capture.packets);
+    tell_capture(rt, &capture, wanted, terminals)
 }
 
 /// Does the job, and returns whether no rule is broken.
-fn work(rt: &(impl Env + Files + Print + AllocGlobal)) -> Result<bool, Fault> {
+fn work(
+    rt: &(impl Env + Files + Print + Eprint + AllocGlobal),
+    terminals: Terminals,
+) -> Result<bool, Fault> {
     let words = words(rt)?;
     match read_words(rt.alloc(), words)? {
         Job::Help => {
@@ -156,20 +191,25 @@ fn work(rt: &(impl Env + Files + Print + AllocGlobal)) -> Result<bool, Fault> {
             is_complete,
             at,
             is_json,
+            color,
         } => {
             let wanted = Wanted {
                 is_complete,
                 at,
                 is_json,
+                color,
             };
-            judge_file(rt, &path, &wanted)
+            judge_file(rt, &path, &wanted, terminals)
         }
     }
 }
 
 /// Does what the words request, and returns the exit status. A fault is reported by one line on standard error.
-pub(crate) fn run(rt: &(impl Env + Files + Print + Eprint + AllocGlobal)) -> u8 {
-    match work(rt) {
+pub(crate) fn run(
+    rt: &(impl Env + Files + Print + Eprint + AllocGlobal),
+    terminals: Terminals,
+) -> u8 {
+    match work(rt, terminals) {
         Ok(true) => CLEAN,
         Ok(false) => FOUND,
         Err(fault) => {

@@ -1,49 +1,120 @@
 //! One side of a connection.
+use capture_form::stand_in;
+use std::alloc::{AllocError, Global};
+use std::collections::BTreeMap;
 use std::fmt;
+use std::net::Ipv6Addr;
 use tcp_wire::Addr;
+
+/// The address of a machine.
+#[derive(Clone, Copy, Debug, PartialEq, Eq)]
+pub(crate) enum Host {
+    V4(Addr),
+    V6([u8; 16]),
+}
+
+impl Host {
+    /// The address of IPv4 with which a checksum is right: where this is one of IPv6, one that stands in for it.
+    pub(crate) fn in_sums(self) -> Addr {
+        match self {
+            Host::V4(addr) => addr,
+            Host::V6(bytes) => stand_in(bytes),
+        }
+    }
+}
 
 /// The address and the port of an end.
 #[derive(Clone, Copy, PartialEq, Eq)]
 pub(crate) struct Side {
-    pub(crate) addr: Addr,
+    pub(crate) host: Host,
     pub(crate) port: u16,
 }
 
-impl Side {
-    /// Both as one number.
-    fn number(self) -> u64 {
-        u64::from(u32::from_be_bytes(self.addr.0)) * 65_536 + u64::from(self.port)
+/// An address of IPv6 is written as RFC 5952 has it, in brackets before a port.
+impl fmt::Display for Side {
+    fn fmt<W: fmt::Write>(&self, f: &mut fmt::Formatter<W>) -> fmt::Result {
+        let port = self.port;
+        match self.host {
+            Host::V4(addr) => write!(f, "{addr}:{port}"),
+            Host::V6(bytes) => {
+                let addr = Ipv6Addr::from_octets(bytes);
+                write!(f, "[{addr}]:{port}")
+            }
+        }
     }
 }
 
-impl fmt::Display for Side {
-    fn fmt<W: fmt::Write>(&self, f: &mut fmt::Formatter<W>) -> fmt::Result {
-        let addr = self.addr;
-        let port = self.port;
-        write!(f, "{addr}:{port}")
-    }
+/// A side as a number: that of its address, and behind it the port.
+pub(crate) type Place = u64;
+
+/// No address has a number of 2^48 or more: memory ends before.
+pub(crate) fn place_of(number: u64, port: u16) -> Place {
+    (number % (1 << 48)) * 65_536 + u64::from(port)
 }
 
 /// A connection by its two sides, or two addresses, whichever comes first.
 pub(crate) type Key = (u64, u64);
 
-pub(crate) fn key_of(one: Side, other: Side) -> Key {
-    let first = one.number();
-    let second = other.number();
-    if first < second {
-        (first, second)
+pub(crate) fn key_of(one: u64, other: u64) -> Key {
+    if one < other {
+        (one, other)
     } else {
-        (second, first)
+        (other, one)
     }
 }
 
-/// The key of two addresses, whatever the ports.
-pub(crate) fn key_between(one: Addr, other: Addr) -> Key {
-    key_of(
-        Side { addr: one, port: 0 },
-        Side {
-            addr: other,
-            port: 0,
-        },
-    )
+/// The addresses of IPv6 of a capture, each with its number, so that a connection is looked for by numbers. That of an
+/// address of IPv4 is the address itself.
+#[derive(Drop)]
+pub(crate) struct Hosts {
+    numbers: BTreeMap<u128, u64>,
+    /// Each at its number's place.
+    addrs: Vec<[u8; 16]>,
+}
+
+/// The number of the first address of IPv6.
+const FIRST: u64 = 1 << 32;
+
+/// The number of an address of IPv4.
+pub(crate) fn number_of(addr: Addr) -> u64 {
+    u64::from(u32::from_be_bytes(addr.0))
+}
+
+impl Hosts {
+    pub(crate) fn new(alloc: Global) -> Self {
+        Hosts {
+            numbers: BTreeMap::new(alloc),
+            addrs: Vec::new(alloc),
+        }
+    }
+
+    /// The number of an address, if it has one.
+    pub(crate) fn find(&self, host: Host) -> Option<u64> {
+        match host {
+            Host::V4(addr) => Some(number_of(addr)),
+            Host::V6(bytes) => self.numbers.get(&u128::from_be_bytes(bytes)).copied(),
+        }
+    }
+
+    /// The number of an address, which may be a new one.
+    pub(crate) fn number(&mut self, host: Host) -> Result<u64, AllocError> {
+        if let Some(number) = self.find(host) {
+            return Ok(number);
+        }
+        let number = FIRST.saturating_add(self.addrs.len() as u64);
+        if let Host::V6(bytes) = host {
+            self.addrs.push(bytes)?;
+            self.numbers.insert(u128::from_be_bytes(bytes), number)?;
+        }
+        Ok(number)
+    }
+
+    /// The address with a number.
+    pub(crate) fn host(&self, number: u64) -> Host {
+        let place = number.saturating_sub(FIRST);
+        match self.addrs.get(place as usize) {
+            Some(bytes) if number >= FIRST => Host::V6(*bytes),
+            _ => Host::V4(Addr(((number % FIRST) as u32).to_be_bytes())),
+        }
+    }
 }

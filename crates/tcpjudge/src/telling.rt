@@ -1,12 +1,12 @@
 //! A capture's report.
 use crate::capture::Capture;
 use crate::connections::{Connection, Connections, LeftOut};
+use crate::end_report::{push_end, push_found, push_notes, push_seconds};
 use crate::json;
-use crate::judged_end::{Broken, JudgedEnd, counts};
-use kit_judge::push_rule;
+use crate::judged_end::JudgedEnd;
+use crate::paint::Paint;
+use crate::side::Host;
 use std::alloc::{AllocError, Global};
-use tcp_judge::Finding;
-use tcp_wire::{Addr, Seq};
 
 /// What was tried, and what was found.
 #[derive(Clone, Copy, Default)]
@@ -23,12 +23,20 @@ pub(crate) struct Verdict {
 }
 
 /// Why no end has all rules tried on it, if the capture as a whole is the reason.
-fn lack_of(capture: &Capture, at: Option<Addr>) -> Option<&'static str> {
+fn lack_of(capture: &Capture, at: Option<Host>) -> Option<&'static str> {
     if at.is_none() {
         return Some("--at ADDRESS names the end where the capture was taken");
     }
     if capture.is_cut {
         return Some("the capture's last record is cut short or damaged");
+    }
+    if capture.is_lossy {
+        return Some(
+            "packets were dropped when the capture was taken, or are in obsolete packet blocks",
+        );
+    }
+    if capture.connections.goes_back {
+        return Some("segments aren't in the order of their times");
     }
     None
 }
@@ -41,107 +49,6 @@ fn gap_of(verdict: Verdict) -> Option<&'static str> {
     None
 }
 
-/// How far a number is ahead of an initial one, or below 0 where that is nearer: a stream of more than 2^31 bytes is told
-/// from a number before the initial one by nothing but its length.
-fn ahead_of(number: Seq, initial: Seq, text: u64) -> i64 {
-    let ahead = i64::from(number.minus(initial));
-    if ahead < 1 << 31 || text >= 1 << 31 {
-        return ahead;
-    }
-    ahead - (1 << 32)
-}
-
-/// The number by which a finding shows the rule broken, counted from the initial number of the stream that it is of.
-pub(crate) fn relative_number(finding: Finding, own: &JudgedEnd, peer: &JudgedEnd) -> Option<i64> {
-    match finding {
-        Finding::BeforeFirst(number) => Some(ahead_of(number, own.initial?, 0)),
-        Finding::OtherByte(number) => Some(ahead_of(number, own.initial?, own.text)),
-        Finding::AckBeyond(number)
-        | Finding::AckBack(number, _)
-        | Finding::BlockBeyond(number, _) => Some(ahead_of(number, peer.initial?, peer.text)),
-        _ => None,
-    }
-}
-
-fn push_seconds(text: &mut String, nanoseconds: u64) -> Result<(), AllocError> {
-    let seconds = nanoseconds / 1_000_000_000;
-    let micros = nanoseconds % 1_000_000_000 / 1000;
-    write!(text, "{seconds}.{micros:06} s")
-}
-
-fn push_broken(
-    text: &mut String,
-    broken: &Broken,
-    begin: u64,
-    relative: Option<i64>,
-) -> Result<(), AllocError> {
-    let number = broken.packet.number;
-    write!(text, "      packet {number}, ")?;
-    push_seconds(text, broken.packet.time.saturating_sub(begin))?;
-    text.push_str(": ")?;
-    push_rule(text, broken.finding)?;
-    if let Some(relative) = relative {
-        write!(text, " [relative number {relative}]")?;
-    }
-    if broken.count > 1 {
-        let more = broken.count - 1;
-        write!(text, ", and {more} more like it")?;
-    }
-    text.push_str("\n")
-}
-
-/// Appends what was found at an end.
-fn push_found(
-    text: &mut String,
-    end: &JudgedEnd,
-    peer: &JudgedEnd,
-    begin: u64,
-    is_complete: bool,
-) -> Result<usize, AllocError> {
-    let mut findings = 0usize;
-    for broken in end.broken.iter() {
-        if counts(broken.finding, is_complete) {
-            findings = findings.saturating_add(broken.count);
-            let relative = relative_number(broken.finding, end, peer);
-            push_broken(text, broken, begin, relative)?;
-        }
-    }
-    if !is_complete && end.damaged.count > 0 {
-        let count = end.damaged.count;
-        let first = end.damaged.first;
-        write!(
-            text,
-            "      note: wrong checksums: {count}, the first in packet {first} (RFC 9293, 3.1)\n"
-        )?;
-    }
-    Ok(findings)
-}
-
-fn push_end(
-    text: &mut String,
-    end: &JudgedEnd,
-    findings: usize,
-    is_complete: bool,
-) -> Result<(), AllocError> {
-    let side = end.side;
-    if end.segments == 0 {
-        return write!(text, "   {side}: sent nothing, nothing judged\n");
-    }
-    let tried = if is_complete {
-        "all rules"
-    } else {
-        "form and positions alone"
-    };
-    let segments = end.segments;
-    let bytes = end.text;
-    if findings == 0 {
-        write!(text, "   {side}: clean ({tried})")?;
-    } else {
-        write!(text, "   {side}: findings {findings} ({tried})")?;
-    }
-    write!(text, ", {segments} segments, {bytes} bytes of text\n")
-}
-
 /// Where an end is in the report, and what is known of the capture there.
 #[derive(Clone, Copy)]
 struct Place {
@@ -152,6 +59,7 @@ struct Place {
     is_here: bool,
     is_whole: bool,
     is_json: bool,
+    paint: Paint,
 }
 
 /// Appends an end with its findings, and returns how many packets break a rule.
@@ -166,13 +74,15 @@ fn push_judged(
     let connection = place.connection;
     if place.is_json {
         let findings = json::push_findings(text, connection, end, peer, is_complete)?;
+        json::push_notes(text, connection, end, peer)?;
         json::push_end(text, connection, end, peer, findings, is_complete)?;
         return Ok(findings);
     }
     let mut lines = String::new(alloc);
-    let findings = push_found(&mut lines, end, peer, place.begin, is_complete)?;
-    push_end(text, end, findings, is_complete)?;
+    let findings = push_found(&mut lines, end, peer, place.begin, is_complete, place.paint)?;
+    push_end(text, end, findings, is_complete, place.paint)?;
     text.push_str(&lines)?;
+    push_notes(text, end, place.paint)?;
     Ok(findings)
 }
 
@@ -230,7 +140,7 @@ fn push_left_out(text: &mut String, left_out: LeftOut) -> Result<(), AllocError>
         strays,
     } = left_out;
     if others > 0 {
-        write!(text, "left out: packets without TCP over IPv4: {others}\n")?;
+        write!(text, "left out: packets without TCP: {others}\n")?;
     }
     if fragments > 0 {
         write!(text, "left out: fragments: {fragments}\n")?;
@@ -287,16 +197,16 @@ fn tell_connection(
     text: &mut String,
     verdict: &mut Verdict,
     connection: &Connection,
-    at: Option<Addr>,
+    at: Option<Host>,
     place: Place,
 ) -> Result<(), AllocError> {
     let first = &connection.first;
     let second = &connection.second;
     let mut one = place;
-    one.is_here = at == Some(first.side.addr);
+    one.is_here = at == Some(first.side.host);
     tell_end(alloc, text, verdict, first, second, one)?;
     let mut other = place;
-    other.is_here = at == Some(second.side.addr);
+    other.is_here = at == Some(second.side.host);
     tell_end(alloc, text, verdict, second, first, other)
 }
 
@@ -305,8 +215,9 @@ fn tell_connections(
     alloc: Global,
     text: &mut String,
     connections: &Connections,
-    at: Option<Addr>,
+    at: Option<Host>,
     is_json: bool,
+    paint: Paint,
 ) -> Result<Verdict, AllocError> {
     let mut verdict = Verdict::default();
     let mut number = 0usize;
@@ -315,14 +226,15 @@ fn tell_connections(
         if !is_json {
             push_connection(text, number, connection)?;
         }
-        let one = connection.first.side.addr;
-        let other = connection.second.side.addr;
+        let one = connection.first.side.host;
+        let other = connection.second.side.host;
         let place = Place {
             connection: number,
             begin: connection.begin.time,
             is_here: false,
             is_whole: connections.is_whole(one, other),
             is_json,
+            paint,
         };
         tell_connection(alloc, text, &mut verdict, connection, at, place)?;
     }
@@ -341,19 +253,28 @@ fn push_head(text: &mut String, capture: &Capture) -> Result<(), AllocError> {
             "the capture ends in a record that is cut short or damaged, behind packet {packets}\n"
         )?;
     }
-    if count == 0 {
-        let link = capture.link;
-        write!(text, "no segment of TCP over IPv4 (link type {link})\n")?;
+    if capture.is_lossy {
+        text.push_str(
+            "packets are missing: dropped when the capture was taken, or in obsolete packet blocks, which aren't read\n",
+        )?;
     }
-    Ok(())
+    if count > 0 {
+        return Ok(());
+    }
+    text.push_str("no segment of TCP over IPv4 or IPv6")?;
+    if let Some(link) = capture.link {
+        write!(text, " (link type {link})")?;
+    }
+    text.push_str("\n")
 }
 
 /// The report of a capture, taken at this address, and its verdict; as JSON, a line each, where that is wanted.
 pub(crate) fn report(
     alloc: Global,
     capture: &Capture,
-    at: Option<Addr>,
+    at: Option<Host>,
     is_json: bool,
+    paint: Paint,
 ) -> Result<(String, Verdict), AllocError> {
     let mut text = String::new(alloc);
     if !is_json {
@@ -361,7 +282,14 @@ pub(crate) fn report(
     }
     let lack = lack_of(capture, at);
     let place = if lack.is_none() { at } else { None };
-    let verdict = tell_connections(alloc, &mut text, &capture.connections, place, is_json)?;
+    let verdict = tell_connections(
+        alloc,
+        &mut text,
+        &capture.connections,
+        place,
+        is_json,
+        paint,
+    )?;
     if is_json {
         json::push_capture(&mut text, capture, verdict)?;
         return Ok((text, verdict));

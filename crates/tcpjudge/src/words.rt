@@ -1,10 +1,12 @@
 //! The program's words.
 use crate::fault::Fault;
+use crate::paint::When;
+use crate::side::Host;
 use clap::error::ErrorKind;
 use clap::{Arg, ArgAction, ArgMatches, Command, Error as ParseError};
 use kit_text::read_addr;
 use std::alloc::{AllocError, Global};
-use tcp_wire::Addr;
+use std::net::Ipv6Addr;
 
 /// The job that the words request.
 #[derive(Debug, Drop)]
@@ -15,11 +17,13 @@ pub(crate) enum Job {
     Judge {
         /// Its path, or `-`.
         path: String,
-        /// Of a log: whether nothing that came is missing in it.
+        /// Of a log: whether no segment is missing in it.
         is_complete: bool,
         /// Of a capture: the address of the end where it was taken, and whether the report is to be JSON.
-        at: Option<Addr>,
+        at: Option<Host>,
         is_json: bool,
+        /// Of a capture: when the report has colors.
+        color: When,
     },
 }
 
@@ -28,6 +32,8 @@ const COMPLETE: &str = "complete";
 const AT: &str = "at";
 
 const JSON: &str = "json";
+
+const COLOR: &str = "color";
 
 /// One form, with one file.
 fn form<'a>(alloc: Global) -> Result<Command<'a>, AllocError> {
@@ -42,11 +48,16 @@ fn form<'a>(alloc: Global) -> Result<Command<'a>, AllocError> {
         .value_name("ADDRESS")
         .action(ArgAction::Set);
     let json = Arg::new(alloc, JSON).long(JSON).action(ArgAction::SetTrue);
+    let color = Arg::new(alloc, COLOR)
+        .long(COLOR)
+        .value_name("WHEN")
+        .action(ArgAction::Set);
     Command::new(alloc, "tcpjudge")
         .arg(file)?
         .arg(complete)?
         .arg(at)?
-        .arg(json)
+        .arg(json)?
+        .arg(color)
 }
 
 /// What a refusal by clap means.
@@ -59,13 +70,26 @@ fn refused(error: &ParseError) -> Result<Job, Fault> {
 }
 
 /// The address of the end where a capture was taken, if the words name one.
-fn place_of(matches: &ArgMatches) -> Result<Option<Addr>, Fault> {
+fn place_of(matches: &ArgMatches) -> Result<Option<Host>, Fault> {
     let Some(word) = matches.get_str(AT) else {
         return Ok(None);
     };
-    match read_addr(word.as_bytes()) {
-        Some(addr) => Ok(Some(addr)),
-        None => Err(Fault::BadWords),
+    if let Some(addr) = read_addr(word.as_bytes()) {
+        return Ok(Some(Host::V4(addr)));
+    }
+    match Ipv6Addr::parse_ascii(word.as_bytes()) {
+        Ok(addr) => Ok(Some(Host::V6(addr.octets()))),
+        Err(_) => Err(Fault::BadWords),
+    }
+}
+
+/// When the report has colors.
+fn color_of(matches: &ArgMatches) -> Result<When, Fault> {
+    match matches.get_str(COLOR) {
+        None | Some("auto") => Ok(When::Auto),
+        Some("always") => Ok(When::Always),
+        Some("never") => Ok(When::Never),
+        Some(_) => Err(Fault::BadWords),
     }
 }
 
@@ -73,6 +97,7 @@ fn job_of(alloc: Global, matches: &ArgMatches) -> Result<Job, Fault> {
     let is_complete = matches.get_flag(COMPLETE);
     let at = place_of(matches)?;
     let is_json = matches.get_flag(JSON);
+    let color = color_of(matches)?;
     let Some(file) = matches.get_str("FILE") else {
         return Err(Fault::BadWords);
     };
@@ -82,6 +107,7 @@ fn job_of(alloc: Global, matches: &ArgMatches) -> Result<Job, Fault> {
             is_complete,
             at,
             is_json,
+            color,
         }),
         Err(_) => Err(Fault::NoMemory),
     }
