@@ -15,8 +15,8 @@
 enum { TRAINS_FRONT = TUN_HEADER + IP_HEADER, TRAINS_ROOM = TRAINS_FRONT + TCPCORE_TRAIN_ROOM };
 
 /*
- * Writes the front of a frame, from one address to another, whose segment tcpcore_emit_train has written at frame + TRAINS_FRONT and
- * reported: the device completes its checksum, and cuts it where it is several. Answers the frame's length.
+ * Writes the front of a frame, from one address to another, whose segment tcpcore_emit_train or tcpcore_connection_emit_train has written
+ * at frame + TRAINS_FRONT and reported: the device completes its checksum, and cuts it where it is several. Answers the frame's length.
  */
 size_t trains_write(uint8_t *frame, tcpcore_addr src, const struct tcpcore_train *train);
 

@@ -64,7 +64,7 @@ debian() {
         echo "libtcpcore.so.$abi libtcpcore$abi #MINVER#"
         awk '/^TCPCORE_[0-9]+ \{$/ { node = $1; print " " node "@" node " 0." substr(node, 9) }
              /^ *tcpcore_[a-z_]*;$/ { sub(";", "", $1); print " " $1 "@" node " 0." substr(node, 9) }' "$core/tcpcore.map"
-        sed -n 's/^__asm__("\.symver [a-z_]*, \(tcpcore_[a-z_]*@TCPCORE_\([0-9]*\)\)");$/ \1 0.\2/p' "$core/older_ends.c"
+        sed -n 's/^__asm__("\.symver [a-z0-9_]*, \(tcpcore_[a-z_]*@TCPCORE_\([0-9]*\)\)");$/ \1 0.\2/p' "$core/older_ends.c"
     } >"$place/debian/libtcpcore$abi.symbols"
 }
 

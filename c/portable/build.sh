@@ -32,11 +32,12 @@ else
     mkdir -p "$build"
     trap 'rm -rf "$build"' EXIT
     tar -C "$top" --exclude=out -cf - HANDLES "${folders[@]}" | tar -xf - -C "$build"
-    # The libraries that the gate has built are taken as they are, by their stamps; without them all is proved and built anew.
-    for folder in "${folders[@]}"; do
-        if [[ -d $top/$folder/out/rlib ]]; then
-            mkdir -p "$build/$folder/out"
-            cp -R "$top/$folder/out/rlib" "$build/$folder/out"
+    # The libraries that the gate has built are taken as they are, by their stamps, and of tcp_c what its proof for another machine has
+    # kept; without them all is proved and built anew.
+    for folder in "${folders[@]/%//out/rlib}" crates/tcp_c/out/incremental; do
+        if [[ -d $top/$folder ]]; then
+            mkdir -p "$build/${folder%/*}"
+            cp -R "$top/$folder" "$build/${folder%/*}"
         fi
     done
     grep -E "$lines" "$top/crates.txt" | sed 's/^tcp_c staticlib:/tcp_c wasm64:/' >"$build/crates.txt"

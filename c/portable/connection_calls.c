@@ -129,6 +129,18 @@ static uint32_t tcp_c_connection_emit(struct handle *handle, uint64_t now, uint6
     return answer;
 }
 
+static uint32_t tcp_c_connection_emit_train(struct handle *handle, uint64_t now, uint64_t window, uint8_t *out, size_t room, size_t most,
+                                            struct train *train)
+{
+    WITH_CONNECTION(handle);
+    see(&call, IN_WRITTEN, out, room);
+    carry_record(call.frame + AT_RECORD, train, OF_TRAIN);
+    uint32_t answer = w2c_tcp_c_connection_emit_train(M, AT_HANDLE, now, window, WINDOW(IN_WRITTEN), length_of(room), most, AT_RECORD);
+    carry_record(train, call.frame + AT_RECORD, OF_TRAIN);
+    END_OF_CONNECTION(handle);
+    return answer;
+}
+
 static uint32_t tcp_c_connection_send(struct handle *handle, uint64_t now, const uint8_t *text, size_t length, size_t *taken)
 {
     WITH_CONNECTION(handle);

@@ -1,7 +1,7 @@
 """Puts the portable file together: python3 join.py MODULE.c OUT [LIBRARIES OUT]
 
 MODULE.c is what wasm2c makes of crates/tcp_c, with 32-bit addresses. OUT has the text of c/tcpcore/tcpcore.c and layout.h, the
-memory of memory.c, wasm2c's functions and calls.c. Of wasm2c's file nothing but its functions is kept: what else it is taken to
+memory of memory.c, wasm2c's functions and the files of calls. Of wasm2c's file nothing but its functions is kept: what else it is taken to
 have is looked at, and anything unforeseen stops this script. No line of a function is changed but the words of RENAMED, and what
 quicker.py has made quicker. The second OUT is the same with the machine code of LIBRARIES/MACHINE/libtcp_c.a in it, which is taken where
 it fits (c/machine/choice.py).
@@ -207,7 +207,8 @@ def main():
     table = f"/* The module's constants, and where they lie. */\nenum {{ TABLE_AT = {at} }};\n#define TABLE_SIZE {size}\n"
     table += f"static const unsigned char TABLE[] = {{\n{constants}\n}};\n\n" if size > 0 else "\n"
     module = "/* THE MODULE: crates/tcp_c and those below it, function by function, as wasm2c has written them. */\n"
-    parts = [QUIET, table, (HERE / "memory.c").read_text(), own, module, declared, body, LOUD, *((HERE / name).read_text() for name in ("calls.c", "connection_calls.c"))]
+    calls = [(HERE / name).read_text() for name in ("calls.c", "time_wait_calls.c", "connection_calls.c")]
+    parts = [QUIET, table, (HERE / "memory.c").read_text(), own, module, declared, body, LOUD, *calls]
     text = "".join([head_of("tcpcore_portable.c", "as wasm2c has translated them from WebAssembly"), IN_C, layer(), *parts])
     pathlib.Path(sys.argv[2]).write_text(text)
     print(f"{sys.argv[2]}: {len(text.splitlines())} lines, {declared.count(';')} functions, {stack} bytes of the module's stack,"

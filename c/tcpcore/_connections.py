@@ -8,10 +8,10 @@ from typing import Optional
 
 from tcpcore._ends import Held, config_struct
 from tcpcore._library import (
-    EMIT_FIRST, REFUSALS, Answer, ArriveReportStruct, ConnectionRulesStruct, ConnectionSegmentStruct, EndStruct, Refused, address,
-    arrive_report_of, library, microseconds, number, octets, reach,
+    EMIT_FIRST, REFUSALS, Answer, ArriveReportStruct, ConnectionRulesStruct, ConnectionSegmentStruct, EndStruct, Refused, TrainStruct, address,
+    arrive_report_of, library, microseconds, number, octets, reach, train_of,
 )
-from tcpcore._records import EMIT_ROOM, NEVER, Address, ArriveReport, Buffer, Config, Emission, Rules, Timer
+from tcpcore._records import EMIT_ROOM, NEVER, TRAIN_ROOM, Address, ArriveReport, Buffer, Config, Emission, Rules, Timer, Train
 
 
 def limit(time: Optional[float]) -> int:
@@ -125,10 +125,13 @@ class Connection(Held):
         """The same, and what the segment is to the end."""
         return self.arrive(now, src, dst, data), arrive_report_of(self.reported)
 
+    def allowed(self) -> int:
+        """The window as the library has it."""
+        return NEVER if self.window is None else number("the window", self.window, 64)
+
     def written(self, time: int) -> Optional[tuple[Emission, bytes]]:
         """A segment that the library writes."""
-        window = NEVER if self.window is None else number("the window", self.window, 64)
-        if not self.finds("emit", time, window, self.segment, EMIT_ROOM, self.emitted):
+        if not self.finds("emit", time, self.allowed(), self.segment, EMIT_ROOM, self.emitted):
             return None
         told = self.emitted
         emission = Emission(bytes(told.to.byte), told.length, told.position, told.count)
@@ -151,6 +154,18 @@ class Connection(Held):
     def emit_all(self, now: float) -> list[tuple[bytes, bytes]]:
         """`emit` until nothing is due: the addresses and the bytes of the segments."""
         return list(iter(lambda: self.emit(now), None))
+
+    def emit_train(self, now: float, most: int) -> Optional[tuple[Train, bytes]]:
+        """Segments of new text as one, at most so many, and as many as end within `window`, for a device that cuts it and sums: what it is, and
+        its bytes, or None. Anything else goes alone. With 1 it is one segment for a device that sums. It is refused, as Answer.EMIT_FIRST, while
+        segments wait that `arrive` has emitted, which `emit` hands over."""
+        if self.first:
+            raise Refused(EMIT_FIRST)
+        told, whole = TrainStruct(), ctypes.create_string_buffer(TRAIN_ROOM)
+        most = number("the number of segments", most, 8 * ctypes.sizeof(ctypes.c_size_t))
+        if not self.finds("emit_train", microseconds(now), self.allowed(), whole, TRAIN_ROOM, most, told):
+            return None
+        return train_of(told), ctypes.string_at(whole, told.whole.length)
 
     def send(self, now: float, text: Buffer) -> int:
         """How many bytes were taken. Where it takes fewer, offer the others once `released` of the status has grown."""

@@ -9,7 +9,7 @@ from tcpcore import _library
 from tcpcore._library import (
     DONE, END, END_OF_STREAM, NOTHING, NOT_CONNECTED, NOT_TIME_WAIT, REFUSALS, AddrStruct, Answer, ArriveReportStruct, ConfigStruct,
     IntakeStruct, LentStruct, Refused, StatusStruct, TimeWaitStruct, TrainStruct, TransmitStruct, address, arrive_report_of,
-    found_by, library, number, octets, packed, reach, transmit_of,
+    found_by, library, number, octets, packed, reach, train_of, transmit_of,
 )
 from tcpcore._records import (
     EMIT_ROOM, ENDINGS, GUARD, PHASES, RESET_ROOM, STRUCT_ROOM, TIME_WAIT_ROOM, TRAIN_ROOM, Address, ArriveReport, Buffer, Config,
@@ -352,7 +352,7 @@ class End(Held):
         most = number("the number of segments", most, 8 * ctypes.sizeof(ctypes.c_size_t))
         if not self.finds("emit_train", whole, TRAIN_ROOM, most, told):
             return None
-        return Train(transmit_of(told.whole), told.header, told.each, told.segments), ctypes.string_at(whole, told.whole.length)
+        return train_of(told), ctypes.string_at(whole, told.whole.length)
 
     def emit_acknowledgement(self) -> Optional[tuple[bytes, bytes]]:
         """The acknowledgement that is pending, without data, whatever else is due, or None."""

@@ -10,7 +10,7 @@ import operator
 import os
 from typing import Any, Callable, Optional
 
-from tcpcore._records import LATEST, NO_GUARD, VERSION, Address, ArriveReport, Brought, Buffer, Kind, Rule, Transmit
+from tcpcore._records import LATEST, NO_GUARD, VERSION, Address, ArriveReport, Brought, Buffer, Kind, Rule, Train, Transmit
 
 
 class Answer(enum.IntEnum):
@@ -262,6 +262,7 @@ CALLS = {
     "connection_arrive": [END, TIME, AddrStruct, AddrStruct, ctypes.c_char_p, SIZE, ctypes.POINTER(ArriveReportStruct)],
     "connection_arrive_vouched": [END, TIME, AddrStruct, AddrStruct, ctypes.c_char_p, SIZE, ctypes.POINTER(ArriveReportStruct)],
     "connection_emit": [END, TIME, ctypes.c_uint64, ctypes.c_char_p, SIZE, ctypes.POINTER(ConnectionSegmentStruct)],
+    "connection_emit_train": [END, TIME, ctypes.c_uint64, ctypes.c_char_p, SIZE, SIZE, ctypes.POINTER(TrainStruct)],
     "connection_send": [END, TIME, ctypes.c_char_p, SIZE, OUT],
     "connection_receive": [END, TIME, ctypes.c_char_p, SIZE, OUT],
     "connection_peek": [END, ctypes.POINTER(LentStruct)],
@@ -289,6 +290,11 @@ def arrive_report_of(told: ArriveReportStruct) -> ArriveReport:
 def transmit_of(told: TransmitStruct) -> Transmit:
     """The named fields of the struct."""
     return Transmit(bytes(told.to.byte), Kind(told.kind), told.length, told.position, told.count)
+
+
+def train_of(told: TrainStruct) -> Train:
+    """The named fields of the struct."""
+    return Train(transmit_of(told.whole), told.header, told.each, told.segments)
 
 
 _loaded: dict[str, Callable[..., Any]] = {}

@@ -1,50 +1,112 @@
 /*
- * Of the shared library alone: ends for programs that were built with version 10 or before. Their configs have padding where `runs` is,
- * which may hold anything, and their blocks have what TCPCORE_MEMORY said then. An end had 16 runs, and so it has for them. Programs that
- * are built now call what tcpcore.map has in the node of version 11.
+ * Of the shared library alone: ends for programs that were built with an older version. Since version 14 a run takes 24 bytes of a block
+ * where it took 16, so that a block of TCPCORE_MEMORY_RUNS or TCPCORE_CONNECTION_MEMORY_RUNS, as those versions' header says, is too small
+ * for as many runs. An end that doesn't fit keeps as many as fit into what its tables took, about two thirds. Where a program asked for one
+ * or two, none fits, and the answer is TCPCORE_NO_MEMORY. A block of as many bytes as tcpcore_room tells takes all. Configs of version 10 and
+ * before have padding where `runs` is, which may hold anything: an end had 16 then, and has 11. Programs that are built now call what
+ * tcpcore.map has in the node of version 14.
  */
 #include "tcpcore.h"
 
-enum { RUNS = 16 };
+/* What an end takes beside its buffers and tables, with the bytes for a block of any alignment. */
+enum { BESIDE = 416 + 15 };
 
-/* What was TCPCORE_MEMORY of nothing. */
-_Static_assert(TCPCORE_MEMORY_RUNS(0, 0, RUNS) <= 704 + 15, "an end with as many runs fits into an older block");
+/* What the tables of such an end take, and what they took in version 10, and up to version 13 with so many runs. */
+#define TABLES(runs) (TCPCORE_MEMORY_RUNS(0, 0, runs) - BESIDE)
+#define TABLES_OF_10 ((size_t)704 + 15 - BESIDE)
+#define TABLES_OF_11(runs) (2 * TCPCORE_UNITS(8 * (size_t)(runs)))
 
-uint32_t older_new(tcpcore_end *end, const tcpcore_config *config, void *block, size_t length);
-uint32_t older_new_at(tcpcore_end **end, const tcpcore_config *config, void *block, size_t length);
-size_t older_room(const tcpcore_config *config);
-
-/* The config as it was meant. */
-static tcpcore_config older(const tcpcore_config *config)
+/* How many runs fit into tables of so many bytes. */
+static uint16_t fitting(size_t tables)
 {
-    tcpcore_config found = *config;
-    found.runs = RUNS;
+    size_t runs = tables / 24;
+    while (runs > 0 && TABLES(runs) > tables)
+        runs--;
+    return (uint16_t)runs;
+}
+
+/* The config of a program of version 10, as it was meant; NULL of NULL. */
+static const tcpcore_config *of_10(const tcpcore_config *config, tcpcore_config *found)
+{
+    if (!config)
+        return NULL;
+    *found = *config;
+    found->runs = fitting(TABLES_OF_10);
     return found;
 }
 
-__asm__(".symver older_new, tcpcore_new@TCPCORE_4");
-uint32_t older_new(tcpcore_end *end, const tcpcore_config *config, void *block, size_t length)
+/* The config of a program of the versions 11 to 13 whose end didn't fit with all its runs: with those that fit, or as it is where none
+   does. */
+static const tcpcore_config *of_11(const tcpcore_config *config, tcpcore_config *found)
 {
-    if (!config)
-        return tcpcore_new(end, NULL, block, length);
-    tcpcore_config found = older(config);
-    return tcpcore_new(end, &found, block, length);
+    uint16_t fit = fitting(TABLES_OF_11(config->runs == 0 ? TCPCORE_RUNS : config->runs));
+    *found = *config;
+    if (fit > 0)
+        found->runs = fit;
+    return found;
 }
 
-__asm__(".symver older_new_at, tcpcore_new_at@TCPCORE_6");
-uint32_t older_new_at(tcpcore_end **end, const tcpcore_config *config, void *block, size_t length)
+uint32_t new_of_10(tcpcore_end *end, const tcpcore_config *config, void *block, size_t length);
+uint32_t new_at_of_10(tcpcore_end **end, const tcpcore_config *config, void *block, size_t length);
+size_t room_of_10(const tcpcore_config *config);
+uint32_t new_of_11(tcpcore_end *end, const tcpcore_config *config, void *block, size_t length);
+uint32_t new_at_of_11(tcpcore_end **end, const tcpcore_config *config, void *block, size_t length);
+uint32_t connect_of_11(tcpcore_connection *connection, const tcpcore_config *config, const struct tcpcore_connection_rules *rules,
+                       tcpcore_addr addr, uint16_t port, uint64_t now, void *block, size_t length);
+uint32_t listen_of_11(tcpcore_connection *connection, const tcpcore_config *config, const struct tcpcore_connection_rules *rules,
+                      uint64_t now, void *block, size_t length);
+
+__asm__(".symver new_of_10, tcpcore_new@TCPCORE_4");
+uint32_t new_of_10(tcpcore_end *end, const tcpcore_config *config, void *block, size_t length)
 {
-    if (!config)
-        return tcpcore_new_at(end, NULL, block, length);
-    tcpcore_config found = older(config);
-    return tcpcore_new_at(end, &found, block, length);
+    tcpcore_config found;
+    return tcpcore_new(end, of_10(config, &found), block, length);
 }
 
-__asm__(".symver older_room, tcpcore_room@TCPCORE_4");
-size_t older_room(const tcpcore_config *config)
+__asm__(".symver new_at_of_10, tcpcore_new_at@TCPCORE_6");
+uint32_t new_at_of_10(tcpcore_end **end, const tcpcore_config *config, void *block, size_t length)
 {
-    if (!config)
-        return tcpcore_room(NULL);
-    tcpcore_config found = older(config);
-    return tcpcore_room(&found);
+    tcpcore_config found;
+    return tcpcore_new_at(end, of_10(config, &found), block, length);
+}
+
+__asm__(".symver room_of_10, tcpcore_room@TCPCORE_4");
+size_t room_of_10(const tcpcore_config *config)
+{
+    tcpcore_config found;
+    return tcpcore_room(of_10(config, &found));
+}
+
+__asm__(".symver new_of_11, tcpcore_new@TCPCORE_11");
+uint32_t new_of_11(tcpcore_end *end, const tcpcore_config *config, void *block, size_t length)
+{
+    tcpcore_config found;
+    uint32_t answer = tcpcore_new(end, config, block, length);
+    return answer == TCPCORE_NO_MEMORY ? tcpcore_new(end, of_11(config, &found), block, length) : answer;
+}
+
+__asm__(".symver new_at_of_11, tcpcore_new_at@TCPCORE_11");
+uint32_t new_at_of_11(tcpcore_end **end, const tcpcore_config *config, void *block, size_t length)
+{
+    tcpcore_config found;
+    uint32_t answer = tcpcore_new_at(end, config, block, length);
+    return answer == TCPCORE_NO_MEMORY ? tcpcore_new_at(end, of_11(config, &found), block, length) : answer;
+}
+
+__asm__(".symver connect_of_11, tcpcore_connection_connect@TCPCORE_11");
+uint32_t connect_of_11(tcpcore_connection *connection, const tcpcore_config *config, const struct tcpcore_connection_rules *rules,
+                       tcpcore_addr addr, uint16_t port, uint64_t now, void *block, size_t length)
+{
+    tcpcore_config found;
+    uint32_t answer = tcpcore_connection_connect(connection, config, rules, addr, port, now, block, length);
+    return answer == TCPCORE_NO_MEMORY ? tcpcore_connection_connect(connection, of_11(config, &found), rules, addr, port, now, block, length) : answer;
+}
+
+__asm__(".symver listen_of_11, tcpcore_connection_listen@TCPCORE_11");
+uint32_t listen_of_11(tcpcore_connection *connection, const tcpcore_config *config, const struct tcpcore_connection_rules *rules,
+                      uint64_t now, void *block, size_t length)
+{
+    tcpcore_config found;
+    uint32_t answer = tcpcore_connection_listen(connection, config, rules, now, block, length);
+    return answer == TCPCORE_NO_MEMORY ? tcpcore_connection_listen(connection, of_11(config, &found), rules, now, block, length) : answer;
 }

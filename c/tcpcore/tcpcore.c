@@ -95,6 +95,7 @@ uint32_t tcp_c_connection_arrive(struct handle *, uint64_t, const tcpcore_addr *
 uint32_t tcp_c_connection_arrive_vouched(struct handle *, uint64_t, const tcpcore_addr *, const tcpcore_addr *, const uint8_t *, size_t,
                                          struct tcpcore_arrive_report *);
 uint32_t tcp_c_connection_emit(struct handle *, uint64_t, uint64_t, uint8_t *, size_t, struct tcpcore_connection_segment *);
+uint32_t tcp_c_connection_emit_train(struct handle *, uint64_t, uint64_t, uint8_t *, size_t, size_t, struct train *);
 uint32_t tcp_c_connection_send(struct handle *, uint64_t, const uint8_t *, size_t, size_t *);
 uint32_t tcp_c_connection_receive(struct handle *, uint64_t, uint8_t *, size_t, size_t *);
 uint32_t tcp_c_connection_peek(struct handle *, struct lent *);
@@ -136,11 +137,12 @@ STEP uint32_t connection_refusal(const tcpcore_connection *connection)
     return connection ? refusal_at(connection->opaque) : TCPCORE_NULL;
 }
 
-/* Whether two stretches of memory have a byte in common. */
+/* Whether two stretches of memory have a byte in common: so where the first begins less than its size before the second, or less than that
+   one's length behind. Both together are at most as long as memory. */
 STEP int overlap(const void *one, size_t size, const void *other, size_t length)
 {
     uintptr_t first = (uintptr_t)one, second = (uintptr_t)other;
-    return first < second ? second - first < size && length > 0 : first - second < length && size > 0;
+    return size > 0 && length > 0 && first - second + (size - 1) < size + length - 1;
 }
 
 /* Where a call writes what it has found: a count, an address, the timers, a status. */
@@ -517,23 +519,29 @@ uint32_t tcpcore_emit_acknowledgement(tcpcore_end *end, void *out, size_t room, 
     return write_by(EMIT_ACKNOWLEDGEMENT, end, out, room, to, length);
 }
 
-uint32_t tcpcore_emit_train(tcpcore_end *end, void *out, size_t room, size_t most, struct tcpcore_train *train)
+/* What the library reports of segments as one, with its reserved words. */
+STEP struct tcpcore_train train_of(const struct train *reported)
 {
     struct tcpcore_train found = {.segments = 0};
+    found.whole.to = reported->to;
+    found.whole.kind = reported->kind;
+    found.whole.length = reported->length;
+    found.whole.position = reported->position;
+    found.whole.count = reported->count;
+    found.header = reported->header;
+    found.each = reported->each;
+    found.segments = reported->segments;
+    return found;
+}
+
+uint32_t tcpcore_emit_train(tcpcore_end *end, void *out, size_t room, size_t most, struct tcpcore_train *train)
+{
+    struct train reported = {.segments = 0};
     struct place place = {train, sizeof *train};
     uint32_t refused = refusal_with(end, out, room, place), answer = refused;
-    if (refused == TCPCORE_DONE) {
-        struct train reported = {.segments = 0};
+    if (refused == TCPCORE_DONE)
         answer = tcp_c_emit_train(handle(end), start(out), room, most, &reported);
-        found.whole.to = reported.to;
-        found.whole.kind = reported.kind;
-        found.whole.length = reported.length;
-        found.whole.position = reported.position;
-        found.whole.count = reported.count;
-        found.header = reported.header;
-        found.each = reported.each;
-        found.segments = reported.segments;
-    }
+    struct tcpcore_train found = train_of(&reported);
     put(refused, place, end_at(end), out, room, &found);
     return answer;
 }
@@ -864,6 +872,19 @@ uint32_t tcpcore_connection_emit(tcpcore_connection *connection, uint64_t now, u
     uint32_t refused = connection_refusal_with(connection, out, room, place), answer = refused;
     if (refused == TCPCORE_DONE)
         answer = tcp_c_connection_emit(handle_in(connection), now, window, start(out), room, &found);
+    put(refused, place, connection_at(connection), out, room, &found);
+    return answer;
+}
+
+uint32_t tcpcore_connection_emit_train(tcpcore_connection *connection, uint64_t now, uint64_t window, void *out, size_t room, size_t most,
+                                       struct tcpcore_train *train)
+{
+    struct train reported = {.segments = 0};
+    struct place place = {train, sizeof *train};
+    uint32_t refused = connection_refusal_with(connection, out, room, place), answer = refused;
+    if (refused == TCPCORE_DONE)
+        answer = tcp_c_connection_emit_train(handle_in(connection), now, window, start(out), room, most, &reported);
+    struct tcpcore_train found = train_of(&reported);
     put(refused, place, connection_at(connection), out, room, &found);
     return answer;
 }

@@ -29,6 +29,7 @@ void check(bool holds, const char *what)
 struct hostile {
     std::optional<tcpcore::connection> ends[2];
     std::vector<std::vector<unsigned char>> seen;
+    std::vector<unsigned char> large = std::vector<unsigned char>(TCPCORE_TRAIN_ROOM);
     std::uint64_t micros = 0, refusals = 0, moved = 0;
     bool is_making = false;
 
@@ -74,6 +75,12 @@ struct hostile {
             arrive(it, side);
             break;
         case 3: case 4: case 5: {
+            if (any(6) == 0) {
+                std::size_t most = any(9);
+                auto train = it.emit_train(now(), large.data(), large.size(), most, any(3) == 0 ? any(5000) : UINT64_MAX);
+                check(train.segments <= std::max<std::size_t>(most, 1) && train.whole.length == train.header + train.whole.count, "a train is what was asked for");
+                break;
+            }
             auto sent = it.emit(now(), out, any(3) == 0 ? any(5000) : UINT64_MAX);
             check(sent.length <= sizeof out, "a segment has room");
             if (sent.length > 0) seen.emplace_back(out, out + sent.length);

@@ -280,6 +280,13 @@ public:
         struct tcpcore_connection_segment reported;
         return detail::found(tcpcore_connection_emit(raw(), micros(now), window, out, sizeof out, &reported)), reported;
     }
+    // The segments that may go out as one, for a device that cuts them and sums: as many of new text as end within `window`, as emit has it,
+    // at most `most`; anything else goes alone. With a `most` of 1 it is one segment for a device that sums. `segments` is 0 where none was.
+    struct tcpcore_train emit_train(time now, void *out, std::size_t room, std::size_t most, std::uint64_t window = UINT64_MAX)
+    {
+        struct tcpcore_train reported;
+        return detail::found(tcpcore_connection_emit_train(raw(), micros(now), window, out, room, most, &reported)), reported;
+    }
     // When timeout has to be called, if nothing else happens before; nothing where no timer runs.
     std::optional<time> poll_at() const
     {

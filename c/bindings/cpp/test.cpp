@@ -418,6 +418,48 @@ static void a_guard_keeps_out_what_is_blind()
     }
 }
 
+// Of two pairs of connections one's segments go out as one, for a device that cuts them and sums: the same text, and the same states and
+// times. Segments of 1,000 bytes: two end within a window of 2,999.
+static void a_connection_s_train()
+{
+    using namespace std::chrono_literals;
+    tcpcore::connection::time now(5s);
+    std::vector<tcpcore::connection> ends;
+    unsigned char one[TCPCORE_EMIT_ROOM];
+    for (int pair = 0; pair < 2; pair++) {
+        ends.push_back(tcpcore::connection::connect(config(A, 7), tcpcore::default_rules(), B, 7, now));
+        ends.push_back(tcpcore::connection::listen(config(B, 7), tcpcore::default_rules(), now));
+        tcpcore::connection &a = ends[ends.size() - 2], &b = ends.back();
+        for (int turn = 0; turn < 2; turn++) {
+            while (std::size_t length = a.emit(now, one).length) CHECK(b.arrive(now, A, B, one, length).first == TCPCORE_DONE);
+            while (std::size_t length = b.emit(now, one).length) CHECK(a.arrive(now, B, A, one, length).first == TCPCORE_DONE);
+        }
+    }
+    std::string text(3500, 'y');
+    for (std::size_t i = 0; i < text.size(); i++) text[i] = static_cast<char>(i * 7);
+    CHECK(ends[0].send(now, text.data(), text.size()) == text.size() && ends[2].send(now, text.data(), text.size()) == text.size());
+    std::vector<unsigned char> room(TCPCORE_TRAIN_ROOM);
+    try {
+        ends[2].emit_train(now, room.data(), TCPCORE_EMIT_ROOM - 1, 64);
+        CHECK(false);
+    } catch (const tcpcore::refused &found) {
+        CHECK(found.answer == TCPCORE_ROOM);
+    }
+    struct tcpcore_train train = ends[2].emit_train(now, room.data(), room.size(), 64, 2999);
+    CHECK(train.segments == 2 && train.each == 1000 && train.header == 20 && train.whole.count == 2000 && train.whole.position == 1);
+    CHECK(train.whole.kind == TCPCORE_KIND_NEW_TEXT && train.whole.length == 2020 && std::memcmp(room.data() + 20, text.data(), 2000) == 0);
+    for (std::size_t i = 0; i < 2; i++) {
+        struct tcpcore_connection_segment it = ends[0].emit(now, one, 2999);
+        CHECK(it.length == 1020 && it.position == 1 + 1000 * i && std::memcmp(one + 20, room.data() + 20 + 1000 * i, 1000) == 0);
+    }
+    CHECK(ends[0].emit(now, one, 2999).length == 0 && ends[2].emit_train(now, room.data(), room.size(), 64, 2999).segments == 0);
+    struct tcpcore_status here = ends[0].status(), there = ends[2].status();
+    CHECK(std::memcmp(&here, &there, sizeof here) == 0 && ends[0].poll_at() == ends[2].poll_at());
+    CHECK(ends[3].arrive_vouched(now, A, B, room.data(), 2020).second.brought == TCPCORE_BROUGHT_IN_ORDER);
+    train = ends[3].emit_train(now, room.data(), room.size(), 1);
+    CHECK(train.segments == 1 && train.each == 0 && train.whole.kind == TCPCORE_KIND_ACKNOWLEDGEMENT && train.whole.length == 20);
+}
+
 // RFC 6298, 2.4 and 5.5: after a round trip of 0 the timer expires 1, 3 and 7 s after what is lost; RFC 9293, 3.8.3: a user timeout that is
 // set later counts from then, too, and ends no connection before that.
 static void a_user_timeout_is_set()
@@ -501,6 +543,7 @@ int main()
     defaults();
     over_a_lossy_link();
     a_connection_refuses();
+    a_connection_s_train();
     a_user_timeout_is_set();
     a_guard_keeps_out_what_is_blind();
     CHECK(tcpcore::build().find("machine code") != std::string_view::npos || tcpcore::build().find("portable C") == 0);

@@ -233,6 +233,21 @@ func (connection *Connection) Emit(now time.Time, room *[EmitRoom]byte) Emission
 	return Emission{*(*Addr)(unsafe.Pointer(&segment.to)), int(segment.length), uint64(segment.position), int(segment.count)}
 }
 
+// EmitTrain writes as many segments of new text as one as end within the Window, at most `most`, for a device that cuts them and sums;
+// anything else goes alone, also a pending acknowledgement where what is due waits. With 1 it is one segment for a device that sums. The
+// connection is as after as many calls of Emit. It refuses less room than EmitRoom.
+func (connection *Connection) EmitTrain(now time.Time, room []byte, most int) (Train, error) {
+	if most < 0 {
+		most = 0
+	}
+	told := C.connection_emit_train(connection.raw, connection.since(now), C.uint64_t(connection.Window), front(room), C.size_t(len(room)),
+		C.size_t(most))
+	if told.answer == C.TCPCORE_NOT_DUE {
+		return Train{}, nil
+	}
+	return train(&told.train), done(told.answer)
+}
+
 // PollAt is when Timeout has to be called, if nothing else happens before; the zero Time where no timer runs, as the SetReadDeadline of a
 // net.Conn takes it. It may have passed: then call it now. Where it is called later, all that is sent again is sent later.
 func (connection *Connection) PollAt() time.Time {

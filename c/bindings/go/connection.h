@@ -71,6 +71,19 @@ static inline struct connection_emitted connection_emit(tcpcore_connection *conn
     return told;
 }
 
+struct connection_trained {
+    struct tcpcore_train train;
+    uint32_t answer;
+};
+
+static inline struct connection_trained connection_emit_train(tcpcore_connection *connection, uint64_t now, uint64_t window, void *out,
+                                                              size_t room, size_t most)
+{
+    struct connection_trained told;
+    told.answer = tcpcore_connection_emit_train(connection, now, window, out, room, most, &told.train);
+    return told;
+}
+
 struct connection_time {
     uint64_t at;
     uint32_t answer;

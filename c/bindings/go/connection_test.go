@@ -269,7 +269,8 @@ func TestConnectionRefused(t *testing.T) {
 	_, _, peeked := freed.Peek()
 	_, consumed := freed.Consume(began, 1)
 	_, exchanged := freed.Exchange(began, b, a, &in, &out, nil, nil)
-	for _, err := range []error{arrived, sent, received, peeked, consumed, exchanged, freed.Acknowledge(began), freed.Close(began), freed.Abort(began)} {
+	_, trained := freed.EmitTrain(began, room[:], 1)
+	for _, err := range []error{arrived, trained, sent, received, peeked, consumed, exchanged, freed.Acknowledge(began), freed.Close(began), freed.Abort(began)} {
 		if err != ErrNoEnd {
 			t.Fatal(err)
 		}

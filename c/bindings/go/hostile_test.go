@@ -158,6 +158,15 @@ func (it *hostile) call(side int) {
 		it.may(side, "Arrive", err, Refused(1), Refused(2), Refused(3), Refused(4), Refused(5), Refused(6), ErrDropped, ErrNotMine, ErrEmitFirst, ErrWithheld)
 	case 3, 4, 5:
 		end.Window = uint64(it.random.Intn(3)-1) * uint64(length)
+		if it.random.Intn(6) == 0 {
+			most, large := it.random.Intn(9), make([]byte, 20*length)
+			told, err := end.EmitTrain(now, large, most-1)
+			if it.may(side, "EmitTrain", err, Refused(33)); told.Segments > 1 && told.Segments >= most || told.Whole.Length > len(large) {
+				it.t.Fatal(told, most)
+			}
+			end.Window = 1<<64 - 1
+			return
+		}
 		it.panics(side, func() {
 			if told := end.Emit(now, &room); told.Length > 0 {
 				it.seen = append(it.seen, append([]byte{}, room[:told.Length]...))

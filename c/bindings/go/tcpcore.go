@@ -272,6 +272,10 @@ type Train struct {
 	Header, Each, Segments int
 }
 
+func train(told *C.struct_tcpcore_train) Train {
+	return Train{transmit(&told.whole), int(told.header), int(told.each), int(told.segments)}
+}
+
 // EmitTrain writes as many segments of new text as one as the peer's window allows, at most `most`, for a device that cuts them and sums;
 // anything else goes alone. It refuses less room than EmitRoom.
 func (end *End) EmitTrain(room []byte, most int) (Train, error) {
@@ -283,7 +287,7 @@ func (end *End) EmitTrain(room []byte, most int) (Train, error) {
 	if answer == C.TCPCORE_NOT_DUE {
 		return Train{}, nil
 	}
-	return Train{transmit(&told.whole), int(told.header), int(told.each), int(told.segments)}, done(answer)
+	return train(&told), done(answer)
 }
 
 // Arrive takes a segment: nil where it was taken, else what became of it; and whether it has to be answered at once.

@@ -48,8 +48,8 @@ def memory_of_runs():
         return tcpcore.library()["room"](tcpcore.ConfigStruct(send_capacity=1000, recv_capacity=1000, runs=runs))
 
     check(room(0), room(tcpcore.RUNS))
-    # Each run takes 8 bytes in each of two tables.
-    check([room(runs) - room(2) for runs in (4, 16, tcpcore.MAX_RUNS)], [32, 224, 16 * (tcpcore.MAX_RUNS - 2)])
+    # Each run takes 8 bytes of the marks' table, and 16 of the held runs'.
+    check([room(runs) - room(2) for runs in (4, 16, tcpcore.MAX_RUNS)], [48, 336, 24 * (tcpcore.MAX_RUNS - 2)])
     check(room(tcpcore.MAX_RUNS + 1), 0)
 
 

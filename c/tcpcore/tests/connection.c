@@ -16,6 +16,7 @@ static void every_call(tcpcore_connection *connection, uint32_t wanted)
     struct tcpcore_status status;
     struct tcpcore_arrive_report report;
     struct tcpcore_connection_segment segment;
+    struct tcpcore_train train;
     struct tcpcore_lent lent;
     memset(buffer, 0xee, sizeof buffer);
     memset(&status, 7, sizeof status);
@@ -37,6 +38,9 @@ static void every_call(tcpcore_connection *connection, uint32_t wanted)
     CHECK(are_all(&report, sizeof report, 0), 1);
     CHECK(tcpcore_connection_emit(connection, 0, UINT64_MAX, buffer, sizeof buffer, &segment), wanted);
     CHECK(are_all(&segment, sizeof segment, 0), 1);
+    memset(&train, 7, sizeof train);
+    CHECK(tcpcore_connection_emit_train(connection, 0, UINT64_MAX, buffer, sizeof buffer, 9, &train), wanted);
+    CHECK(are_all(&train, sizeof train, 0), 1);
     CHECK(tcpcore_connection_send(connection, 0, "abc", 3, &count), wanted);
     CHECK(count, 0);
     count = 7;
@@ -135,6 +139,7 @@ static void refused_pointers(void)
     unsigned char buffer[TCPCORE_EMIT_ROOM] = {0};
     struct tcpcore_arrive_report report;
     struct tcpcore_connection_segment segment;
+    struct tcpcore_train train;
     size_t count;
     tcpcore_addr addr;
     uint16_t port;
@@ -171,6 +176,13 @@ static void refused_pointers(void)
     CHECK(tcpcore_connection_emit(&a, 0, UINT64_MAX, buffer, HUGE_LENGTH, &segment), TCPCORE_LENGTH);
     CHECK(tcpcore_connection_emit(&a, 0, UINT64_MAX, buffer, sizeof buffer, over), TCPCORE_OVERLAP);
     CHECK(tcpcore_connection_emit(&a, 0, UINT64_MAX, over, sizeof buffer, &segment), TCPCORE_OVERLAP);
+    CHECK(tcpcore_connection_emit_train(&a, 0, UINT64_MAX, buffer, sizeof buffer, 9, NULL), TCPCORE_NULL);
+    CHECK(tcpcore_connection_emit_train(&a, 0, UINT64_MAX, NULL, sizeof buffer, 9, &train), TCPCORE_NULL);
+    CHECK(tcpcore_connection_emit_train(&a, 0, UINT64_MAX, NULL, 0, 9, &train), TCPCORE_ROOM);
+    CHECK(tcpcore_connection_emit_train(&a, 0, UINT64_MAX, buffer, TCPCORE_EMIT_ROOM - 1, 9, &train), TCPCORE_ROOM);
+    CHECK(tcpcore_connection_emit_train(&a, 0, UINT64_MAX, buffer, HUGE_LENGTH, 9, &train), TCPCORE_LENGTH);
+    CHECK(tcpcore_connection_emit_train(&a, 0, UINT64_MAX, buffer, sizeof buffer, 9, over), TCPCORE_OVERLAP);
+    CHECK(tcpcore_connection_emit_train(&a, 0, UINT64_MAX, over, sizeof buffer, 9, &train), TCPCORE_OVERLAP);
     CHECK(tcpcore_connection_send(&a, 0, NULL, 1, &count), TCPCORE_NULL);
     CHECK(tcpcore_connection_send(&a, 0, buffer, 1, NULL), TCPCORE_NULL);
     CHECK(tcpcore_connection_send(&a, 0, buffer, HUGE_LENGTH, &count), TCPCORE_LENGTH);

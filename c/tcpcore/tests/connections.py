@@ -10,7 +10,7 @@ import sys
 
 sys.path.insert(0, os.path.dirname(os.path.dirname(os.path.realpath(__file__))))
 import tcpcore  # noqa: E402
-from tcpcore import Answer, Brought, Config, Connection, Emission, End, Ending, Lent, Phase, Refused, Rule, Rules, Timer  # noqa: E402
+from tcpcore import Answer, Brought, Config, Connection, Emission, End, Ending, Kind, Lent, Phase, Refused, Rule, Rules, Timer, Train, Transmit  # noqa: E402
 
 A, B = bytes([10, 0, 0, 1]), bytes([10, 0, 0, 2])
 CONFIGS = Config(A, 1, 1000, mss=1000), Config(B, 2, 5000, mss=1000)
@@ -268,6 +268,33 @@ def windows():
     check("the window is -1" in raised(ValueError, a.emit, 0.0), True)
 
 
+def trains():
+    """Of two pairs of connections one's segments go out as one, for a device that cuts them and sums: the same text, states and times."""
+    (a, _), (c, d) = pair(), pair()
+    text = bytes(i % 251 for i in range(3500))
+    check((a.send(0.0, text), c.send(0.0, text)), (3500, 3500))
+    a.window = c.window = 2999
+    told, whole = c.emit_train(0.0, 64)
+    check(told, Train(Transmit(B, Kind.NEW_TEXT, 2020, 1, 2000), 20, 1000, 2))
+    check(([segment[20:] for _, segment in a.emit_all(0.0)], whole[20:]), ([text[:1000], text[1000:2000]], text[:2000]))
+    check((c.emit_train(0.0, 64), a.status(), a.poll_at()), (None, c.status(), c.poll_at()))
+    check((d.arrive_vouched(0.0, A, B, whole), d.receive(0.0)), (Answer.DONE, text[:2000]))
+    # With 1 it is one segment. The device's sum over what was written, with the sum of the pseudo-header in its field, is that of the peer.
+    told, alone = d.emit_train(0.0, 1)
+    check(told, Train(Transmit(A, Kind.ACKNOWLEDGEMENT, 20, 1, 0), 20, 0, 1))
+    total = sum(struct.unpack("!10H", alone))
+    total = (total & 0xFFFF) + (total >> 16)
+    check(c.arrive(0.0, B, A, alone[:16] + struct.pack("!H", ~((total & 0xFFFF) + (total >> 16)) & 0xFFFF) + alone[18:]), Answer.DONE)
+    check((c.status().snd_una, c.emit_train(0.0, 64)[0].whole.text_count), (2001, 1500))
+    check(raised(ValueError, c.emit_train, 0.0, -1)[:25], "the number of segments is")
+    # What an arrival has had emitted goes first.
+    a, b = pair()
+    check((a.send(0.0, b"x"), len(a.emit_all(0.0)), b.send(0.0, b"y"), a.timeout(1.0)), (1, 1, 1, Timer.RETRANSMIT))
+    check(a.arrive(1.0, B, *b.emit(1.0)), Answer.DONE)
+    check(raised(Refused, a.emit_train, 1.0, 64), tcpcore.strerror(Answer.EMIT_FIRST))
+    check((len(a.emit_all(1.0)) > 0, a.emit_train(1.0, 64)), (True, None))
+
+
 def times():
     chance = random.Random(1)
     for _ in range(3000):
@@ -301,7 +328,7 @@ def refusals():
         check(raised(TypeError, call, b)[:19], "a connection can't ")
     with Connection.connect(0.0, CONFIGS[0], B, 2) as a:
         check(a.status().phase, Phase.SYN_SENT)
-    calls = [(a.poll_at,), (a.timeout, 0.0), (a.arrive, 0.0, A, B, b""), (a.transmit, 0.0), (a.emit, 0.0), (a.emit_all, 0.0), (a.send, 0.0, b"")]
+    calls = [(a.poll_at,), (a.timeout, 0.0), (a.arrive, 0.0, A, B, b""), (a.transmit, 0.0), (a.emit, 0.0), (a.emit_all, 0.0), (a.emit_train, 0.0, 1), (a.send, 0.0, b"")]
     calls += [(a.receive, 0.0), (a.peek,), (a.consume, 0.0, 1), (a.acknowledge, 0.0), (a.close, 0.0), (a.abort, 0.0), (a.status,), (a.free,)]
     for call, *args in calls:
         check(raised(Refused, call, *args), "no end is in the struct")
@@ -319,7 +346,7 @@ ODD = (None, -1, 0, 1 << 70, 0.5, float("nan"), "x", "10.0.0.1", b"", bytes(20),
 def hostile():
     """Any calls with any arguments: refused, or raised as a fault of the arguments. TCPCORE_CALLS in the environment says how many calls."""
     chance, calls = random.Random(11), int(os.environ.get("TCPCORE_CALLS", "16000"))
-    names = ("poll_at", "timeout", "arrive", "arrive_with_report", "arrive_vouched", "transmit", "emit", "emit_all", "send", "receive", "peek", "consume", "acknowledge", "close", "abort", "status", "free")
+    names = ("poll_at", "timeout", "arrive", "arrive_with_report", "arrive_vouched", "transmit", "emit", "emit_all", "emit_train", "send", "receive", "peek", "consume", "acknowledge", "close", "abort", "status", "free")
     faults, done = (Refused, ValueError, TypeError), 0
     for turn in range(calls // 40):
         now, ends = 0.0, list(pair())
@@ -333,7 +360,7 @@ def hostile():
                     segment[chance.randrange(len(segment))] ^= 1 << chance.randrange(8)
                 right = [now, *chance.choice(((A, B), (B, A))), segment]
             else:
-                right = {"send": [now, bytes(chance.randrange(3000))], "consume": [now, chance.randrange(3000)], "poll_at": [], "peek": [], "status": [], "free": []}.get(name, [now])
+                right = {"send": [now, bytes(chance.randrange(3000))], "consume": [now, chance.randrange(3000)], "emit_train": [now, chance.randrange(9)], "poll_at": [], "peek": [], "status": [], "free": []}.get(name, [now])
             args = [chance.choice(ODD) if chance.random() < 0.15 else arg for arg in right]
             try:
                 found = getattr(end, name)(*args)
@@ -356,6 +383,7 @@ def main():
     orders()
     reports()
     windows()
+    trains()
     times()
     refusals()
     hostile()

@@ -131,7 +131,7 @@ def check_tables(text, functions):
             section = found["section"]
         elif (found := ROW.match(line)) and section.startswith((".rodata", ".data")):
             name = plain(found["name"])
-            if (name in functions or found["name"].startswith(".text")) and section != f".rodata.{name}":
+            if (name in functions or found["name"].startswith(".text")) and section not in (f".rodata.{name}", f".rodata.unlikely.{name}"):
                 raise Fault(f"{section} has the address of {name}")
 
 

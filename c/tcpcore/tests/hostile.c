@@ -216,11 +216,36 @@ static void arrive(size_t side)
         CHECK(is_zero(&report, sizeof report), 1);
 }
 
+static const uint64_t WINDOWS[] = {0, 1, 1460, 5000, UINT64_MAX};
+
+/* Segments as one: it is written whole, and none of the pieces is kept. */
+static void emit_train(size_t side)
+{
+    static unsigned char whole[70000];
+    struct tcpcore_train train;
+    tcpcore_connection *end = any_end(side);
+    void *place = any_place(&train, end);
+    size_t room = rarely() ? any_length(sizeof whole) : sizeof whole;
+    void *out = any_buffer(whole, room, end);
+    uint32_t answer = tcpcore_connection_emit_train(end, now, WINDOWS[any(5)], out, room, any(3) == 0 ? SIZE_MAX : any(20), place);
+    ANSWERS("emit_train", answer, TCPCORE_DONE, TCPCORE_NOT_DUE, TCPCORE_ROOM);
+    if (answer != TCPCORE_DONE) {
+        CHECK(place != &train || is_zero(&train, sizeof train), 1);
+        return;
+    }
+    CHECK(train.whole.length >= 20 && train.whole.length <= TCPCORE_TRAIN_ROOM && train.whole.length <= room, 1);
+    CHECK(train.segments >= 1 && train.whole.length == train.header + train.whole.count, 1);
+    CHECK(train.segments == 1 || ((train.segments - 1) * train.each < train.whole.count && train.whole.count <= train.segments * train.each), 1);
+}
+
 static void emit(size_t side)
 {
-    static const uint64_t WINDOWS[] = {0, 1, 1460, 5000, UINT64_MAX};
     struct segment *it = &kept[kept_count % KEPT];
     struct tcpcore_connection_segment segment;
+    if (any(8) == 0) {
+        emit_train(side);
+        return;
+    }
     tcpcore_connection *end = any_end(side);
     void *place = any_place(&segment, end);
     size_t room = rarely() ? any_length(TCPCORE_EMIT_ROOM) : TCPCORE_EMIT_ROOM;

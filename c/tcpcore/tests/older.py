@@ -1,6 +1,6 @@
 """What a header promises to programs that were built with an older one: python3 older.py OLDER.h HEADER.h prints each answer, bound, field
 and call of OLDER.h that HEADER.h has otherwise, and ends with 1 where there is one. TCPCORE_VERSION may grow, and so may bounds of the
-stack; fields may take the place of reserved words. TCPCORE_MEMORY may grow: the library gives older programs ends of 16 runs (older_ends.c), which
+stack; fields may take the place of reserved words. TCPCORE_MEMORY may grow: the library gives older programs ends of 11 runs (older_ends.c), which
 have to fit into what it was. The C compiler (CC, else cc) tells where fields lie.
 """
 
@@ -99,8 +99,8 @@ def main():
     newer_calls = calls(newer, old_names(sys.argv[2]))
     wrong = [f"{name} is {found!r}, and was {wanted!r}" for name, wanted in calls(older).items() if (found := newer_calls.get(name)) != wanted]
     wrong += [f"'{found}', and was '{wanted}'" for wanted, found in zip(before, now) if found != wanted]
-    # An end of 16 runs, which older programs get, fits into the blocks that they have.
-    for capacities, had, needs in zip(CAPACITIES, rooms(sys.argv[1], "TCPCORE_MEMORY(@1, @2)"), rooms(sys.argv[2], "TCPCORE_MEMORY_RUNS(@1, @2, 16)")):
+    # An end of 11 runs, which older programs get, fits into the blocks that they have.
+    for capacities, had, needs in zip(CAPACITIES, rooms(sys.argv[1], "TCPCORE_MEMORY(@1, @2)"), rooms(sys.argv[2], "TCPCORE_MEMORY_RUNS(@1, @2, 11)")):
         if needs > had:
             wrong.append(f"ends of {capacities} need {needs} bytes, and have {had}")
     for line in wrong:

@@ -1,13 +1,13 @@
 /*
  * The test of segments that are emitted as one: two pairs of ends have the same traffic side by side, the first by tcpcore_emit, the
- * second by tcpcore_emit_train. What it writes is cut by this file's own device (RFC 9293, 3.1 and 3.9.1.2; RFC 1071). Each piece
+ * second by tcpcore_emit_train. What it writes is cut by device.h. Each piece
  * has to be what tcpcore_emit writes of the first pair, and every status the same behind them. How many go together is counted by
  * this file, from what the end reports.
  */
 enum { CAPACITY = 1 << 20, WAITING = 64, ROUNDS = 60, STEPS = 500, LONGEST = 70000, CANARY = 0x5a };
 #include "pairs.h"
 
-enum { FIN = 1, PSH = 8 };
+#include "device.h"
 
 static unsigned char text[CAPACITY], whole[LONGEST];
 
@@ -16,26 +16,11 @@ static unsigned long together, by_most, by_room, by_window, by_queue, with_block
 
 static uint64_t least(uint64_t one, uint64_t other) { return one < other ? one : other; }
 
-static uint32_t get16(const unsigned char *at) { return (uint32_t)at[0] << 8 | at[1]; }
-
-/* The device: piece `which` of the segment of so many bytes in `whole`, which is cut after each `size` bytes of text; all of it where
-   `size` is 0. Answers whether it is the last. */
+/* Piece `which` of the segment of so many bytes in `whole`. Answers whether it is the last. */
 static int cut(struct segment *out, tcpcore_addr src, size_t length, size_t size, size_t which)
 {
-    size_t header = (whole[12] >> 4) * 4u, from = size * which, left = length - header - from;
-    size_t count = size > 0 && left > size ? size : left;
-    uint32_t seq = (get16(whole + 4) << 16 | get16(whole + 6)) + (uint32_t)from;
-    out->length = header + count;
-    CHECK(out->length <= sizeof out->bytes, 1);
-    memcpy(out->bytes, whole, header);
-    memcpy(out->bytes + header, whole + header + from, count);
-    put16(out->bytes + 4, seq >> 16);
-    put16(out->bytes + 6, seq);
-    if (count < left)
-        out->bytes[13] &= (unsigned char)~(PSH | FIN);
-    put16(out->bytes + 16, 0);
-    put16(out->bytes + 16, ~summed(pseudo(src, out->to, out->length), out->bytes, out->length));
-    return count == left;
+    out->length = cut_piece(whole, length, size, which, src, out->to, out->bytes);
+    return size == 0 || size * (which + 1) + (whole[12] >> 4) * 4u >= length;
 }
 
 /* How many segments go together, by what is due and what the end reports before; `allowed` is the text that may go. */

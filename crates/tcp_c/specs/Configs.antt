@@ -30,13 +30,17 @@ HasGoodRuns c = runs_of c ≤ greatest_runs
 abbrev pub HasBadRuns : CConfig → Type 0
 HasBadRuns c = greatest_runs < runs_of c
 
--- the bytes of the table of the runs that the end keeps, and of that of the runs which the peer reported
-abbrev pub table_of : CConfig → ℕ
-table_of c = rounded (8 * runs_of c)
+-- the bytes of the table of the runs which the peer reported
+abbrev pub marks_of : CConfig → ℕ
+marks_of c = rounded (8 * runs_of c)
+
+-- and of that of the runs that the end keeps, with its ends
+abbrev pub held_of : CConfig → ℕ
+held_of c = rounded (16 * (runs_of c + 1))
 
 -- the bytes of a block that an end of a size needs: the buffers and the two tables, each in whole units, and the end itself
 abbrev pub room_beside : CConfig → ℕ → ℕ
-room_beside c size = rounded c.send_capacity + rounded c.recv_capacity + 2 * table_of c + size
+room_beside c size = rounded c.send_capacity + rounded c.recv_capacity + marks_of c + held_of c + size
 
 abbrev pub room_of : CConfig → ℕ
 room_of c = room_beside c 416

@@ -12,3 +12,4 @@ pub mod CTimeWaits
 pub mod Segments
 pub mod Status
 pub mod Trains
+pub mod ConnectionTrains

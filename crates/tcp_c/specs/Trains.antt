@@ -1,11 +1,12 @@
 -- What is reported to C of segments that were emitted as one, for a device that cuts them (RFC 9293, 3.7 and 3.8), into a buffer of
 -- any length, where it requires `least` bytes.
 use Rattle.std.specs.Prelude.{ℕ, nat_lt, if◌then◌else◌, ◌-◌, List, length, Option, Some, None, unwrap_or}
+use Rattle.tcp_conn.specs.declared.emit.train.Train.{Train}
 use Rattle.tcp_conn.specs.Emission.{destination}
 use Rattle.tcp_conn.specs.State.{State}
 use Rattle.tcp_conn.specs.Train.{after_emissions, train_after, train_count, train_length, train_text}
 use Rattle.tcp_conn.specs.Transmission.{count_due, kind_due, position_due}
-use Rattle.tcp_c.specs.Reports.{kind_told}
+use Rattle.tcp_c.specs.Reports.{kind_number, kind_told}
 use Rattle.tcp_c.specs.Segments.{nowhere}
 use Rattle.tcp_c.specs.declared.records.CTrain.{CTrain}
 
@@ -20,6 +21,19 @@ no_train = record {
   header = 0;
   each = 0;
   segments = 0;
+}
+
+-- the record of what an end reports
+abbrev pub record_of : Train → CTrain
+record_of t = record {
+  to = record { byte = t.whole.to.0 };
+  kind = kind_number t.whole.kind;
+  length = t.whole.len;
+  position = t.whole.position;
+  count = t.whole.count;
+  header = t.header;
+  each = t.each;
+  segments = t.segments;
 }
 
 -- what is due as one segment, the length of its header and of the text of each segment but the last, and how many they are

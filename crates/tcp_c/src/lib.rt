@@ -144,6 +144,7 @@
 //! uint32_t tcp_c_connection_arrive(tcp_c_connection *handle, uint64_t now, const tcp_c_addr *src, const tcp_c_addr *dst, const uint8_t *bytes, size_t bytes_length, tcp_c_arrive_report *report);
 //! uint32_t tcp_c_connection_arrive_vouched(tcp_c_connection *handle, uint64_t now, const tcp_c_addr *src, const tcp_c_addr *dst, const uint8_t *bytes, size_t bytes_length, tcp_c_arrive_report *report);
 //! uint32_t tcp_c_connection_emit(tcp_c_connection *handle, uint64_t now, uint64_t window, uint8_t *out, size_t out_length, tcp_c_connection_segment *segment);
+//! uint32_t tcp_c_connection_emit_train(tcp_c_connection *handle, uint64_t now, uint64_t window, uint8_t *out, size_t out_length, size_t most, tcp_c_train_record *train);
 //! uint32_t tcp_c_connection_send(tcp_c_connection *handle, uint64_t now, const uint8_t *text, size_t text_length, size_t *taken);
 //! uint32_t tcp_c_connection_receive(tcp_c_connection *handle, uint64_t now, uint8_t *out, size_t out_length, size_t *count);
 //! uint32_t tcp_c_connection_peek(tcp_c_connection *handle, tcp_c_lent_record *lent);
@@ -206,57 +207,104 @@ mod trains;
 mod user;
 mod vouched;
 
-pub use answers::{
-    BAD_RULES, BAD_RUNS, DONE, EMIT_FIRST, END_OF_STREAM, IN_USE, LITTLE_ROOM, NO_END, NO_RULE,
-    NO_TIME_WAIT, NO_TIMER, NOT_TIME_WAIT, NOTHING_DUE, NOTHING_UNREAD, SEGMENT_DROPPED,
-    SEGMENT_NOT_MINE, WITHHELD,
-};
+pub use answers::BAD_RULES;
+pub use answers::BAD_RUNS;
+pub use answers::DONE;
+pub use answers::EMIT_FIRST;
+pub use answers::END_OF_STREAM;
+pub use answers::IN_USE;
+pub use answers::LITTLE_ROOM;
+pub use answers::NO_END;
+pub use answers::NO_RULE;
+pub use answers::NO_TIME_WAIT;
+pub use answers::NO_TIMER;
+pub use answers::NOT_TIME_WAIT;
+pub use answers::NOTHING_DUE;
+pub use answers::NOTHING_UNREAD;
+pub use answers::SEGMENT_DROPPED;
+pub use answers::SEGMENT_NOT_MINE;
+pub use answers::WITHHELD;
 pub use c_time_wait::MARK_OF_TIME_WAIT;
 pub use connection::driven::Driven;
-pub use connection::driven_handle::{DrivenHandle, MARK_OF_CONNECTION};
+pub use connection::driven_handle::DrivenHandle;
+pub use connection::driven_handle::MARK_OF_CONNECTION;
 pub use connection::driven_held::DrivenHeld;
-pub use connection::making::{
-    tcp_c_connection_connect, tcp_c_connection_free, tcp_c_connection_listen, tcp_c_connection_room,
-};
+pub use connection::making::tcp_c_connection_connect;
+pub use connection::making::tcp_c_connection_free;
+pub use connection::making::tcp_c_connection_listen;
+pub use connection::making::tcp_c_connection_room;
 pub use connection::rules::NEVER;
-pub use connection::segments::{
-    tcp_c_connection_arrive, tcp_c_connection_arrive_vouched, tcp_c_connection_emit,
-    tcp_c_connection_resend_first,
-};
-pub use connection::timing::{
-    tcp_c_connection_poll_at, tcp_c_connection_set_user_timeout, tcp_c_connection_tick,
-    tcp_c_connection_timeout,
-};
-pub use connection::user::{
-    tcp_c_connection_abort, tcp_c_connection_acknowledge, tcp_c_connection_close,
-    tcp_c_connection_consume, tcp_c_connection_peek, tcp_c_connection_peer,
-    tcp_c_connection_receive, tcp_c_connection_send, tcp_c_connection_status,
-};
-pub use emission::{tcp_c_emit, tcp_c_emit_acknowledgement, tcp_c_emit_partial};
-pub use handle::{Handle, MARK_OF_LIVE};
+pub use connection::segments::tcp_c_connection_arrive;
+pub use connection::segments::tcp_c_connection_arrive_vouched;
+pub use connection::segments::tcp_c_connection_emit;
+pub use connection::segments::tcp_c_connection_emit_train;
+pub use connection::segments::tcp_c_connection_resend_first;
+pub use connection::timing::tcp_c_connection_poll_at;
+pub use connection::timing::tcp_c_connection_set_user_timeout;
+pub use connection::timing::tcp_c_connection_tick;
+pub use connection::timing::tcp_c_connection_timeout;
+pub use connection::user::tcp_c_connection_abort;
+pub use connection::user::tcp_c_connection_acknowledge;
+pub use connection::user::tcp_c_connection_close;
+pub use connection::user::tcp_c_connection_consume;
+pub use connection::user::tcp_c_connection_peek;
+pub use connection::user::tcp_c_connection_peer;
+pub use connection::user::tcp_c_connection_receive;
+pub use connection::user::tcp_c_connection_send;
+pub use connection::user::tcp_c_connection_status;
+pub use emission::tcp_c_emit;
+pub use emission::tcp_c_emit_acknowledgement;
+pub use emission::tcp_c_emit_partial;
+pub use handle::Handle;
+pub use handle::MARK_OF_LIVE;
 pub use held::Held;
 pub use intake::tcp_c_arrive_by;
-pub use lending::{tcp_c_consume, tcp_c_peek};
-pub use making::{tcp_c_free, tcp_c_new};
+pub use lending::tcp_c_consume;
+pub use lending::tcp_c_peek;
+pub use making::tcp_c_free;
+pub use making::tcp_c_new;
 pub use pacing::tcp_c_resend_first;
-pub use parts::{tcp_c_parts, tcp_c_sent};
-pub use records::{
-    CAddr, CArriveReport, CConfig, CConnectionRules, CConnectionSegment, CIntake, CLent, CParts,
-    CStatus, CTimeWait, CTrain, CTransmit,
-};
-pub use reports::{tcp_c_arrive_with_report, tcp_c_next, tcp_c_transmit};
+pub use parts::tcp_c_parts;
+pub use parts::tcp_c_sent;
+pub use records::CAddr;
+pub use records::CArriveReport;
+pub use records::CConfig;
+pub use records::CConnectionRules;
+pub use records::CConnectionSegment;
+pub use records::CIntake;
+pub use records::CLent;
+pub use records::CParts;
+pub use records::CStatus;
+pub use records::CTimeWait;
+pub use records::CTrain;
+pub use records::CTransmit;
+pub use reports::tcp_c_arrive_with_report;
+pub use reports::tcp_c_next;
+pub use reports::tcp_c_transmit;
 pub use room::tcp_c_room;
 pub use runs::RUNS;
-pub use segments::{tcp_c_arrive, tcp_c_arrive_with_at_once, tcp_c_stray_reset};
-pub use status::{tcp_c_peer, tcp_c_pending, tcp_c_status};
-pub use time_wait_calls::{
-    tcp_c_time_wait, tcp_c_time_wait_abort, tcp_c_time_wait_arrive, tcp_c_time_wait_emit,
-    tcp_c_time_wait_pending, tcp_c_time_wait_status, tcp_c_time_wait_timer,
-};
-pub use timing::{tcp_c_timer, tcp_c_timers};
+pub use segments::tcp_c_arrive;
+pub use segments::tcp_c_arrive_with_at_once;
+pub use segments::tcp_c_stray_reset;
+pub use status::tcp_c_peer;
+pub use status::tcp_c_pending;
+pub use status::tcp_c_status;
+pub use time_wait_calls::tcp_c_time_wait;
+pub use time_wait_calls::tcp_c_time_wait_abort;
+pub use time_wait_calls::tcp_c_time_wait_arrive;
+pub use time_wait_calls::tcp_c_time_wait_emit;
+pub use time_wait_calls::tcp_c_time_wait_pending;
+pub use time_wait_calls::tcp_c_time_wait_status;
+pub use time_wait_calls::tcp_c_time_wait_timer;
+pub use timing::tcp_c_timer;
+pub use timing::tcp_c_timers;
 pub use trains::tcp_c_emit_train;
-pub use user::{
-    tcp_c_abort, tcp_c_acknowledge, tcp_c_close, tcp_c_connect, tcp_c_listen, tcp_c_receive,
-    tcp_c_send,
-};
-pub use vouched::{tcp_c_arrive_vouched, tcp_c_arrive_vouched_with_report};
+pub use user::tcp_c_abort;
+pub use user::tcp_c_acknowledge;
+pub use user::tcp_c_close;
+pub use user::tcp_c_connect;
+pub use user::tcp_c_listen;
+pub use user::tcp_c_receive;
+pub use user::tcp_c_send;
+pub use vouched::tcp_c_arrive_vouched;
+pub use vouched::tcp_c_arrive_vouched_with_report;

@@ -10,7 +10,7 @@ use crate::answers::{BAD_RUNS, DONE, IN_USE, NO_END};
 use crate::handle::Handle;
 use crate::loose::Loose;
 use crate::records::CConfig;
-use crate::runs::{RUN_SIZE, are_too_many, runs_of};
+use crate::runs::{HELD_SIZE, MARK_SIZE, are_too_many, runs_of};
 use region_heap::{Block, Region, Still};
 use tcp_conn::{Config, ConfigError, Endpoint};
 use tcp_sendq::MAX_RUNS;
@@ -62,8 +62,8 @@ pub(crate) fn end_in(
 {
     let (send, rest) = block.split(config.send_capacity);
     let (recv, rest) = rest.split(config.recv_capacity);
-    let (marks, rest) = rest.split(runs * RUN_SIZE);
-    let (held, rest) = rest.split(runs * RUN_SIZE);
+    let (marks, rest) = rest.split(runs * MARK_SIZE);
+    let (held, rest) = rest.split((runs + 1) * HELD_SIZE);
     match Endpoint::with_runs_of(
         Region::new(send),
         Region::new(recv),

@@ -39,7 +39,7 @@ pub struct CConfig {
     pub sack: u8,
     /// The most runs of bytes that are kept out of order (RFC 9293, 3.10.7.4), and the most runs of the peer's blocks that are remembered
     /// (RFC 2018, 5), from 1 to TCPCORE_MAX_RUNS; 0 is TCPCORE_RUNS. What would be one run more is dropped, and has to be sent again. A
-    /// path that reorders makes about one for each five segments that it carries in the time of its jitter. Each takes 16 bytes of the
+    /// path that reorders makes about one for each five segments that it carries in the time of its jitter. Each takes 24 bytes of the
     /// block.
     pub runs: u16,
 }

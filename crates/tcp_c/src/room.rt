@@ -4,7 +4,7 @@ ghost use Rattle.tcp_halves.specs.Config.{IsCapacity, HasGoodCapacities, HasBadC
 ghost use Rattle.tcp_c.specs.Configs.{config_of, room_beside, room_of, HasGoodRuns, HasBadRuns};
 
 use crate::records::CConfig;
-use crate::runs::{RUN_SIZE, are_too_many, runs_of};
+use crate::runs::{HELD_SIZE, MARK_SIZE, are_too_many, runs_of};
 use region_heap::UNIT;
 use tcp_sendq::MAX_CAPACITY;
 
@@ -30,8 +30,9 @@ pub(crate) fn room_beside(config: &CConfig, size: usize) -> usize
     if !is_capacity(send) || !is_capacity(recv) || are_too_many(config) {
         return 0;
     }
-    let table = (runs_of(config) * RUN_SIZE).next_multiple_of(UNIT);
-    send.next_multiple_of(UNIT) + recv.next_multiple_of(UNIT) + 2 * table + size
+    let marks = (runs_of(config) * MARK_SIZE).next_multiple_of(UNIT);
+    let held = ((runs_of(config) + 1) * HELD_SIZE).next_multiple_of(UNIT);
+    send.next_multiple_of(UNIT) + recv.next_multiple_of(UNIT) + marks + held + size
 }
 
 /// The least size of a block for an end with this config, in bytes; 0 where a capacity isn't from 1 to 1,048,576, or the number of

@@ -9,8 +9,11 @@ use tcp_sendq::MAX_RUNS;
 /// The number of runs where C's record has 0.
 pub const RUNS: usize = 128;
 
-/// What a run takes in each of the two tables, in bytes.
-pub(crate) const RUN_SIZE: usize = 8;
+/// What a run takes in the table of the marks, in bytes.
+pub(crate) const MARK_SIZE: usize = 8;
+
+/// What a run takes in the table of those that are held, in bytes. Its ends take as much as another run.
+pub(crate) const HELD_SIZE: usize = 16;
 
 /// The number of runs of C's record.
 pub(crate) fn runs_of(config: &CConfig) -> usize

@@ -2,9 +2,8 @@
 ghost use Rattle.std.specs.Prelude.{◌≡◌, length, option_map};
 ghost use Rattle.tcp_conn.specs.declared.emit.transmit.TheConstants.{EMIT_ROOM};
 ghost use Rattle.tcp_c.specs.Answers.{answer_of};
-ghost use Rattle.tcp_c.specs.Reports.{kind_number};
 ghost use Rattle.tcp_c.specs.Segments.{emission_number};
-ghost use Rattle.tcp_c.specs.Trains.{after_train_within, no_train, train_buffer, train_told};
+ghost use Rattle.tcp_c.specs.Trains.{after_train_within, no_train, record_of, train_buffer, train_told};
 
 use crate::answers::{DONE, LITTLE_ROOM, NO_END, NOTHING_DUE};
 use crate::handle::Handle;
@@ -14,7 +13,7 @@ use tcp_conn::{EMIT_ROOM, Train};
 use tcp_wire::Addr;
 
 /// A report of no segments: all zero.
-fn no_train() -> CTrain
+pub(crate) fn no_train() -> CTrain
     ensures { result ≡ no_train }
 {
     CTrain {
@@ -30,15 +29,8 @@ fn no_train() -> CTrain
 }
 
 /// The record of segments as one.
-fn record_of(train: Train) -> CTrain
-    ensures to { result.to.byte ≡ train.whole.to.0 }
-    ensures kind { result.kind ≡ kind_number train.whole.kind }
-    ensures len { result.length ≡ train.whole.len }
-    ensures position { result.position ≡ train.whole.position }
-    ensures count { result.count ≡ train.whole.count }
-    ensures header { result.header ≡ train.header }
-    ensures each { result.each ≡ train.each }
-    ensures segments { result.segments ≡ train.segments }
+pub(crate) fn record_of(train: Train) -> CTrain
+    ensures { result ≡ record_of train }
 {
     let whole = train.whole;
     let Addr(byte) = whole.to;

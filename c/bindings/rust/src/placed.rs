@@ -19,8 +19,9 @@ pub const fn memory(send: usize, receive: usize) -> usize {
 /// assert_eq!(memory_with_runs(1000, 1000, MAX_RUNS), Config::new([10, 0, 0, 1], 80, 1).capacities(1000, 1000).runs(MAX_RUNS).room());
 /// ```
 pub const fn memory_with_runs(send: usize, receive: usize, runs: u16) -> usize {
-    let table = in_units(runs as usize * sys::RUN_SIZE);
-    in_units(send) + in_units(receive) + 2 * table + sys::END_SIZE + sys::UNIT - 1 + sys::STRUCT_ROOM
+    let marks = in_units(runs as usize * sys::MARK_SIZE);
+    let held = (runs as usize + 1) * sys::HELD_SIZE;
+    in_units(send) + in_units(receive) + marks + held + sys::END_SIZE + sys::UNIT - 1 + sys::STRUCT_ROOM
 }
 
 /// So many bytes in whole units.

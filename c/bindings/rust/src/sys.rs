@@ -2,10 +2,11 @@
 use core::ffi::c_void;
 use core::ptr;
 
-pub(crate) const VERSION: u32 = 13;
+pub(crate) const VERSION: u32 = 15;
 pub(crate) const END_SIZE: usize = 416;
 pub(crate) const CONNECTION_SIZE: usize = 720;
-pub(crate) const RUN_SIZE: usize = 8;
+pub(crate) const MARK_SIZE: usize = 8;
+pub(crate) const HELD_SIZE: usize = 16;
 pub(crate) const UNIT: usize = 16;
 pub(crate) const STRUCT_ROOM: usize = 32;
 
@@ -306,6 +307,15 @@ extern "C" {
         out: *mut c_void,
         room: usize,
         segment: *mut ConnectionSegment,
+    ) -> u32;
+    pub fn tcpcore_connection_emit_train(
+        connection: *mut Connection,
+        now: u64,
+        window: u64,
+        out: *mut c_void,
+        room: usize,
+        most: usize,
+        train: *mut Train,
     ) -> u32;
     pub fn tcpcore_connection_send(connection: *mut Connection, now: u64, text: *const c_void, length: usize, taken: *mut usize) -> u32;
     pub fn tcpcore_connection_receive(connection: *mut Connection, now: u64, out: *mut c_void, room: usize, count: *mut usize) -> u32;

@@ -2,7 +2,8 @@
 use crate::reports::Transmit;
 use crate::{sys, End, EMIT_ROOM};
 
-/// The most bytes that [`End::emit_train`] uses: the length of the longest segment in an IPv4 packet.
+/// The most bytes that [`End::emit_train`] and [`Connection::poll_transmit_train`](crate::Connection::poll_transmit_train) use: the length of
+/// the longest segment in an IPv4 packet.
 pub const TRAIN_ROOM: usize = 65_515;
 
 /// Segments that were written as one, which a device cuts: segment i, from 0 on, has the `each` bytes of its text from i * each on, and
@@ -17,6 +18,12 @@ pub struct Train {
     pub each: usize,
     /// How many segments it is; 1 where there is nothing to cut.
     pub segments: usize,
+}
+
+impl Train {
+    pub(crate) fn of(told: &sys::Train, whole: Transmit) -> Train {
+        Train { whole, header: told.header as usize, each: told.each as usize, segments: told.segments as usize }
+    }
 }
 
 impl End {
@@ -60,8 +67,7 @@ impl End {
         let mut told = sys::Train::default();
         // SAFETY: as of the calls of lib.rs.
         let answer = unsafe { sys::tcpcore_emit_train(&mut self.raw, room.as_mut_ptr().cast(), room.len(), most, &mut told) };
-        let whole = Transmit::of(answer, &told.whole)?;
-        let (header, each, segments) = (told.header as usize, told.each as usize, told.segments as usize);
-        Some((Train { whole, header, each, segments }, &room[..whole.length]))
+        let train = Train::of(&told, Transmit::of(answer, &told.whole)?);
+        Some((train, &room[..train.whole.length]))
     }
 }

@@ -1,4 +1,4 @@
-/* The calls that make an end as a program of version 10 calls them: what lies where `runs` is now was padding, and the end has 16 runs. */
+/* The calls that make an end as a program of version 10 calls them: what lies where `runs` is now was padding, and the end has 11 runs. */
 #include "tcpcore.h"
 
 #include <stdio.h>
@@ -7,7 +7,7 @@ __asm__(".symver tcpcore_new, tcpcore_new@TCPCORE_4");
 __asm__(".symver tcpcore_new_at, tcpcore_new_at@TCPCORE_6");
 __asm__(".symver tcpcore_room, tcpcore_room@TCPCORE_4");
 
-enum { ROOM = TCPCORE_MEMORY_RUNS(1000, 1000, 16) };
+enum { ROOM = TCPCORE_MEMORY_RUNS(1000, 1000, 11) };
 
 static _Alignas(16) unsigned char block[ROOM + TCPCORE_STRUCT_ROOM];
 

@@ -4,6 +4,7 @@ ghost use Rattle.tcp_conn.specs.Timers.{after_resend_first};
 ghost use Rattle.tcp_driver.specs.Driver.{after_arrival, at, way_of};
 ghost use Rattle.tcp_end.specs.Wired.{machine};
 ghost use Rattle.tcp_c.specs.Answers.{answer_of};
+ghost use Rattle.tcp_c.specs.ConnectionTrains.{after_train, train_number, train_reported, train_written};
 ghost use Rattle.tcp_c.specs.Connections.{arrival_told, emission_told, emitted_within, end_of, no_segment, report_told, segment_reported, segment_told, sent_number, taken_by, taken_report, used, written_within};
 ghost use Rattle.tcp_c.specs.Pacing.{resend_number};
 
@@ -11,8 +12,9 @@ use crate::answers::{
     DONE, EMIT_FIRST, LITTLE_ROOM, NO_END, NO_RULE, NOTHING_DUE, WITHHELD, arrival_number,
 };
 use crate::connection::driven_handle::DrivenHandle;
-use crate::records::{CAddr, CArriveReport, CConnectionSegment};
+use crate::records::{CAddr, CArriveReport, CConnectionSegment, CTrain};
 use crate::reports::{no_arrive_report, report_arrival};
+use crate::trains::{no_train, record_of};
 use tcp_conn::EMIT_ROOM;
 use tcp_driver::{Sent, Taken};
 
@@ -49,9 +51,8 @@ pub extern "C" fn tcp_c_connection_arrive(
         *report = no_arrive_report();
         return NO_END;
     };
-    let taken = driven.end.arrive(now, src.byte, dst.byte, bytes);
+    let (answer, found) = arrival_told(driven.end.arrive(now, src.byte, dst.byte, bytes));
     handle.put(driven);
-    let (answer, found) = arrival_told(taken);
     *report = found;
     answer
 }
@@ -75,9 +76,8 @@ pub extern "C" fn tcp_c_connection_arrive_vouched(
         *report = no_arrive_report();
         return NO_END;
     };
-    let taken = driven.end.arrive_vouched(now, src.byte, dst.byte, bytes);
+    let (answer, found) = arrival_told(driven.end.arrive_vouched(now, src.byte, dst.byte, bytes));
     handle.put(driven);
-    let (answer, found) = arrival_told(taken);
     *report = found;
     answer
 }
@@ -144,6 +144,42 @@ pub extern "C" fn tcp_c_connection_emit(
     let (answer, found) = emission_told(sent);
     *segment = found;
     answer
+}
+
+/// Writes the segments that may go out at `now` as one, for a device that cuts them and computes their checksums, as
+/// [`tcp_c_emit_train`](crate::tcp_c_emit_train) does: as many of new text as end within `window`, at most `most`, that `out` has room
+/// for; anything else goes alone, as [`tcp_c_connection_emit`](crate::tcp_c_connection_emit) has it, with the sum of the
+/// pseudo-header in its checksum field. The connection is as after as many calls of that, each at `now`. 33 where `out` has less than
+/// [`EMIT_ROOM`] bytes: then nothing changes. 53 where none goes out.
+#[unsafe(no_mangle)]
+pub extern "C" fn tcp_c_connection_emit_train(
+    handle: &mut DrivenHandle,
+    now: u64,
+    window: u64,
+    out: &mut [u8],
+    most: usize,
+    train: &mut CTrain,
+) -> u32
+    ensures answer { result ≡ answer_of (train_number window most (length out.old)) handle.old.held.end }
+    ensures bytes { out.new ≡ train_written window most out.old handle.old.held.end }
+    ensures train { train.new ≡ train_reported window most (length out.old) handle.old.held.end }
+    ensures state { handle.new.held.end ≡ option_map (after_train now window most (length out.old)) handle.old.held.end }
+{
+    *train = no_train();
+    let Some(mut driven) = handle.take() else {
+        return NO_END;
+    };
+    if out.len() < EMIT_ROOM {
+        handle.put(driven);
+        return LITTLE_ROOM;
+    }
+    let sent = driven.end.emit_train(now, window, out, most);
+    handle.put(driven);
+    let Some(sent) = sent else {
+        return NOTHING_DUE;
+    };
+    *train = record_of(sent);
+    DONE
 }
 
 /// Of what is in flight, as much as one segment carries must be sent again at once, as of

@@ -95,8 +95,7 @@ pub extern "C" fn tcp_c_connection_tick(
     let Some(mut driven) = handle.take() else {
         return NO_END;
     };
-    let found = driven.end.timeout(now);
-    let soonest = driven.end.poll_at();
+    let (found, soonest) = driven.end.tick(now);
     handle.put(driven);
     *next = time_number(soonest);
     let Some(found) = found else {

@@ -1,6 +1,7 @@
 //! An end that keeps its own times.
 mod making;
 mod rules;
+mod train;
 
 pub use making::{connection_memory, connection_memory_with_runs};
 pub(crate) use rules::reach_of;

@@ -1,5 +1,8 @@
 //! Connections over a simulated link, driven by their own times alone; what is refused; calls in any order. The expected times are those
 //! of RFC 6298 and RFC 9293.
+mod link;
+
+use link::carries;
 use std::mem::MaybeUninit;
 use std::time::Duration;
 use tcpcore::*;
@@ -68,94 +71,6 @@ fn established(now: Time) -> [Connection<'static>; 2] {
 /// A side's text from one place to another.
 fn text(side: usize, places: std::ops::Range<usize>) -> Vec<u8> {
     places.map(|i| (i * 7 + (i >> 8) + side * 3) as u8).collect()
-}
-
-/// A link that delays each segment, by any time of some milliseconds more, and loses some of a hundred.
-struct Link {
-    any: Any,
-    jitter: u64,
-    loss: u64,
-    on_the_way: Vec<(Time, usize, Vec<u8>)>,
-    now: Time,
-    expired: Vec<(Time, usize, Expired)>,
-}
-
-impl Link {
-    fn emit(&mut self, ends: &mut [Connection; 2], side: usize) {
-        for bytes in emitted(&mut ends[side], self.now) {
-            let at = self.now + Duration::from_millis(20 + self.any.below(self.jitter + 1));
-            if self.any.below(100) >= self.loss {
-                self.on_the_way.push((at, 1 - side, bytes));
-            }
-        }
-    }
-
-    /// What has come is handed in, and both sides keep their times. Answers whether anything more will happen.
-    fn turn(&mut self, ends: &mut [Connection; 2]) -> bool {
-        for side in [0, 1] {
-            self.emit(ends, side);
-        }
-        let arrivals = self.on_the_way.iter().map(|it| it.0);
-        let next = match arrivals.chain(ends.iter().filter_map(|it| it.poll_timeout())).min() {
-            Some(next) => next,
-            None => return false,
-        };
-        self.now = self.now.max(next);
-        let (come, left) = std::mem::take(&mut self.on_the_way).into_iter().partition(|it| it.0 <= self.now);
-        self.on_the_way = left;
-        let come: Vec<(Time, usize, Vec<u8>)> = come;
-        for (_, side, bytes) in come {
-            hand_in(&mut ends[side], side, self.now, &[bytes]);
-        }
-        for side in [0, 1] {
-            self.expired.extend(ends[side].handle_timeout(self.now).map(|it| (self.now, side, it)));
-        }
-        true
-    }
-}
-
-/// A side's user sends its text, closes, and reads.
-struct User {
-    left: Vec<u8>,
-    got: Vec<u8>,
-    is_closed: bool,
-}
-
-impl User {
-    fn act(&mut self, it: &mut Connection, now: Time) {
-        let taken = it.send(now, &self.left).unwrap_or(0);
-        self.left.drain(..taken);
-        if self.left.is_empty() && !self.is_closed {
-            it.close(now).unwrap();
-            self.is_closed = true;
-        }
-        let mut out = [0; 3000];
-        while let Ok(Received::Bytes(count)) = it.receive(now, &mut out) {
-            self.got.extend(&out[..count]);
-        }
-    }
-}
-
-/// Carries a text each way to the end of both connections; answers the link as it was then.
-fn carries(jitter: u64, loss: u64) -> Link {
-    // Not whole windows: a FIN behind a full one finds it shut, and waits for a timer.
-    const LENGTH: usize = 125_000;
-    let now = seconds(1000);
-    let mut link = Link { any: Any(88_172_645_463_325_252), jitter, loss, on_the_way: vec![], now, expired: vec![] };
-    let mut ends = pair(&Rules::new(), now);
-    let mut users = [0, 1].map(|side| User { left: text(side, 0..LENGTH), got: vec![], is_closed: false });
-    while link.turn(&mut ends) {
-        for (user, end) in users.iter_mut().zip(&mut ends) {
-            if end.status().agreed.is_some() && !end.is_closed() {
-                user.act(end, link.now);
-            }
-        }
-    }
-    for side in [0, 1] {
-        assert!(users[side].got == text(1 - side, 0..LENGTH), "{} of {LENGTH} bytes", users[side].got.len());
-        assert_eq!((ends[side].status().ending, ends[side].is_closed()), (Ending::Orderly, true));
-    }
-    link
 }
 
 /// Nothing expires but TIME-WAIT, 4 minutes after the last segment, and all comes in the round trips that it takes: 125,000 bytes at
@@ -357,6 +272,41 @@ fn a_window_holds_back() {
     assert_eq!(ends[0].poll_transmit(now, &mut room), None);
 }
 
+/// Of two pairs of connections one's segments go out as one, for a device that cuts them and sums: the same text, and the same states and
+/// times. Four of 1,460 bytes end within a window of 6,000, and one more within 7,300.
+#[test]
+fn segments_go_out_as_one() {
+    let now = seconds(5);
+    let (mut one, mut other) = (established(now), established(now));
+    let sent = text(0, 0..8000);
+    for ends in [&mut one, &mut other] {
+        assert_eq!(ends[0].send(now, &sent), Ok(8000));
+    }
+    let (mut small, mut room) = ([0; EMIT_ROOM], [0; TRAIN_ROOM]);
+    for (window, most, from, segments) in [(6000, 64, 0, 4), (7300, 64, 5840, 1)] {
+        let (train, whole) = other[0].poll_transmit_train(now, window, &mut room, most).unwrap();
+        assert_eq!((train.whole.to, train.whole.kind, train.whole.position), (ADDRS[1], Kind::NewText, 1 + from as u64));
+        assert_eq!((train.whole.count, train.header, train.each, train.segments), (1460 * segments, 20, 1460, segments));
+        assert_eq!((whole.len(), &whole[20..]), (train.whole.length, &sent[from..from + 1460 * segments]));
+        for piece in whole[20..].chunks(train.each) {
+            let segment = one[0].poll_transmit_within(now, window, &mut small).unwrap();
+            assert_eq!(&segment.bytes[20..], piece);
+            hand_in(&mut one[1], 1, now, &[segment.bytes.to_vec()]);
+        }
+        assert!(other[1].handle_vouched_segment(now, ADDRS[0], ADDRS[1], whole).unwrap().acked == 0);
+        assert_eq!(one[0].poll_transmit_within(now, window, &mut small), None);
+        assert_eq!(other[0].poll_transmit_train(now, window, &mut room, most), None);
+        assert_eq!((one[0].status(), one[0].poll_timeout()), (other[0].status(), other[0].poll_timeout()));
+        assert_eq!(one[1].status(), other[1].status());
+    }
+    // The acknowledgement goes alone, with the sum of the pseudo-header, which is another than that of all.
+    let (train, alone) = other[1].poll_transmit_train(now, u64::MAX, &mut room, 64).unwrap();
+    let whole = one[1].poll_transmit(now, &mut small).unwrap();
+    assert_eq!((train.whole.kind, train.segments, train.each), (Kind::Acknowledgement, 1, 0));
+    assert_eq!((&alone[..16], alone.len()), (&whole.bytes[..16], 20));
+    assert_ne!(alone[16..18], whole.bytes[16..18]);
+}
+
 /// A reset in TIME-WAIT counts as lost (RFC 1337, 3).
 #[test]
 fn resets_are_withheld() {
@@ -477,7 +427,7 @@ fn any_calls_at_any_times() {
     for seed in 1..=calls / 3000 {
         let mut any = Any(seed * 7_919);
         let mut ends = pair(&Rules::new().user(Some(SECOND)), Time::ZERO);
-        let (mut seen, mut room, mut out) = (vec![], [0; EMIT_ROOM], [0; 700]);
+        let (mut seen, mut room, mut large, mut out) = (vec![], [0; EMIT_ROOM], [0; TRAIN_ROOM], [0; 700]);
         let (mut given, mut read) = ([0, 0], [0, 0]);
         for _ in 0..3000 {
             let side = any.below(2) as usize;
@@ -486,6 +436,12 @@ fn any_calls_at_any_times() {
                 n => Time::from_micros(any.below(n * 1_000_000)),
             };
             match any.below(12) {
+                0 if any.below(4) == 0 => {
+                    let (window, most) = (any.below(30_000), any.below(9) as usize);
+                    if let Some((train, whole)) = ends[side].poll_transmit_train(now, window, &mut large, most) {
+                        assert!(train.segments >= 1 && train.segments <= most.max(1) && whole.len() == train.header + train.whole.count);
+                    }
+                }
                 0..=3 => {
                     seen.extend(ends[side].poll_transmit_within(now, any.below(30_000), &mut room).map(|it| (side, it.bytes.to_vec())))
                 }
