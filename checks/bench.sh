@@ -28,7 +28,7 @@ LIST
 proved() {
     local crate=$1 program=crates/$1/out/$1
     shift
-    if [[ ! -x $program || -n $(find crates -name '*.rt' -newer "$program" -print -quit) ]]; then
+    if [[ ! -x $program || -n $(find crates -path '*/out' -prune -o -name '*.rt' -newer "$program" -print -quit) ]]; then
         (cd "crates/$crate" && rt run -- "$@") >"$work/log" 2>&1 || { tail -n 20 "$work/log"; echo "bench: $crate isn't built"; exit 1; }
     fi
     cp "$program" "$work/"

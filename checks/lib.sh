@@ -5,6 +5,8 @@
 # script's last line has the count, and where LEFT_OUT_FILE names a file a line is appended to it for each.
 
 left_out=0
+# Held by the one script that installs: others run beside it.
+installs=${TMPDIR:-/tmp}/tcpcore-installs.lock
 
 # This part of the tests can't run without the words' thing.
 leave_out() {
@@ -29,12 +31,15 @@ count_left_out() {
     if [[ -e ${LEFT_OUT_FILE-} ]]; then wc -l <"$LEFT_OUT_FILE"; else echo 0; fi
 }
 
+# Waits for a script that installs, so that nothing is looked for that is there in part.
+installed() { flock --shared "$installs" true 2>/dev/null || true; }
+
 # Installs packages of Debian, at the second or third try where the network fails.
 install_packages() {
-    local turn
+    local turn words='apt-get update && DEBIAN_FRONTEND=noninteractive apt-get install -y --no-install-recommends "$@"'
     echo "$test: installs $* (apt-get)"
     for turn in 1 2 3; do
-        if { apt-get update && DEBIAN_FRONTEND=noninteractive apt-get install -y --no-install-recommends "$@"; } >/dev/null 2>&1; then return; fi
+        if flock "$installs" sh -c "$words" install "$@" >/dev/null 2>&1; then return; fi
         sleep $((5 * turn))
     done
     return 1
@@ -44,6 +49,7 @@ install_packages() {
 has() {
     local package=$1
     shift
+    installed
     "$@" >/dev/null 2>&1 && return
     install_packages "$package" || true
     "$@" >/dev/null 2>&1 && return
@@ -54,6 +60,7 @@ has() {
 # Of lines "COMMAND PACKAGE" on its input, installs the packages of the commands that this machine lacks.
 install_commands() {
     local command package packages=()
+    installed
     while read -r command package; do
         command -v "$command" >/dev/null || packages+=("$package")
     done

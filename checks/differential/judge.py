@@ -12,17 +12,22 @@ import sys
 from end import ACK, FIN, HALF, RST, SPACE, SYN
 from program import word_sum
 
-MSS, SHIFT, PERMITTED, BLOCKS = 2, 3, 4, 5
-SIZES = {MSS: [2], SHIFT: [1], PERMITTED: [0], BLOCKS: [8, 16, 24, 32]}
+MSS, SHIFT, PERMITTED, BLOCKS, FAST_OPEN = 2, 3, 4, 5, 34
+# Its option, and those of experiments, as it was before (RFC 6994).
+MAY_OPEN_FAST = {FAST_OPEN, 253, 254}
+# How long the body of each is, where that is one of a few.
+SIZES = {MSS: [2], SHIFT: [1], PERMITTED: [0], BLOCKS: [8, 16, 24, 32], FAST_OPEN: range(39), 253: range(39), 254: range(39)}
 OF_SYNS = {MSS, SHIFT, PERMITTED}
 # What a SYN with options that can't be read counts as having.
-ANY_OFFER = [(SHIFT, bytes(1)), (PERMITTED, b"")]
+ANY_OFFER = [(SHIFT, bytes([14])), (PERMITTED, b""), (FAST_OPEN, b"")]
+# Where more segments want a reset than these, none is judged.
+MOST_ANSWERS = 1024
 # The rule that damage on the path breaks too.
 WRONG_SUM = "the checksum is wrong"
-# Rules that hold a segment against what came.
-AGAINST_CAME = ("AckBeyond", "AckBack", "Unoffered", "Unpermitted", "BlockBeyond")
+# Rules that want a log of which nothing is missing.
+OF_WHOLE_LOGS = ("BeforeAck", "AfterReset", "Gap", "BehindNext", "BeyondWindow", "StrayReset", "AckBeyond", "AckBack", "Unoffered", "Unpermitted", "BlockBeyond")
 
-UNJUDGED = "note: acknowledgements and blocks aren't judged, as what came may be missing\n"
+UNJUDGED = "note: order, acknowledgements and blocks aren't judged, as segments may be missing\n"
 
 
 class Malformed(Exception):
@@ -61,8 +66,10 @@ class Seen:
         end = 4 * (data[12] >> 4)
         if not 20 <= end <= len(data):
             raise Malformed("the data offset is wrong")
+        self.ports = struct.unpack(">HH", data[:4])
         self.seq, self.ack = struct.unpack(">II", data[4:12])
         self.flags, self.text = data[13], data[end:]
+        self.window = int.from_bytes(data[14:16], "big")
         try:
             self.options, self.fault = options_of(data, end), None
         except Malformed as fault:
@@ -84,9 +91,19 @@ class Judge:
         self.send_nothing()
         # whether the end's SYN was acknowledged, and whether a reset came
         self.is_acked = self.is_reset = False
+        # whether a SYN had the option of TCP Fast Open, or text (RFC 7413)
+        self.is_fast = False
+        # whether the end reset the connection
+        self.is_ended = False
         self.segments, self.syns, self.offered = [], [], set()
         # the acknowledgement that went, the furthest one
         self.told = None
+        # the ports of the last SYN that went, unless a reset came behind it
+        self.ports = None
+        # the furthest position that was acknowledged; the greatest window in bytes, and the greatest shift
+        self.acked, self.window, self.shift = 0, 0, 0
+        # the number of each reset that answers what came, and what it acknowledges; and how many segments want one
+        self.answers, self.unanswered = set(), 0
 
     def send_nothing(self):
         """No SYN, no byte and no FIN went."""
@@ -107,17 +124,57 @@ class Judge:
         """SND.NXT as a position, as far as it is known."""
         return self.last() + 1 + (self.fin is not None)
 
+    def opens_fast(self, seen):
+        return seen.has(SYN) and not seen.has(RST) and (not seen.kinds.isdisjoint(MAY_OPEN_FAST) or len(seen.text) > 0)
+
     def came(self, seen):
+        if self.ports not in (None, seen.ports[::-1]):
+            return
+        self.await_reset(seen)
+        self.widen(seen)
         if seen.has(RST) and not self.is_acked:
             self.send_nothing()
         elif self.initial is not None and seen.has(ACK) and not seen.has(RST):
             self.release(self.nearest(seen.ack, self.initial))
+        self.is_reset |= seen.has(RST)
+        if seen.has(RST):
+            self.ports = None
+        else:
+            self.hear(seen)
+
+    def is_own(self, number):
+        """Whether a number is from the initial one up to SND.NXT."""
+        return (number - self.initial) % SPACE <= self.next()
+
+    def await_reset(self, seen):
+        """Keeps the reset that answers a segment, unless this is one itself or acknowledges an own number (RFC 9293, 3.5.2)."""
+        if self.initial is None or seen.has(RST):
+            return
+        if not seen.has(ACK):
+            self.answers.add((0, (seen.seq + seen.numbers()) % SPACE))
+            self.unanswered += 1
+        elif not self.is_own(seen.ack):
+            self.answers.add((seen.ack, None))
+            self.unanswered += 1
+
+    def widen(self, seen):
+        """What a segment allows of the stream (RFC 9293, 3.8.6). The window of a SYN isn't scaled (RFC 7323, 2.2)."""
+        if seen.has(RST):
+            return
+        if seen.has(ACK) and self.initial is not None and (position := self.nearest(seen.ack, self.initial)) <= self.next():
+            self.acked = max(self.acked, position)
+        self.window = max(self.window, seen.window if seen.has(SYN) else seen.window << min(14, self.shift))
+        if seen.has(SYN):
+            self.shift = max([self.shift, *(body[0] for kind, body in seen.options if kind == SHIFT)])
+
+    def hear(self, seen):
+        """What came with a segment that is no reset."""
         self.segments.append({(seen.seq + i) % SPACE for i in range(seen.numbers())})
         if seen.has(SYN):
             self.offered |= seen.kinds
             if self.told is None or self.is_reset:
                 self.syns.append(seen.seq)
-        self.is_reset |= seen.has(RST)
+        self.is_fast |= self.opens_fast(seen)
 
     def release(self, position):
         """Forgets the bytes before the position that is acknowledged, unless that is beyond all that went."""
@@ -131,7 +188,9 @@ class Judge:
     def went(self, seen):
         """The first rule that is broken, as (name, words), or None. The segment is known from then on."""
         place = self.place(seen)
-        rules = self.form, self.initial_number, self.not_before_first, self.bytes_stay, self.fin_stays, self.acknowledgement, self.answer, self.permission, self.blocks
+        positions = self.initial_number, self.not_before_first, self.bytes_stay, self.fin_stays
+        order = () if self.is_reset else (self.not_before_ack, self.not_after_reset, self.no_gap, self.not_ahead, self.in_window, self.not_stray)
+        rules = self.form, *positions, self.acknowledgement, self.answer, self.permission, self.blocks, *order
         found = next((broken for rule in rules if (broken := rule(seen, place))), None)
         self.learn(seen, place)
         return found
@@ -150,6 +209,11 @@ class Judge:
         return place if place > 0 else None
 
     def learn(self, seen, place):
+        is_here = self.ports in (None, seen.ports)
+        if seen.has(RST) and self.is_acked and self.initial is not None and is_here and seen.seq == (self.initial + self.next()) % SPACE:
+            self.is_ended = True
+        if seen.has(SYN) and not seen.has(RST):
+            self.is_ended, self.ports = False, seen.ports
         if self.initial is None and seen.has(SYN) and not seen.has(RST):
             self.initial = seen.seq
         if place is not None and place <= self.last() + 1 and not self.keeps_alive(seen, place):
@@ -158,6 +222,7 @@ class Judge:
                     self.stream.setdefault(position, byte)
         if place is not None and seen.has(FIN):
             self.fin = place + len(seen.text)
+        self.is_fast |= self.opens_fast(seen)
         if self.goes_further(seen):
             self.told, self.syns = seen.ack, []
             self.segments = [numbers for numbers in self.segments if not all(is_before(number, seen.ack) for number in numbers)]
@@ -219,6 +284,41 @@ class Judge:
             fin = self.fin
             is_broken = (len(seen.text) > 0 and end > fin) or (seen.has(FIN) and end != fin)
         return ("BeyondFin", f"text or FIN up to position {end}, and the FIN at {fin} (RFC 9293, 3.4)") if is_broken else None
+
+    def not_before_ack(self, seen, place):
+        if place is None or self.is_acked or self.is_fast or seen.has(SYN) or not seen.text:
+            return None
+        return "BeforeAck", f"text before the SYN is acknowledged, at {seen.seq} (RFC 9293, 3.10.2)"
+
+    def not_after_reset(self, seen, place):
+        if place is None or not self.is_ended or not (seen.text or seen.has(FIN)):
+            return None
+        return "AfterReset", f"text or FIN after the end's own reset, at {seen.seq} (RFC 9293, 3.10.5)"
+
+    def no_gap(self, seen, place):
+        if place is None or place <= self.next() or not (seen.text or seen.has(FIN)):
+            return None
+        return "Gap", f"text or FIN behind a gap in what was sent, at {seen.seq} (RFC 9293, 3.4)"
+
+    def not_ahead(self, seen, place):
+        if place is None or place <= self.next() or seen.numbers():
+            return None
+        return "BehindNext", f"a segment without text behind all that was sent, at {seen.seq} (RFC 9293, 3.10.7.4)"
+
+    def in_window(self, seen, place):
+        if place is None or not seen.text or seen.has(SYN) or 0 in (self.acked, self.window):
+            return None
+        if place + len(seen.text) <= self.acked + self.window:
+            return None
+        return "BeyondWindow", f"text beyond the window, at {seen.seq} (RFC 9293, 3.8.6)"
+
+    def not_stray(self, seen, place):
+        is_elsewhere = self.ports not in (None, seen.ports) or self.unanswered > MOST_ANSWERS
+        if not seen.has(RST) or self.initial is None or is_elsewhere or self.is_own(seen.seq) or (seen.seq, None) in self.answers:
+            return None
+        if seen.has(ACK) and (seen.seq, seen.ack) in self.answers:
+            return None
+        return "StrayReset", f"a reset at {seen.seq}, which was neither sent nor acknowledged (RFC 9293, 3.5.2)"
 
     def acknowledgement(self, seen, place):
         if not seen.has(ACK) or seen.has(RST):
@@ -290,7 +390,7 @@ def judged(lines, is_complete=True):
         broken = broken_by(judge, word, octets(source), octets(target), data)
         if broken and not is_complete and WRONG_SUM in broken[1]:
             notes.append(number)
-        elif broken and (is_complete or broken[0] not in AGAINST_CAME):
+        elif broken and (is_complete or broken[0] not in OF_WHOLE_LOGS):
             found.append((number, *broken))
     return found, notes, count, sent
 

@@ -8,36 +8,45 @@ HIGH = 2**40
 
 
 class Reno:
-    """RFC 5681, 3 and 4.1, with RFC 6582, 3.2, RFC 3042 and RFC 6928, by the names of these."""
+    """RFC 5681, 3 and 4, with RFC 6582, 3.2, RFC 3042, RFC 3465, RFC 6928, by the names of these."""
 
-    def __init__(self, smss):
-        self.smss = smss
+    def __init__(self, smss, limit=1):
+        self.smss, self.limit = smss, limit
         self.cwnd = self.iw = min(10 * smss, max(2 * smss, 14600))
         self.ssthresh = HIGH
         self.recover = 0
-        self.fast_recovery = self.resent_by_timer = False
+        self.fast_recovery = self.resent_by_timer = self.lost_before = False
         self.dupacks = self.bytes_acked = 0
         self.pipe = 0
 
-    def grow(self, acked, before):
-        if Fraction(before, self.cwnd) < Fraction(1, 2):
-            return
+    def slow_start(self, acked):
+        # RFC 3465, 2.2 and 2.3: L is for the first slow start, before any loss.
+        self.cwnd = min(HIGH, self.cwnd + min(acked, self.smss if self.lost_before else self.limit * self.smss))
+
+    def grow(self, acked, now, rtt):
         if self.cwnd < self.ssthresh:
-            self.cwnd = min(HIGH, self.cwnd + min(acked, self.smss))
+            self.slow_start(acked)
             return
         self.bytes_acked += min(acked, self.cwnd)
         if self.bytes_acked >= self.cwnd:
             self.bytes_acked -= self.cwnd
             self.cwnd = min(HIGH, self.cwnd + self.smss)
 
-    def equation_4(self, flight):
-        return max(min(flight, self.cwnd) // 2, 2 * self.smss)
+    def unused(self, now):
+        pass
 
-    def acknowledged(self, acked, una, flight):
+    def shrink(self, flight):
+        """Equation 4."""
+        self.ssthresh = max(min(flight, self.cwnd) // 2, 2 * self.smss)
+
+    def acknowledged(self, acked, una, flight, now=0, rtt=0):
         self.dupacks, self.resent_by_timer = 0, False
         self.pipe = max(0, self.pipe - acked)
         if not self.fast_recovery:
-            self.grow(acked, acked + flight)
+            if Fraction(acked + flight, self.cwnd) < Fraction(1, 2):
+                self.unused(now)
+            else:
+                self.grow(acked, now, rtt)
             return self.shown()
         if una >= self.recover:
             self.cwnd = min(self.ssthresh, max(flight, self.smss) + self.smss)
@@ -49,22 +58,38 @@ class Reno:
         self.cwnd = max(self.cwnd, self.smss)
         return self.shown("again")
 
-    def duplicate(self, una, flight, nxt):
-        if self.fast_recovery:
-            self.cwnd = min(HIGH, self.cwnd + self.smss)
-            return self.shown()
-        self.dupacks += 1
-        if self.dupacks != 3 or una <= self.recover:
-            return self.shown()
-        self.ssthresh = self.equation_4(flight)
-        self.cwnd = self.ssthresh + 3 * self.smss
+    def begin_recovery(self, left, flight, nxt):
+        """RFC 5681, 3.2, 2 and 3, with so many segments that have left the network."""
+        self.lost_before = True
+        self.shrink(flight)
+        self.cwnd = self.ssthresh + left * self.smss
         self.recover, self.fast_recovery, self.bytes_acked = nxt, True, 0
         self.dupacks = self.pipe = 0
+
+    def reported(self):
+        if self.fast_recovery:
+            self.cwnd = min(HIGH, self.cwnd + self.smss)
+        else:
+            self.dupacks += 1
+        return self.shown()
+
+    def duplicate(self, una, flight, nxt):
+        if self.fast_recovery or self.dupacks != 2 or una <= self.recover:
+            return self.reported()
+        self.begin_recovery(3, flight, nxt)
         return self.shown("again")
 
+    def lost(self, una, flight, nxt):
+        # RFC 5681, 4.3: once for a window of data.
+        if self.fast_recovery or una < self.recover:
+            return self.shown()
+        self.begin_recovery(min(self.dupacks, 3), flight, nxt)
+        return self.shown("shrinks")
+
     def timed_out(self, flight, nxt):
+        self.lost_before = True
         if not self.resent_by_timer:
-            self.ssthresh = self.equation_4(flight)
+            self.shrink(flight)
         self.cwnd, self.bytes_acked, self.dupacks, self.pipe = self.smss, 0, 0, 0
         self.recover, self.fast_recovery, self.resent_by_timer = nxt, False, True
         return self.shown()
@@ -89,8 +114,98 @@ class Reno:
         beyond = 0 if self.fast_recovery else min(self.dupacks, 2) * self.smss
         return str(max(0, self.cwnd + beyond - flight))
 
-    def shown(self, again=""):
-        return " ".join(filter(None, (str(self.cwnd), str(self.ssthresh), "recovering" if self.fast_recovery else "", again)))
+    def shown(self, said=""):
+        return " ".join(filter(None, (str(self.cwnd), str(self.ssthresh), "recovering" if self.fast_recovery else "", said)))
+
+
+# RFC 9438, 4.1 to 4.6: windows are segments there, and times seconds.
+C, BETA = Fraction(2, 5), Fraction(7, 10)
+ALPHA = 3 * (1 - BETA) / (1 + BETA)
+
+
+def down(value, unit):
+    """A value in whole units of it, rounded down."""
+    return value // unit * unit
+
+
+def cubic_root(value):
+    """The greatest whole number whose cube is at most the value."""
+    low, high = 0, 1
+    while high**3 <= value:
+        high *= 2
+    while high - low > 1:
+        middle = (low + high) // 2
+        low, high = (middle, high) if middle**3 <= value else (low, middle)
+    return low
+
+
+class Cubic(Reno):
+    """RFC 9438 by its names, in segments and seconds. K and t - K are whole milliseconds, W_cubic is whole bytes, and of what a window grows
+    by for each byte acknowledged, and of W_est, the parts are 2^-23."""
+
+    MS, PART = Fraction(1, 1000), Fraction(1, 2**23)
+    LONGEST, FARTHEST = 2000, 2**31
+
+    def __init__(self, smss, limit=1):
+        super().__init__(smss, limit)
+        self.stage, self.w_max, self.cwnd_prior, self.fraction = None, Fraction(0), Fraction(0), Fraction(0)
+
+    def segments(self, size):
+        return Fraction(size) / self.smss
+
+    def shrink(self, flight):
+        """4.6 and 4.7."""
+        self.ssthresh = max(int(min(flight, self.cwnd) * BETA), 2 * self.smss)
+        less = self.cwnd < self.w_max * self.smss
+        self.w_max = self.segments(int(self.cwnd * (1 + BETA) / 2) if less else self.cwnd)
+        self.cwnd_prior, self.stage = self.segments(self.cwnd), None
+
+    def timed_out(self, flight, nxt):
+        shown = super().timed_out(flight, nxt)
+        self.w_max = Fraction(0)  # 4.8: the next stage begins at W_max, with K = 0
+        return shown
+
+    def idle(self):
+        self.stage = None
+        return super().idle()
+
+    def unused(self, now):
+        if self.stage:
+            self.stage["counted"] = now  # 5.8
+
+    def grow(self, acked, now, rtt):
+        if self.cwnd <= self.ssthresh:
+            self.slow_start(acked)
+            return
+        epoch = self.segments(self.cwnd)
+        if self.stage is None:
+            apart = min(max(self.w_max - epoch, 0), self.FARTHEST)
+            # The root of a fraction's whole part is the fraction's, since cubes are whole.
+            k = cubic_root(apart / C / self.MS**3) * self.MS
+            self.stage = {"k": k, "w_est": epoch, "t": Fraction(0), "counted": now}
+            self.w_max, self.fraction = max(self.w_max, epoch), Fraction(0)
+        stage = self.stage
+        passed = Fraction(max(0, now - stage["counted"]), 10**6)
+        stage["t"], stage["counted"] = min(self.LONGEST, stage["t"] + passed), now
+        counted = min(acked, self.cwnd)
+        alpha = 1 if stage["w_est"] >= self.cwnd_prior else ALPHA
+        # For each byte, and then for all that are acknowledged.
+        stage["w_est"] = self.segments(min(HIGH, stage["w_est"] * self.smss + down(alpha / epoch, self.PART) * counted))
+        w_est = stage["w_est"] * self.smss
+        if self.w_cubic(stage["t"]) < int(w_est):
+            if int(w_est) > self.cwnd:
+                self.cwnd, self.fraction = int(w_est), w_est % 1
+            return
+        target = min(max(self.w_cubic(stage["t"] + Fraction(rtt, 10**6)), self.cwnd), self.cwnd + self.cwnd // 2)
+        wide = self.fraction + down(Fraction(target - self.cwnd, self.cwnd), self.PART) * counted
+        self.cwnd, self.fraction = min(HIGH, self.cwnd + int(wide)), wide % 1
+
+    def w_cubic(self, t):
+        """4.2, in bytes, at a time of the stage."""
+        distance = down(t, self.MS) - self.stage["k"]
+        change = int(C * min(abs(distance), self.LONGEST) ** 3 * self.smss)
+        w_max = int(self.w_max * self.smss)
+        return max(0, w_max - change if distance < 0 else w_max + change)
 
 
 class Delayed:
@@ -161,9 +276,11 @@ class Limiter:
 class Windows:
     """What answers a line on one of these."""
 
-    MADE = {"reno": Reno, "delayed": Delayed, "sws": Sws, "limiter": Limiter}
+    MADE = {"reno": Reno, "cubic": Cubic, "delayed": Delayed, "sws": Sws, "limiter": Limiter}
     CALLS = {
-        **dict.fromkeys(("acknowledged", "duplicate", "timed-out", "resent", "may-resend", "syn-lost", "idle", "room"), "reno"),
+        **dict.fromkeys(
+            ("acknowledged", "duplicate", "reported", "lost", "timed-out", "resent", "may-resend", "syn-lost", "idle", "room"), "path"
+        ),
         **dict.fromkeys(("arrived", "answered", "due"), "delayed"),
         **dict.fromkeys(("window", "segment"), "sws"),
         "grant": "limiter",
@@ -178,11 +295,17 @@ class Windows:
     def answer(self, word, numbers):
         if word in self.CALLS:
             return getattr(self.values[self.CALLS[word]], word.replace("-", "_"))(*numbers)
+        is_path = word in ("reno", "cubic")
         is_refused = word != "limiter" and not 0 < numbers[0] <= 65535 or word == "delayed" and numbers[1] >= 500_000
-        if is_refused:
+        if is_refused or is_path and not 0 < (*numbers, 1)[1] <= 8:
             return "refused"
-        self.values[word] = self.MADE[word](*numbers)
-        return "new" if word in ("sws", "limiter") else self.values[word].shown()
+        made = self.values["path" if is_path else word] = self.MADE[word](*numbers)
+        return "new" if word in ("sws", "limiter") else made.shown()
+
+
+def curve(smss, start, rounds, rtt):
+    """Windows of data that are acknowledged, one each round trip."""
+    return [f"acknowledged {20 * smss + n * smss // 2} 130001 {20 * smss} {start + n * rtt} {rtt}" for n in range(1, rounds + 1)]
 
 
 # In segments of 100 bytes: slow start, a loss that the third duplicate finds with a partial acknowledgement and a full one, congestion
@@ -202,6 +325,26 @@ WORKED = [
     "reno 1000", "timed-out 4000 5001", "acknowledged 1000 6001 4000", "acknowledged 1500 7501 4000", "idle", "acknowledged 600 8101 4000",
     "acknowledged 1400 9501 4000",
     "syn-lost", "idle", "reno 1000", *["acknowledged 1000 1001 10000"] * 3, "idle", "syn-lost", "duplicate 10001 5000 15001",
+    # L of two segments until a loss is found, the least and the greatest L; a loss that blocks found, and no second one until all that was in
+    # flight is acknowledged; what they report; one behind a timeout.
+    "reno 1000 0", "reno 1000 9", "reno 1000 8", "acknowledged 9000 9001 10000", "reno 1000 2", "acknowledged 1500 1501 10000",
+    "acknowledged 3000 4501 10000", "reported", "room 9000", "reported", "reported", "room 9000", "reported", "lost 4501 12000 16501", "reported",
+    "lost 4501 12000 16501", "acknowledged 4000 8501 8000", "lost 8501 8000 16501", "duplicate 8501 8000 16501", "acknowledged 8000 16501 6000",
+    "lost 16501 6000 22501", "acknowledged 6000 22501 0", "timed-out 4000 26501", "lost 22501 4000 26501", "acknowledged 2000 24501 2000",
+    "acknowledged 2000 26501 2000", "lost 26501 2000 28501", "reno 1000 2", "lost 1 500 501", "reno 1000", "reported", "duplicate 1 3000 3001",
+    "duplicate 1 3000 3001", "reported", "duplicate 1 3000 3001",
+    # CUBIC: up to ssthresh and past it by slow start, below W_max by the curve, past it, with a second loss below the first one's window;
+    # a path so short that Reno's window is greater; half of a window in use, an idle time, and a timeout, behind which W_max is the window.
+    "cubic 0", "cubic 1460 9", "cubic 65535 8", "cubic 1000 2", *curve(1000, 0, 20, 100_000), "lost 40001 40000 90001", "acknowledged 50000 90001 28000 2100000 100000",
+    *curve(1000, 2_100_000, 80, 100_000), "duplicate 90001 40000 130001", "reported", "duplicate 90001 40000 130001",
+    "acknowledged 40000 130001 0 10200000 100000", *curve(1000, 10_200_000, 60, 100_000), "acknowledged 10 130001 10 16300000 100000",
+    "acknowledged 30000 130001 30000 26300000 100000", "acknowledged 30000 130001 30000 26400000 100000", "idle", *curve(1000, 26_500_000, 40, 100_000),
+    "timed-out 30000 190001", "timed-out 30000 190001", *curve(1000, 40_000_000, 60, 10_000), "syn-lost", "may-resend", "resent 1000", "may-resend",
+    "cubic 1460 1", "lost 1 14600 14601", "acknowledged 14600 14601 14600 1 0", *curve(1460, 100, 60, 500),
+    # Numbers as great as there are: a curve that is past its longest time, times that go back, a window at its bound.
+    "cubic 65535 8", *["acknowledged 4611686018427387904 1 4611686018427387904"] * 40, "lost 1 4611686018427387904 100",
+    "acknowledged 4611686018427387904 100 4611686018427387904 5 0", "acknowledged 4611686018427387904 100 4611686018427387904 6 4611686018427387904",
+    "acknowledged 4611686018427387904 100 4611686018427387904 4611686018427387904 7", "acknowledged 4611686018427387904 100 4611686018427387904 8 9",
     # Both segments of a pair, a single one, one that can't wait with text and without, half segments, and none; no delay, the longest.
     "delayed 1000 500000", "delayed 0 1", "delayed 65536 1", "delayed 65535 499999", "due 0", "delayed 1000 40000", "arrived 1000 0 100", "due 40099",
     "due 40100", "arrived 999 0 200", "due 201", "arrived 1 0 300", "due 0", "answered", "due 999999", "arrived 0 0 400", "arrived 10 1 500", "answered",
@@ -227,14 +370,17 @@ def random_calls(draw, count):
         size = draw.choice((0, 1, 500, 1000, 2000, draw.randrange(20_000)))
         if kind == 0:
             una, nxt = 1, 1
-            yield f"reno {draw.choice((1, 536, 1000, 1460, 9000, 65535))}"
+            yield f"{draw.choice(('reno', 'cubic', 'cubic'))} {draw.choice((1, 536, 1000, 1460, 9000, 65535))}{draw.choice(('', ' 2', ' 8', ' 9'))}"
         elif kind < 6:
-            nxt += size
-            acked = draw.choice((nxt - una, min(1000, nxt - una), draw.randrange(nxt - una + 1)))
-            una += acked
-            yield f"acknowledged {acked} {una} {nxt - una}"
+            for _ in range(draw.choice((1, 1, 1, 30))):
+                now += draw.choice((0, 1000, 50_000, draw.randrange(2_000_000)))
+                nxt += size
+                acked = draw.choice((nxt - una, min(1000, nxt - una), draw.randrange(nxt - una + 1)))
+                una += acked
+                rtt = draw.choice((0, 500, 50_000, 2**draw.randrange(62)))
+                yield f"acknowledged {acked} {una} {nxt - una} {draw.choice((now,) * 30 + (2**draw.randrange(62),))} {rtt}"
         elif kind < 10:
-            yield from [f"duplicate {una} {nxt - una} {nxt}"] * draw.randrange(1, 6)
+            yield from [draw.choice((f"duplicate {una} {nxt - una} {nxt}", "reported", f"lost {una} {nxt - una} {nxt}"))] * draw.randrange(1, 6)
         elif kind == 10:
             yield draw.choice((f"timed-out {nxt - una} {nxt}", f"timed-out {nxt - una} {nxt}", f"resent {size}", "may-resend", "syn-lost", "idle"))
             yield from ("may-resend", f"resent {draw.choice((size, 2**61))}", "may-resend")

@@ -3,7 +3,7 @@
 import time
 from collections import namedtuple
 
-from tcpcore import REORDER, RETRANSMIT, TIME_WAIT, Refused
+from tcpcore import REORDER, RETRANSMIT, TIME_WAIT, Refused, Rule
 from wire import OURS
 
 
@@ -82,13 +82,30 @@ class Traffic:
 class Host:
     """Our end: its user, its timers and the segments that it emits into the relay."""
 
+    came = 0  # segments that came past the guard, in all cases
+
     def __init__(self, end, relay, traffic, times):
         self.end, self.relay, self.traffic = end, relay, traffic
         self.timers = Timers(times)
         self.path = []
 
+    def guarded(self, src, dst, segment):
+        """A segment of the kernel's comes past the guard, which keeps none out. What that keeps out counts as unacceptable, and but
+        for an acknowledgement that is due nothing changes: so such a segment comes once more, without a guard, and has to be
+        unacceptable then, too."""
+        Host.came += 1
+        _, report = self.end.arrive_by(src, dst, segment)
+        if report.rule == Rule.UNACCEPTABLE:
+            _, report = self.end.arrive_by(src, dst, segment, guard=None)
+            if report.rule != Rule.UNACCEPTABLE:
+                raise AssertionError("the guard keeps out a segment of the kernel's")
+
     def arrive(self, src, dst, segment):
-        self.end.arrive(src, dst, segment)
+        # The second program has no guard.
+        if hasattr(self.end, "arrive_by"):
+            self.guarded(src, dst, segment)
+        else:
+            self.end.arrive(src, dst, segment)
         if self.turn():
             # In TIME-WAIT only a repeated FIN is answered, and starts the time anew (RFC 9293, 3.10.7.4).
             self.timers.deadlines[TIME_WAIT] = None

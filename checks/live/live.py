@@ -10,6 +10,7 @@ HERE = os.path.dirname(os.path.realpath(__file__))
 sys.path.insert(0, f"{HERE}/../../c/tcpcore")
 
 import cases  # noqa: E402
+from host import Host  # noqa: E402
 from session import Lab  # noqa: E402
 from wire import KERNEL, OURS, enter_namespace, open_tun, set_kernel  # noqa: E402
 
@@ -75,8 +76,10 @@ def main():
     print(head)
     print(f"{'':38} {'kernel':>9} {'kernel':>9} {'ours':>7} {'kernel':>7} {'ours':>6} {'kernel':>6} {'s':>6}")
     results = [run_case(lab, name, case) for name, case in cases.all_cases() if options.only in name]
+    if not options.second:
+        print(f"live: {Host.came} segments of the kernel's came past the guard; a case of which it kept one out has failed")
     print(f"live: {sum(results)} passed, {len(results) - sum(results)} failed")
-    return 0 if results and all(results) else 1
+    return 0 if results and all(results) and (options.second or Host.came > 0) else 1
 
 
 if __name__ == "__main__":

@@ -33,11 +33,12 @@ common_objects() {
     objects common $warnings $ours -c "$top"/c/companions/{answers,congestion,cubic,delayed_ack,flow,ip,keep_alive,loss_recovery,silly_window,timers}.c "$top/c/tcpcore/tcpcore.c"
 }
 
-# A program of ours against the peer that these words make.
+# A program of ours against the peer that these words make. own.c stands between an end's companions and its arrivals, and counts what the
+# guard keeps out.
 program() {
     local name=$1
     shift
-    gcc $warnings $ours "$top"/checks/peers/{cases,wire,own}.c common/*.o "$@" "$library" -o "$name"
+    gcc $warnings $ours "$top"/checks/peers/{cases,wire,own}.c common/*.o "$@" "$library" -Wl,--wrap=tcpcore_arrive_by -o "$name"
 }
 
 # Adds up what a program said in its last line.

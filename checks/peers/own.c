@@ -16,6 +16,32 @@ static struct own {
     uint8_t block[TCPCORE_MEMORY(CAPACITY, CAPACITY)];
 } owns[2];
 
+static uint64_t came, kept_out;
+
+uint32_t __real_tcpcore_arrive_by(tcpcore_end *end, tcpcore_addr src, tcpcore_addr dst, const void *bytes, size_t length,
+                                  const struct tcpcore_intake *intake, struct tcpcore_arrive_report *report);
+
+/*
+ * A segment comes past the guard. What that keeps out counts as unacceptable, and but for an acknowledgement that is due nothing changes:
+ * so the same segment comes once more where it was, without a guard, and where it is taken then the guard has kept it out.
+ */
+uint32_t __wrap_tcpcore_arrive_by(tcpcore_end *end, tcpcore_addr src, tcpcore_addr dst, const void *bytes, size_t length,
+                                  const struct tcpcore_intake *intake, struct tcpcore_arrive_report *report)
+{
+    uint32_t answer = __real_tcpcore_arrive_by(end, src, dst, bytes, length, intake, report);
+    came += report->rule != TCPCORE_RULE_NONE;
+    if (report->rule == TCPCORE_RULE_UNACCEPTABLE) {
+        struct tcpcore_intake unguarded = *intake;
+        unguarded.guard = TCPCORE_NO_GUARD;
+        answer = __real_tcpcore_arrive_by(end, src, dst, bytes, length, &unguarded, report);
+        kept_out += report->rule != TCPCORE_RULE_UNACCEPTABLE;
+    }
+    return answer;
+}
+
+uint64_t own_came(void) { return came; }
+uint64_t own_kept_out(void) { return kept_out; }
+
 static tcpcore_addr addr_of(int side) { return (tcpcore_addr){{10, 0, 0, (uint8_t)(1 + side)}}; }
 
 static struct tcpcore_status status_of(int side)

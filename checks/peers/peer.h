@@ -88,6 +88,8 @@ const char *own_fault(int side);
 void own_report(int side);
 uint64_t own_resent(int side); /* segments that it sent again, as its emissions were reported */
 uint64_t own_timeouts(int side);
+uint64_t own_came(void);       /* segments that came in all cases */
+uint64_t own_kept_out(void);   /* and of these those that the guard kept out, and that would be taken without it */
 
 /* The other side. */
 extern const char *const PEER_NAME;

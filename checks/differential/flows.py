@@ -1,0 +1,183 @@
+"""One end with its times under a congestion window, written a second time: the driver of driver.py, with the windows of windows.py, told as RFC
+5681 and RFC 6582 have it, around the small end of crates/test_flow. `python3 checks/differential/flows.py` writes the calls of that program
+(stdin) and what they answer (stdout), which come of a loop over a wire that takes 20 ms each way and loses segments. `--check N [SEED]` makes
+N random calls, runs them through the built program and compares.
+"""
+
+import pathlib
+import random
+import sys
+
+import driver
+import windows
+from times import SECOND, compared, stored
+
+CRATE = pathlib.Path(__file__).resolve().parents[2] / "crates" / "test_flow"
+STANDARD = (240 * SECOND, 3, 180 * SECOND, 300 * SECOND, None)
+
+
+class Flow:
+    """What answers a line. A number is a segment of a byte."""
+
+    def begin(self, rule, now, first, limit):
+        self.driver, self.path = driver.Second(), {"reno": windows.Reno, "cubic": windows.Cubic}[rule](1, limit)
+        self.driver.new(now, first, *STANDARD)
+        self.is_shut, self.sent_at = False, now
+
+    @property
+    def end(self):
+        return self.driver.end
+
+    @property
+    def flight(self):
+        return self.end.nxt - self.end.una
+
+    def arrive(self, now, ack, gap, fin, window, flags):
+        before, is_duplicate = self.end.una, ack == self.end.una
+        answer = self.driver.arrive(now, ack, gap, fin, window, flags)
+        if not answer.startswith("taken"):
+            return answer
+        self.is_shut = window == 0
+        una, blocks = self.end.una, "reorder" in self.end.wants()
+        if una > before:
+            said = self.path.acknowledged(una - before, una, self.flight, now, self.driver.estimator.srtt or 0)
+        elif is_duplicate and blocks:
+            said = self.path.reported()
+        elif is_duplicate:
+            said = self.path.duplicate(una, self.flight, self.end.nxt)
+        else:
+            return answer
+        # RFC 6582, 3.2: the first segment goes out again, unless blocks say what is lost.
+        if said.endswith("again") and not blocks:
+            self.driver.uses("resend-first", now)
+        return answer
+
+    def emit(self, now):
+        # RFC 5681, 4.1: nothing was sent for longer than the timeout.
+        if self.flight == 0 and now - self.sent_at > self.driver.estimator.rto:
+            self.path.idle()
+        answer = self.driver.emit(now, int(self.path.room(0)))
+        if answer.startswith("sent") and not answer.endswith(" 0"):
+            self.sent_at = now
+        return answer
+
+    def timeout(self, now):
+        una, nxt, flight = self.end.una, self.end.nxt, self.flight
+        timer = self.driver.timeout(now)
+        if timer == "retransmit" and una == 0:
+            self.path.syn_lost()
+        elif timer == "retransmit" and not self.is_shut:
+            self.path.timed_out(flight, nxt)
+        elif timer == "reorder":
+            self.path.lost(una, flight, nxt)
+        return timer
+
+    def answer(self, line):
+        word, *words = line.split(" ")
+        numbers = [int(word) for word in words]
+        if word in ("reno", "cubic"):
+            answer = self.begin(word, *numbers) or ""
+        elif word in ("arrive", "emit", "timeout"):
+            answer = getattr(self, word)(*numbers)
+        else:
+            answer = self.driver.uses(word, *numbers)
+        at = min(self.driver.all_deadlines().values(), default="-")
+        return f"{answer} {at} {self.path.shown()} {self.flight}"
+
+
+class Turns(driver.Turns):
+    """The caller's loop of driver.py over a flow, which has no window to pass."""
+
+    blocks = True
+
+    def __init__(self, rule, first, limit, lost=(), way=driver.WAY):
+        self.second, self.lines, self.lost, self.shown, self.way = Flow(), [], set(lost), 9, way
+        self.expired, self.now, self.count, self.next, self.early, self.coming = [], 0, 0, first, set(), []
+        self.call(f"{rule} 0 {first} {limit}")
+
+    def emits(self):
+        while (answer := self.call(f"emit {self.now}"))[0] == "sent":
+            start, count = int(answer[1]), int(answer[2])
+            if self.count not in self.lost and count:
+                self.early.add(start)
+                while self.next in self.early:
+                    self.next += 1
+                gap = int(self.blocks and any(number > self.next for number in self.early))
+                self.coming.append((self.now + 2 * self.way, f"{self.next} {gap} 0 {self.shown} 0"))
+            self.count += 1
+
+    def runs(self, most):
+        for _ in range(most):
+            times = [at for at, _ in self.coming] + list(self.second.driver.all_deadlines().values())
+            if not times:
+                return
+            self.now = max(self.now, min(times))
+            while self.coming and self.coming[0][0] <= self.now:
+                self.call(f"arrive {self.now} {self.coming.pop(0)[1]}")
+            self.turn("timeout")
+
+
+def worked():
+    """Each rule, with blocks and without: text of 200 numbers of which some are lost, an idle time, a shut window, and a lost SYN."""
+    all_turns = []
+    for rule in ("reno", "cubic"):
+        for blocks, lost in ((True, (14, 40, 41, 77)), (False, (14, 40, 41, 77)), (True, range(50, 58)), (False, range(30, 45))):
+            turns = Turns(rule, 1, 2, lost)
+            turns.blocks = blocks
+            turns.turn("send 100", "send 80")
+            turns.runs(90)
+            turns.now += 20 * SECOND
+            turns.turn("send 40", "close")
+            turns.runs(60)
+            assert turns.second.end.una == 222, (rule, blocks, turns.second.end.una)
+            all_turns.append(turns)
+        late = Turns(rule, 0, 1, lost=(0, 1, 8))
+        late.turn("send 30")
+        late.runs(30)
+        late.turn("arrive 30 0 0 0 0", "send 3")
+        late.lost = range(999)
+        late.runs(3)
+        late.turn("arrive 30 0 0 9 0", "receive", "acknowledge")
+        late.runs(2)
+        late.turn("abort")
+        all_turns.append(late)
+    return [line for turns in all_turns for line in turns.lines]
+
+
+def random_calls(draw, count):
+    now = 0
+    for number in range(count):
+        now += draw.choice((0, 1, 1000, draw.randrange(40_000), draw.randrange(2 * SECOND), draw.randrange(20 * SECOND)))
+        at = draw.choice((now, now, now, max(0, now - 5000)))
+        kind = draw.randrange(60)
+        if kind == 0 or number == 0:
+            yield f"{draw.choice(('reno', 'cubic'))} {at} {draw.choice((0, 1, 5))} {draw.choice((1, 2, 8))}"
+        elif kind < 26:
+            yield from [f"emit {at}"] * draw.choice((1, 1, 5))
+        elif kind < 40:
+            ack = f"{draw.choice((draw.randrange(12), draw.randrange(100)))} {draw.choice((0, 0, 1))} {int(draw.randrange(30) == 0)}"
+            yield from [f"arrive {at} {ack} {draw.choice((0, 9, 9))} {draw.choice((0, 16, 20))}"] * draw.choice((1, 1, 4))
+        elif kind < 48:
+            yield f"timeout {at}"
+        elif kind < 56:
+            yield f"send {at} {draw.randrange(30)}"
+        else:
+            yield f"{draw.choice(('receive', 'acknowledge', 'acknowledge', 'close') + ('abort',) * (number % 9 == 0))} {at}"
+
+
+def answers_of(lines):
+    flow = Flow()
+    return [flow.answer(line) for line in lines]
+
+
+def check(count, seed):
+    lines = list(random_calls(random.Random(seed), count))
+    compared(CRATE, lines, answers_of(lines), seed, "a flow")
+
+
+if __name__ == "__main__":
+    if sys.argv[1:2] == ["--check"]:
+        check(int(sys.argv[2]), int(sys.argv[3]) if len(sys.argv) > 3 else 1)
+    else:
+        lines = worked() + list(random_calls(random.Random(1), 120))
+        stored(CRATE, lines, answers_of(lines))

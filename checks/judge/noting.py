@@ -1,0 +1,276 @@
+"""The notes of captures by a second program, written apart from `tcpjudge` from docs/JUDGE.md, *Notes of a capture*: both say the same of the
+stored captures, and of random ones.
+
+    python3 checks/judge/noting.py TCPJUDGE [COUNT]
+
+The last line is `N captures, M failed`.
+"""
+
+import collections
+import json
+import pathlib
+import random
+import struct
+import subprocess
+import sys
+import tempfile
+
+from making import capture_of, octets
+
+from end import ACK, FIN, RST, SYN
+from program import with_checksum
+
+SPACE, HALF = 2**32, 2**31
+Seen = collections.namedtuple("Seen", "packet time way seq ack flags window shift text")
+
+
+def after(number, other):
+    """How far a number is ahead of another, below 0 where it is behind."""
+    ahead = (number - other) % SPACE
+    return ahead if ahead < HALF else ahead - SPACE
+
+
+class End:
+    """What one end sent and acknowledged. Numbers are whole ones, counted on from the first that it sent."""
+
+    def __init__(self):
+        # the packets of each note
+        self.notes = collections.defaultdict(list)
+        self.trips = []
+        self.initial = self.shift = self.ack = None
+        self.has_syn = False
+        self.forget()
+
+    def forget(self):
+        self.next, self.first, self.sent, self.timed = None, None, set(), None
+
+    def note(self, name, seen):
+        self.notes[name].append(seen.packet)
+
+    def numbers(self, seen):
+        return len(seen.text) + bool(seen.flags & SYN) + bool(seen.flags & FIN)
+
+
+def window_of(end, peer, seen):
+    """The number behind the window that a segment tells, if it is known."""
+    if not (end.has_syn and peer.has_syn):
+        return None
+    is_scaled = end.shift is not None and peer.shift is not None and not seen.flags & SYN
+    return (seen.ack + (seen.window << (min(end.shift, 14) if is_scaled else 0))) % SPACE
+
+
+def take_text(end, peer, seen):
+    """What a segment's numbers tell."""
+    count = end.numbers(seen)
+    if end.next is None:
+        end.next = end.first = seen.seq
+    begin = end.next + after(seen.seq, end.next % SPACE)
+    numbers = range(begin, begin + count)
+    if begin > end.next:
+        end.note("PreviousNotSeen", seen)
+    if begin >= end.next and count and end.timed is None:
+        end.timed = (begin + count, seen.time)
+    if begin < end.next and count:
+        end.timed = None
+        acked = end.next + after(peer.ack["number"], end.next % SPACE) if peer.ack else begin
+        is_late = begin not in end.sent and begin >= max(acked, end.first)
+        is_fast = peer.ack is not None and peer.ack["number"] == seen.seq and peer.ack["duplicates"] >= 3 and not peer.ack["answered"]
+        if is_fast:
+            peer.ack["answered"] = True
+            end.note("FastRetransmission", seen)
+        end.note("OutOfOrder" if is_late and not is_fast else "Retransmission", seen)
+    end.sent.update(numbers)
+    end.next = max(end.next, begin + count)
+
+
+def take_ack(end, peer, seen):
+    """What its acknowledgement and its window tell."""
+    told = {"number": seen.ack, "window": seen.window, "edge": window_of(end, peer, seen), "duplicates": 0, "answered": False}
+    if end.ack is None or after(seen.ack, end.ack["number"]) > 0:
+        end.ack = told
+        if peer.timed and after(seen.ack, peer.timed[0] % SPACE) >= 0:
+            peer.trips.append(max(0, seen.time - peer.timed[1]))
+            peer.timed = None
+    elif seen.ack == end.ack["number"]:
+        is_outstanding = peer.next is not None and after(peer.next % SPACE, seen.ack) > 0
+        if is_outstanding and end.numbers(seen) == 0 and seen.window == end.ack["window"]:
+            end.ack["duplicates"] += 1
+            end.note("DuplicateAck", seen)
+        end.ack |= {"window": seen.window, "edge": told["edge"]}
+    if seen.window == 0 and not seen.flags & (SYN | FIN):
+        end.note("ZeroWindow", seen)
+
+
+def take(end, peer, seen):
+    if seen.flags & RST:
+        return
+    if seen.flags & SYN:
+        end.shift, end.has_syn = seen.shift, True
+        if end.initial != seen.seq:
+            end.forget()
+            peer.ack = None
+        end.initial = seen.seq
+    is_single = not seen.flags & (SYN | FIN) and len(seen.text) <= 1
+    if is_single and end.next is not None and peer.ack and (seen.seq + 1) % SPACE == end.next % SPACE == peer.ack["number"]:
+        end.note("KeepAlive", seen)
+    else:
+        take_text(end, peer, seen)
+        if seen.text and peer.ack and peer.ack["edge"] == (seen.seq + end.numbers(seen)) % SPACE:
+            end.note("WindowFull", seen)
+    if seen.flags & ACK:
+        take_ack(end, peer, seen)
+
+
+def ends_of(seen):
+    """Both ends, the one that sent first before the other."""
+    ends = [End(), End()]
+    for segment in seen:
+        take(ends[segment.way], ends[1 - segment.way], segment)
+    return ends
+
+
+def notes_of(seen):
+    """The notes of both ends, each as `tcpjudge --json` has them: name, count and first packet; and round trips."""
+    found = []
+    for end in ends_of(seen):
+        notes = {name: (len(packets), packets[0]) for name, packets in end.notes.items()}
+        # in microseconds, rounded down
+        told = end.trips and (min(end.trips), sum(end.trips) // len(end.trips), max(end.trips))
+        found.append((notes, (len(end.trips), *(time // 1000 for time in told)) if told else None))
+    return found
+
+
+def told_of(program, path):
+    """What the program says of each end of a capture of one connection; nothing of one of more."""
+    ran = subprocess.run([program, "--json", path], capture_output=True, text=True, check=False)
+    ends, order = {}, []
+    lines = [json.loads(line) for line in ran.stdout.splitlines()]
+    if not lines or lines[-1]["connections"] != 1:
+        return []
+    for line in lines[:-1]:
+        if line["end"] not in ends:
+            ends[line["end"]] = [{}, None]
+            order.append(line["end"])
+        if line["kind"] == "note":
+            ends[line["end"]][0][line["name"]] = (line["count"], line["first"])
+        if line["kind"] == "round_trips":
+            ends[line["end"]][1] = (line["count"], *(round(line[word] * 1000000) for word in ("least", "mean", "greatest")))
+    return [tuple(ends[name]) for name in order]
+
+
+def segments_in(data):
+    """The segments of one connection in a capture in the pcap form, of Ethernet or raw IPv4, and which end sent each."""
+    order = "<" if data[:4] in (b"\xd4\xc3\xb2\xa1", b"\x4d\x3c\xb2\xa1") else ">"
+    unit = 1000 if data[:4] in (b"\xd4\xc3\xb2\xa1", b"\xa1\xb2\xc3\xd4") else 1
+    (link,) = struct.unpack_from(f"{order}I", data, 20)
+    at, packet, first = 24, 0, None
+    while at < len(data):
+        seconds, units, count, _ = struct.unpack_from(f"{order}IIII", data, at)
+        frame, at, packet = data[at + 16 : at + 16 + count], at + 16 + count, packet + 1
+        ip = frame[14:] if link == 1 else frame
+        ip = ip[: struct.unpack_from(">H", ip, 2)[0]]
+        tcp = ip[ip[0] % 16 * 4 :]
+        source = (ip[12:16], tcp[:2])
+        first = first or source
+        seq, ack, offset, flags, window = struct.unpack_from(">IIBBH", tcp, 4)
+        offset = offset // 16 * 4
+        yield Seen(packet, seconds * 10**9 + units * unit, int(source != first), seq, ack, flags, window, shift_in(tcp[20:offset]), tcp[offset:])
+
+
+def shift_in(options):
+    """The last window scale among options, or None."""
+    shift = None
+    while options and options[0] != 0:
+        size = 1 if options[0] == 1 else options[1]
+        if options[0] == 3 and size == 3:
+            shift = options[2]
+        options = options[size:]
+    return shift
+
+
+def random_capture(number):
+    """Two ends that send what they like around the same few numbers, which may wrap."""
+    chance = random.Random(number)
+    bases = [chance.choice((0, 1000, HALF - 5, SPACE - 7, chance.randrange(SPACE))) for _ in range(2)]
+    opening = [(0, 0, 0, SYN), (1, 0, 1, SYN | ACK), (0, 1, 1, ACK)] if chance.random() < 0.8 else []
+    packets = []
+    for at in range(chance.randrange(1, 60)):
+        if at < len(opening):
+            way, seq, ack, flags = opening[at]
+        else:
+            way, seq, ack = chance.randrange(2), chance.randrange(1, 12), chance.randrange(1, 12)
+            flags = chance.choice((ACK,) * 12 + (ACK | FIN, ACK | RST, SYN | ACK, SYN))
+        options = b"\x03\x03%c\x00" % chance.choice((0, 1, 2, 14)) if flags & SYN and chance.random() < 0.7 else b""
+        text = b"abcdefghijkl"[: chance.choice((0, 0, 0, 1, 1, 2, 3, 5))] if not flags & SYN else b""
+        window = chance.choice((0, 1, 2, 3, 5, 65535, 65535, 65535))
+        source, target = (octets(f"10.0.0.{1 + way}"), octets(f"10.0.0.{2 - way}"))
+        numbers = (bases[way] + seq) % SPACE, (bases[1 - way] + ack) % SPACE
+        data = struct.pack(">HHIIBBHHH", 1 + way, 2 - way, *numbers, (20 + len(options)) // 4 << 4, flags, window, 0, 0)
+        data = with_checksum(source, target, data + options + text)
+        packets.append(struct.pack(">BBHHHBBH", 0x45, 0, 20 + len(data), 0, 0, 64, 6, 0) + source + target + data)
+    return capture_of(packets)
+
+
+def compare(cases, program, name, data):
+    with tempfile.NamedTemporaryFile(suffix=".pcap") as file:
+        file.write(data)
+        file.flush()
+        found, wanted = told_of(program, file.name), notes_of(segments_in(data))
+    if found:
+        cases.holds(f"notes, {name}", found == wanted, f"found {found}, wanted {wanted}")
+
+
+# tshark's name of each note. Where the packets differ, those that are noted here alone, and by tshark 4.0 alone: it guesses by times whether
+# what fills a gap was late, calls a segment with new and old text out of order, wants two duplicates before a fast retransmission, and each
+# within 20 ms of one, counts a duplicate where nothing is outstanding, and a keep-alive where a byte is.
+ANALYSED = {"Retransmission": "retransmission", "FastRetransmission": "fast_retransmission", "OutOfOrder": "out_of_order",
+            "PreviousNotSeen": "lost_segment", "DuplicateAck": "duplicate_ack", "ZeroWindow": "zero_window", "WindowFull": "window_full",
+            "KeepAlive": "keep_alive"}
+DIFFERENT = {
+    "gVisor-B.pcap": {"Retransmission": ([], [12, 22]), "FastRetransmission": ([], [12, 22]), "OutOfOrder": ([12, 22], [])},
+    "plain-B.pcap": {"Retransmission": ([], [17]), "OutOfOrder": ([17], []), "DuplicateAck": ([], [16])},
+    "simulated.pcap": {"FastRetransmission": ([18], [])},
+    "sent again in other pieces": {"Retransmission": ([6], []), "OutOfOrder": ([], [6])},
+    "sent again after two": {"FastRetransmission": ([], [11])},
+    "sent again after three, and once more": {"FastRetransmission": ([], [14])},
+    "no duplicate acknowledgements": {"DuplicateAck": ([], [4])},
+    "a gap that is filled from its middle": {"Retransmission": ([], [7, 8]), "OutOfOrder": ([7, 8], [])},
+    "keep-alives": {"Retransmission": ([10], []), "KeepAlive": ([], [10])},
+}
+
+
+def judge_analysed(cases, made):
+    """The second program's notes, packet by packet, by tshark: the same but for what DIFFERENT has."""
+    stored = {path.name: path.read_bytes() for path in sorted((pathlib.Path(__file__).parent / "data").glob("*.pcap"))}
+    for name, data in (stored | made).items():
+        ends = ends_of(segments_in(data))
+        for kind, word in ANALYSED.items():
+            with tempfile.NamedTemporaryFile(suffix=".pcap") as file:
+                file.write(data)
+                file.flush()
+                words = ["tshark", "-r", file.name, "-Y", f"tcp.analysis.{word}", "-T", "fields", "-e", "frame.number"]
+                ran = subprocess.run(words, capture_output=True, text=True, check=False)
+            here, there = {packet for end in ends for packet in end.notes[kind]}, {int(packet) for packet in ran.stdout.split()}
+            found = sorted(here - there), sorted(there - here)
+            wanted = DIFFERENT.get(name, {}).get(kind, ([], []))
+            cases.holds(f"notes by tshark, {name}, {kind}", ran.returncode == 0 and found == tuple(wanted), f"found {found}, wanted {wanted}")
+
+
+def judge_notes(cases, program, count=500):
+    for path in sorted((pathlib.Path(__file__).parent / "data").glob("*.pcap")):
+        compare(cases, program, path.name, path.read_bytes())
+    for number in range(count):
+        compare(cases, program, f"random capture {number}", random_capture(number))
+
+
+def main():
+    from judging import Cases
+
+    cases = Cases()
+    judge_notes(cases, sys.argv[1], int(sys.argv[2]) if len(sys.argv) > 2 else 500)
+    print(f"{cases.count} captures, {cases.failed} failed")
+    return int(cases.failed > 0)
+
+
+if __name__ == "__main__":
+    raise SystemExit(main())
