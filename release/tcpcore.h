@@ -67,7 +67,7 @@
  *   call asks for more. tcpcore_new_at puts the struct there, too. Any block will do, static or from malloc, of any
  *   alignment. tcpcore_room says how many bytes are enough, and TCPCORE_MEMORY(send, receive) the same as a constant, or
  *   TCPCORE_MEMORY_RUNS(send, receive, runs) where the config has `runs`: the two capacities, each in whole units of 16 bytes,
- *   16 bytes for each run, what the end takes beside them, and 15 bytes for a block that doesn't begin at a multiple of 16.
+ *   24 bytes for each run and 16 more, what the end takes beside them, and 15 bytes for a block that doesn't begin at a multiple of 16.
  *   That these are enough is measured by the tests (tests/room.c), not proved. The linker is
  *   asked for memcpy, memmove and memset alone.
  *
@@ -130,7 +130,7 @@ extern "C" {
 #endif
 
 /* The version of this header: it grows with each change of a struct, a call or an answer. */
-#define TCPCORE_VERSION 13
+#define TCPCORE_VERSION 15
 
 /* The answers; tcpcore_strerror has a text for each. */
 enum {
@@ -223,7 +223,7 @@ enum {
    and with TCPCORE_RUNS. */
 #define TCPCORE_UNITS(size) (((size_t)(size) + 15) / 16 * 16)
 #define TCPCORE_MEMORY_RUNS(send, receive, runs) \
-    (TCPCORE_UNITS(send) + TCPCORE_UNITS(receive) + 2 * TCPCORE_UNITS(8 * (size_t)(runs)) + 416 + 15)
+    (TCPCORE_UNITS(send) + TCPCORE_UNITS(receive) + TCPCORE_UNITS(8 * (size_t)(runs)) + 16 * ((size_t)(runs) + 1) + 416 + 15)
 #define TCPCORE_MEMORY(send, receive) TCPCORE_MEMORY_RUNS(send, receive, TCPCORE_RUNS)
 
 /* How much more of a block tcpcore_new_at wants, in bytes, than tcpcore_new: TCPCORE_MEMORY(send, receive) + TCPCORE_STRUCT_ROOM,
@@ -241,8 +241,8 @@ enum {
 /* The room that tcpcore_emit wants, in bytes: more than the longest segment of an end. */
 #define TCPCORE_EMIT_ROOM 1520
 
-/* The most bytes that tcpcore_emit_train uses: the length of the longest segment in an IPv4 packet. It wants no more room than
-   tcpcore_emit. */
+/* The most bytes that tcpcore_emit_train and tcpcore_connection_emit_train use: the length of the longest segment in an IPv4 packet. They
+   want no more room than tcpcore_emit. */
 #define TCPCORE_TRAIN_ROOM 65515
 
 /* The room that tcpcore_parts wants, in bytes: the length of the longest header, options and all (RFC 9293, 3.1). */
@@ -303,7 +303,7 @@ typedef struct tcpcore_config {
     /* The most runs of bytes that are kept out of order (RFC 9293, 3.10.7.4), and the most runs of the peer's blocks that
        are remembered (RFC 2018, 5), from 1 to TCPCORE_MAX_RUNS; 0 is TCPCORE_RUNS. What would be one run more is dropped,
        and has to be sent again. A path that reorders makes about one for each five segments that it carries in the time of
-       its jitter. Each takes 16 bytes of the block. */
+       its jitter. Each takes 24 bytes of the block. */
     uint16_t runs;
     unsigned int : 16;
 } tcpcore_config;
@@ -466,8 +466,8 @@ struct tcpcore_transmit {
     uint32_t reserved[8];
 };
 
-/* Segments that tcpcore_emit_train wrote as one, which a device cuts: segment i, from 0 on, has the `each` bytes of its text from
-   i * each on, and the last one has the rest. */
+/* Segments that tcpcore_emit_train or tcpcore_connection_emit_train wrote as one, which a device cuts: segment i, from 0 on, has the
+   `each` bytes of its text from i * each on, and the last one has the rest. */
 struct tcpcore_train {
     /* What was written, as one segment: where it goes and begins, its kind, its length, and that of all its text. */
     struct tcpcore_transmit whole;
@@ -1002,7 +1002,8 @@ uint32_t tcpcore_connection_poll_at(const tcpcore_connection *connection, uint64
 /*
  * It is `now`: if a timer has expired its rule is applied (RFC 9293, 3.10.8), and *timer is which, TCPCORE_TIMER_RETRANSMIT to
  * TCPCORE_TIMER_USER. After TCPCORE_TIMER_USER the connection is aborted. From an expiry on no segment is taken, and no other timer
- * expires, until tcpcore_connection_emit answers TCPCORE_NOT_DUE: what was due at the expiry goes out first.
+ * expires, until tcpcore_connection_emit or tcpcore_connection_emit_train answers TCPCORE_NOT_DUE: what was due at the expiry goes out
+ * first.
  *   DONE: emit. NOT_DUE: none has expired. NO_END; NULL; OVERLAP; COPIED.
  */
 uint32_t tcpcore_connection_timeout(tcpcore_connection *connection, uint64_t now, uint32_t *timer);
@@ -1041,6 +1042,18 @@ uint32_t tcpcore_connection_arrive_vouched(tcpcore_connection *connection, uint6
  */
 uint32_t tcpcore_connection_emit(tcpcore_connection *connection, uint64_t now, uint64_t window, void *out, size_t room,
                                  struct tcpcore_connection_segment *segment);
+
+/*
+ * Writes the segments that may go out at `now` as one, for a device that cuts it and sums what it has cut, as tcpcore_emit_train writes
+ * those of an end: of new text as many go together as end within `window`, as tcpcore_connection_emit has it, at most `most` of them, where
+ * 0 counts as 1, and as `room` has place for. Anything else goes alone, also the pending acknowledgement where what is due waits. The
+ * checksum field has the sum of tcpcore_emit_partial: with a `most` of 1 it is one segment, for a device that sums and doesn't cut. The
+ * connection is as after train->segments calls of tcpcore_connection_emit at `now`, timers and all. Of version 15.
+ *   DONE: it takes the first train->whole.length bytes of `out`, and is for address train->whole.to; more may be due. All else as of
+ *   tcpcore_connection_emit.
+ */
+uint32_t tcpcore_connection_emit_train(tcpcore_connection *connection, uint64_t now, uint64_t window, void *out, size_t room, size_t most,
+                                       struct tcpcore_train *train);
 
 /* Accepts text, as tcpcore_send. */
 uint32_t tcpcore_connection_send(tcpcore_connection *connection, uint64_t now, const void *text, size_t length, size_t *taken);
