@@ -1,4 +1,5 @@
 //! Why the program ends without its whole report.
+use capture_ends::CaptureError;
 use kit_io::{ReadError, WriteFault};
 use kit_judge::LogError;
 use std::alloc::AllocError;
@@ -41,6 +42,15 @@ impl From<ReadError> for Fault {
         match error {
             ReadError::Fault => Fault::ReadFault,
             ReadError::NoMemory => Fault::NoMemory,
+        }
+    }
+}
+
+impl From<CaptureError> for Fault {
+    fn from(error: CaptureError) -> Fault {
+        match error {
+            CaptureError::ReadFault => Fault::ReadFault,
+            CaptureError::NoMemory => Fault::NoMemory,
         }
     }
 }

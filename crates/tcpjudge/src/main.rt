@@ -4,19 +4,9 @@
 //! judged.
 #![tactic(auto)]
 
-mod capture;
-mod connections;
-mod end_report;
 mod fault;
-mod flow;
-mod json;
-mod judged_end;
-mod notes;
-mod paint;
 mod program;
 mod progress;
-mod side;
-mod telling;
 mod words;
 
 use crate::program::Terminals;

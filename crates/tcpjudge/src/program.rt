@@ -1,11 +1,8 @@
 //! The program: its words, its file, and its exit status.
-use crate::capture::{Capture, read_capture, read_sections};
 use crate::fault::Fault;
-use crate::paint::{Paint, When};
 use crate::progress::Progress;
-use crate::side::Host;
-use crate::telling::report;
-use crate::words::{Job, read_words};
+use crate::words::{Job, When, read_words};
+use capture_ends::{Capture, Host, Paint, read_capture, read_sections, report};
 use capture_form::pcapng::is_section;
 use capture_window::{Window, open};
 use kit_io::{Counted, Input, read_all, write_all};

@@ -1,4 +1,5 @@
 //! How far a large capture is read, on a terminal.
+use capture_ends::Watcher;
 
 /// After so many packets a line is written anew.
 const STEP: usize = 1 << 18;
@@ -15,17 +16,18 @@ impl<'a, R: Eprint> Progress<'a, R> {
         Progress { rt, is_shown }
     }
 
-    /// So many packets are read.
-    pub(crate) fn tell(&self, packets: usize) {
-        if self.is_shown && packets % STEP == 0 {
-            let _ = eprint!(self.rt; "\rtcpjudge: packet {packets}");
-        }
-    }
-
     /// All are: what was written is taken away.
     pub(crate) fn end(&self, packets: usize) {
         if self.is_shown && packets >= STEP {
             let _ = eprint!(self.rt; "\r\x1b[K");
+        }
+    }
+}
+
+impl<'a, R: Eprint> Watcher for Progress<'a, R> {
+    fn tell(&self, packets: usize) {
+        if self.is_shown && packets % STEP == 0 {
+            let _ = eprint!(self.rt; "\rtcpjudge: packet {packets}");
         }
     }
 }

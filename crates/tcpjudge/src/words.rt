@@ -1,12 +1,20 @@
 //! The program's words.
 use crate::fault::Fault;
-use crate::paint::When;
-use crate::side::Host;
+use capture_ends::Host;
 use clap::error::ErrorKind;
 use clap::{Arg, ArgAction, ArgMatches, Command, Error as ParseError};
 use kit_text::read_addr;
 use std::alloc::{AllocError, Global};
 use std::net::Ipv6Addr;
+
+/// When the report has colors.
+#[derive(Clone, Copy, Debug, PartialEq, Eq)]
+pub(crate) enum When {
+    /// Where standard output is a terminal, and the environment has no NO_COLOR.
+    Auto,
+    Always,
+    Never,
+}
 
 /// The job that the words request.
 #[derive(Debug, Drop)]

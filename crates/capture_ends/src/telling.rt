@@ -10,16 +10,16 @@ use std::alloc::{AllocError, Global};
 
 /// What was tried, and what was found.
 #[derive(Clone, Copy, Default)]
-pub(crate) struct Verdict {
+pub struct Verdict {
     /// Ends that sent something.
-    pub(crate) ends: usize,
+    pub ends: usize,
     /// Those of them at which all rules were tried.
-    pub(crate) complete: usize,
+    pub complete: usize,
     /// Those at the place of the capture between whose addresses segments are left out.
-    pub(crate) gaps: usize,
+    pub gaps: usize,
     /// Those that break a rule.
-    pub(crate) broken: usize,
-    pub(crate) findings: usize,
+    pub broken: usize,
+    pub findings: usize,
 }
 
 /// Why no end has all rules tried on it, if the capture as a whole is the reason.
@@ -269,7 +269,7 @@ fn push_head(text: &mut String, capture: &Capture) -> Result<(), AllocError> {
 }
 
 /// The report of a capture, taken at this address, and its verdict; as JSON, a line each, where that is wanted.
-pub(crate) fn report(
+pub fn report(
     alloc: Global,
     capture: &Capture,
     at: Option<Host>,

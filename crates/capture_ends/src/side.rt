@@ -8,7 +8,7 @@ use tcp_wire::Addr;
 
 /// The address of a machine.
 #[derive(Clone, Copy, Debug, PartialEq, Eq)]
-pub(crate) enum Host {
+pub enum Host {
     V4(Addr),
     V6([u8; 16]),
 }

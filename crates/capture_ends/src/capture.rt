@@ -1,23 +1,28 @@
 //! A capture read to its end.
 use crate::connections::Connections;
-use crate::fault::Fault;
+use crate::error::CaptureError;
 use crate::judged_end::Packet;
-use crate::progress::Progress;
 use capture_form::pcapng::{Section, Step};
 use capture_form::{Form, Found, Frame, packet_of, read_record, tcp_of};
 use capture_window::{Window, fill, fill_block, pass_record};
 use kit_io::Input;
 use std::alloc::{AllocError, Global};
 
+/// Who is told how far a capture is read.
+pub trait Watcher {
+    /// So many packets are read.
+    fn tell(&self, packets: usize);
+}
+
 /// What a capture has.
 #[derive(Drop)]
-pub(crate) struct Capture {
+pub struct Capture {
     /// The link of its frames, of the first where they may differ.
     pub(crate) link: Option<u16>,
     pub(crate) connections: Connections,
-    pub(crate) packets: usize,
+    pub packets: usize,
     /// Whether a record that was cut short, or is damaged, ends it.
-    pub(crate) is_cut: bool,
+    pub is_cut: bool,
     /// Whether packets are missing: dropped when it was taken, or in obsolete packet blocks.
     pub(crate) is_lossy: bool,
 }
@@ -75,13 +80,13 @@ fn take_frame(
 }
 
 /// Reads the frames behind a capture's form. What is held is the state of each connection, and the record that is read.
-pub(crate) fn read_capture<I: Input, R: Eprint>(
+pub fn read_capture<I: Input, W: Watcher>(
     alloc: Global,
     form: Form,
     input: &mut I,
     window: &mut Window,
-    progress: &Progress<'_, R>,
-) -> Result<Capture, Fault> {
+    watcher: &W,
+) -> Result<Capture, CaptureError> {
     let mut connections = Connections::new(alloc);
     let mut packets = 0usize;
     for number in 1..usize::MAX {
@@ -93,7 +98,7 @@ pub(crate) fn read_capture<I: Input, R: Eprint>(
         }
         pass_record(form, window);
         packets = number;
-        progress.tell(packets);
+        watcher.tell(packets);
     }
     Ok(Capture {
         link: Some(form.link),
@@ -106,12 +111,12 @@ pub(crate) fn read_capture<I: Input, R: Eprint>(
 
 /// Reads the sections of a capture in the pcapng form. What is held is the state of each connection, the interfaces of a
 /// section, and the block that is read.
-pub(crate) fn read_sections<I: Input, R: Eprint>(
+pub fn read_sections<I: Input, W: Watcher>(
     alloc: Global,
     input: &mut I,
     window: &mut Window,
-    progress: &Progress<'_, R>,
-) -> Result<Capture, Fault> {
+    watcher: &W,
+) -> Result<Capture, CaptureError> {
     let mut connections = Connections::new(alloc);
     let mut section = Section::new(alloc);
     let mut link = None;
@@ -125,7 +130,7 @@ pub(crate) fn read_sections<I: Input, R: Eprint>(
             Step::Passed(rest) => rest.len(),
             Step::Packet(frame, rest) => {
                 packets = packets.saturating_add(1);
-                progress.tell(packets);
+                watcher.tell(packets);
                 link = link.or(Some(frame.link));
                 take_frame(&mut connections, alloc, packets, &frame)?;
                 rest.len()

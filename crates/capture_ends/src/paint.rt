@@ -1,18 +1,9 @@
 //! Colors of the report, for a terminal (ECMA-48, 8.3.117).
 
-/// When the report has colors.
-#[derive(Clone, Copy, Debug, PartialEq, Eq)]
-pub(crate) enum When {
-    /// Where standard output is a terminal, and the environment has no NO_COLOR.
-    Auto,
-    Always,
-    Never,
-}
-
 /// Whether the report has colors.
 #[derive(Clone, Copy)]
-pub(crate) struct Paint {
-    pub(crate) is_on: bool,
+pub struct Paint {
+    pub is_on: bool,
 }
 
 impl Paint {
