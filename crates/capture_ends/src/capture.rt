@@ -2,11 +2,11 @@
 use crate::connections::Connections;
 use crate::error::CaptureError;
 use crate::judged_end::Packet;
-use capture_form::pcapng::{Section, Step};
+use capture_form::pcapng::{Section, Step, is_section};
 use capture_form::{Form, Found, Frame, packet_of, read_record, tcp_of};
-use capture_window::{Window, fill, fill_block, pass_record};
+use capture_window::{Window, fill, fill_block, open, pass_record};
 use kit_io::Input;
-use std::alloc::{AllocError, Global};
+use std::alloc::{AllocError, Allocator, Global};
 
 /// Who is told how far a capture is read.
 pub trait Watcher {
@@ -14,12 +14,22 @@ pub trait Watcher {
     fn tell(&self, packets: usize);
 }
 
+/// The form of a capture.
+#[derive(Clone, Copy, Debug, PartialEq, Eq)]
+pub enum CaptureForm {
+    /// pcap, with what its first bytes tell.
+    Pcap(Form),
+    /// pcapng.
+    Sections,
+}
+
 /// What a capture has.
 #[derive(Drop)]
-pub struct Capture {
+pub struct Capture<A: Allocator = Global> {
     /// The link of its frames, of the first where they may differ.
     pub(crate) link: Option<u16>,
-    pub(crate) connections: Connections,
+    pub(crate) connections: Connections<A>,
+    /// How many frames it has.
     pub packets: usize,
     /// Whether a record that was cut short, or is damaged, ends it.
     pub is_cut: bool,
@@ -43,9 +53,9 @@ fn is_cut_train(frame: &Frame<'_>, packet: &[u8]) -> bool {
 }
 
 /// Takes what a frame has of TCP.
-fn take_frame(
-    connections: &mut Connections,
-    alloc: Global,
+fn take_frame<A: Allocator + Copy>(
+    connections: &mut Connections<A>,
+    alloc: A,
     number: usize,
     frame: &Frame<'_>,
 ) -> Result<(), AllocError> {
@@ -79,27 +89,70 @@ fn take_frame(
     Ok(())
 }
 
-/// Reads the frames behind a capture's form. What is held is the state of each connection, and the record that is read.
-pub fn read_capture<I: Input, W: Watcher>(
-    alloc: Global,
+/// Reads which form a capture has; `None` where it has neither: what was read is in the window then.
+pub fn open_capture<I: Input, A: Allocator>(
+    input: &mut I,
+    window: &mut Window<A>,
+) -> Result<Option<CaptureForm>, CaptureError> {
+    if let Some(form) = open(input, window)? {
+        return Ok(Some(CaptureForm::Pcap(form)));
+    }
+    if is_section(window.bytes()) {
+        return Ok(Some(CaptureForm::Sections));
+    }
+    Ok(None)
+}
+
+/// Takes the frame whose record begins these bytes.
+fn take_first<A: Allocator + Copy>(
+    connections: &mut Connections<A>,
+    alloc: A,
+    number: usize,
+    form: Form,
+    bytes: &[u8],
+) -> Result<(), AllocError> {
+    match read_record(form, bytes) {
+        Some((frame, _)) => take_frame(connections, alloc, number, &frame),
+        None => Ok(()),
+    }
+}
+
+/// Takes the frames behind a capture's form, and answers how many there are.
+fn take_records<I: Input, W: Watcher, A: Allocator + Copy>(
+    connections: &mut Connections<A>,
+    alloc: A,
     form: Form,
     input: &mut I,
-    window: &mut Window,
+    window: &mut Window<A>,
     watcher: &W,
-) -> Result<Capture, CaptureError> {
-    let mut connections = Connections::new(alloc);
+) -> Result<usize, CaptureError> {
     let mut packets = 0usize;
-    for number in 1..usize::MAX {
+    loop {
         if !fill(form, input, window)? {
-            break;
+            return Ok(packets);
         }
-        if let Some((frame, _)) = read_record(form, window.bytes()) {
-            take_frame(&mut connections, alloc, number, &frame)?;
+        let Some(number) = packets.checked_add(1) else {
+            return Err(CaptureError::TooLong);
+        };
+        take_first(connections, alloc, number, form, window.bytes())?;
+        if pass_record(form, window).is_none() {
+            return Ok(packets);
         }
-        pass_record(form, window);
         packets = number;
         watcher.tell(packets);
     }
+}
+
+/// Reads the frames behind a capture's form. What is held is the state of each connection, and the record that is read.
+fn read_records<I: Input, W: Watcher, A: Allocator + Copy>(
+    alloc: A,
+    form: Form,
+    input: &mut I,
+    window: &mut Window<A>,
+    watcher: &W,
+) -> Result<Capture<A>, CaptureError> {
+    let mut connections = Connections::new(alloc);
+    let packets = take_records(&mut connections, alloc, form, input, window, watcher)?;
     Ok(Capture {
         link: Some(form.link),
         connections,
@@ -109,41 +162,81 @@ pub fn read_capture<I: Input, W: Watcher>(
     })
 }
 
+/// What was taken of a capture in the pcapng form.
+#[derive(Clone, Copy)]
+struct Taken {
+    /// The link of the first frame.
+    link: Option<u16>,
+    packets: usize,
+}
+
+/// Takes the block that begins what the window holds, and answers whether one does.
+fn take_block<A: Allocator + Copy>(
+    connections: &mut Connections<A>,
+    alloc: A,
+    section: &mut Section<A>,
+    window: &mut Window<A>,
+    taken: &mut Taken,
+) -> Result<bool, CaptureError> {
+    let left = match section.step(window.bytes())? {
+        Step::NoBlock => return Ok(false),
+        Step::Passed(rest) => rest.len(),
+        Step::Packet(frame, rest) => {
+            let Some(number) = taken.packets.checked_add(1) else {
+                return Err(CaptureError::TooLong);
+            };
+            take_frame(connections, alloc, number, &frame)?;
+            taken.packets = number;
+            taken.link = taken.link.or(Some(frame.link));
+            rest.len()
+        }
+    };
+    let behind = window.bytes().len().saturating_sub(left);
+    window.pass(behind);
+    Ok(true)
+}
+
 /// Reads the sections of a capture in the pcapng form. What is held is the state of each connection, the interfaces of a
 /// section, and the block that is read.
-pub fn read_sections<I: Input, W: Watcher>(
-    alloc: Global,
+fn read_sections<I: Input, W: Watcher, A: Allocator + Copy>(
+    alloc: A,
     input: &mut I,
-    window: &mut Window,
+    window: &mut Window<A>,
     watcher: &W,
-) -> Result<Capture, CaptureError> {
+) -> Result<Capture<A>, CaptureError> {
     let mut connections = Connections::new(alloc);
     let mut section = Section::new(alloc);
-    let mut link = None;
-    let mut packets = 0usize;
+    let mut taken = Taken {
+        link: None,
+        packets: 0,
+    };
     for _block in 0..usize::MAX {
-        if !fill_block(&section, input, window)? {
-            break;
+        if !fill_block(&section, input, window)?
+            || !take_block(&mut connections, alloc, &mut section, window, &mut taken)?
+        {
+            return Ok(Capture {
+                link: taken.link,
+                connections,
+                packets: taken.packets,
+                is_cut: !window.bytes().is_empty(),
+                is_lossy: section.is_lossy(),
+            });
         }
-        let left = match section.step(window.bytes())? {
-            Step::NoBlock => break,
-            Step::Passed(rest) => rest.len(),
-            Step::Packet(frame, rest) => {
-                packets = packets.saturating_add(1);
-                watcher.tell(packets);
-                link = link.or(Some(frame.link));
-                take_frame(&mut connections, alloc, packets, &frame)?;
-                rest.len()
-            }
-        };
-        let taken = window.bytes().len().saturating_sub(left);
-        window.pass(taken);
+        watcher.tell(taken.packets);
     }
-    Ok(Capture {
-        link,
-        connections,
-        packets,
-        is_cut: !window.bytes().is_empty(),
-        is_lossy: section.is_lossy(),
-    })
+    Err(CaptureError::TooLong)
+}
+
+/// Reads what is behind the form of a capture to its end, and judges both ends of each of its connections.
+pub fn judge_capture<I: Input, W: Watcher, A: Allocator + Copy>(
+    alloc: A,
+    form: CaptureForm,
+    input: &mut I,
+    window: &mut Window<A>,
+    watcher: &W,
+) -> Result<Capture<A>, CaptureError> {
+    match form {
+        CaptureForm::Pcap(form) => read_records(alloc, form, input, window, watcher),
+        CaptureForm::Sections => read_sections(alloc, input, window, watcher),
+    }
 }

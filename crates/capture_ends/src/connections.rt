@@ -2,7 +2,7 @@
 use crate::judged_end::{JudgedEnd, Packet};
 use crate::side::{Host, Hosts, Key, Place, Side, key_of, number_of, place_of};
 use capture_form::stand_in;
-use std::alloc::{AllocError, Global};
+use std::alloc::{AllocError, Allocator, Global};
 use std::collections::BTreeMap;
 use tcp_numbers::partial_checksum;
 use tcp_wire::{Addr, Seq, checks, checksum};
@@ -14,11 +14,11 @@ const MOST: usize = 65_515;
 
 /// A connection: the side of its first packet, and the other one.
 #[derive(Drop)]
-pub(crate) struct Connection {
+pub(crate) struct Connection<A: Allocator = Global> {
     /// The side of its first packet as a number.
     opener: Place,
-    pub(crate) first: JudgedEnd,
-    pub(crate) second: JudgedEnd,
+    pub(crate) first: JudgedEnd<A>,
+    pub(crate) second: JudgedEnd<A>,
     pub(crate) begin: Packet,
     pub(crate) end: Packet,
     /// Whether a FIN or a reset went.
@@ -38,17 +38,17 @@ pub(crate) struct LeftOut {
 }
 
 #[derive(Drop)]
-pub(crate) struct Connections {
-    pub(crate) list: Vec<Connection>,
-    hosts: Hosts,
+pub(crate) struct Connections<A: Allocator = Global> {
+    pub(crate) list: Vec<Connection<A>, A>,
+    hosts: Hosts<A>,
     /// Where the newest connection between two sides is in the list.
-    places: BTreeMap<Key, usize>,
+    places: BTreeMap<Key, usize, A>,
     /// A segment whose checksum was left to a device, mended.
-    mended: Vec<u8>,
+    mended: Vec<u8, A>,
     pub(crate) left_out: LeftOut,
     /// The addresses between which a fragment went, or a segment that is cut short. Ports are in the first fragment alone,
     /// so it may be of any connection between them.
-    gaps: BTreeMap<Key, ()>,
+    gaps: BTreeMap<Key, (), A>,
     /// The latest time of a segment.
     latest: u64,
     /// Whether one has an earlier time than one before it, as where several interfaces are captured.
@@ -156,8 +156,8 @@ struct Way {
     dst: Addr,
 }
 
-impl Connection {
-    fn new(alloc: Global, packet: Packet, source: Place, from: Side, to: Side) -> Self {
+impl<A: Allocator + Copy> Connection<A> {
+    fn new(alloc: A, packet: Packet, source: Place, from: Side, to: Side) -> Self {
         Connection {
             opener: source,
             first: JudgedEnd::new(alloc, from),
@@ -215,7 +215,12 @@ impl Connection {
 }
 
 /// Copies a segment with the checksum that is right.
-fn mend(mended: &mut Vec<u8>, src: Addr, dst: Addr, bytes: &[u8]) -> Result<(), AllocError> {
+fn mend<A: Allocator>(
+    mended: &mut Vec<u8, A>,
+    src: Addr,
+    dst: Addr,
+    bytes: &[u8],
+) -> Result<(), AllocError> {
     if bytes.len() < LEAST || bytes.len() > MOST {
         return Ok(());
     }
@@ -231,8 +236,8 @@ fn mend(mended: &mut Vec<u8>, src: Addr, dst: Addr, bytes: &[u8]) -> Result<(), 
     Ok(())
 }
 
-impl Connections {
-    pub(crate) fn new(alloc: Global) -> Self {
+impl<A: Allocator + Copy> Connections<A> {
+    pub(crate) fn new(alloc: A) -> Self {
         Connections {
             list: Vec::new(alloc),
             hosts: Hosts::new(alloc),
@@ -281,7 +286,7 @@ impl Connections {
     /// Begins a connection, and returns its place.
     fn begin(
         &mut self,
-        alloc: Global,
+        alloc: A,
         packet: Packet,
         way: Way,
         bytes: &[u8],
@@ -306,7 +311,7 @@ impl Connections {
     /// Takes a segment over IPv4.
     pub(crate) fn take(
         &mut self,
-        alloc: Global,
+        alloc: A,
         packet: Packet,
         src: Addr,
         dst: Addr,
@@ -324,7 +329,7 @@ impl Connections {
     /// Takes a segment over IPv6.
     pub(crate) fn take6(
         &mut self,
-        alloc: Global,
+        alloc: A,
         packet: Packet,
         src: [u8; 16],
         dst: [u8; 16],
@@ -343,7 +348,7 @@ impl Connections {
     /// begins a connection.
     fn take_on(
         &mut self,
-        alloc: Global,
+        alloc: A,
         packet: Packet,
         way: Way,
         bytes: &[u8],

@@ -3,7 +3,7 @@ use crate::judged_end::{Broken, JudgedEnd, Note, counts};
 use crate::notes::KINDS;
 use crate::paint::Paint;
 use kit_judge::push_rule;
-use std::alloc::AllocError;
+use std::alloc::{AllocError, Allocator};
 use tcp_judge::Finding;
 use tcp_wire::Seq;
 
@@ -18,7 +18,11 @@ fn ahead_of(number: Seq, initial: Seq, text: u64) -> i64 {
 }
 
 /// The number by which a finding shows the rule broken, counted from the initial number of the stream that it is of.
-pub(crate) fn relative_number(finding: Finding, own: &JudgedEnd, peer: &JudgedEnd) -> Option<i64> {
+pub(crate) fn relative_number<A: Allocator>(
+    finding: Finding,
+    own: &JudgedEnd<A>,
+    peer: &JudgedEnd<A>,
+) -> Option<i64> {
     match finding {
         Finding::BeforeFirst(number) => Some(ahead_of(number, own.initial?, 0)),
         Finding::OtherByte(number)
@@ -35,14 +39,17 @@ pub(crate) fn relative_number(finding: Finding, own: &JudgedEnd, peer: &JudgedEn
     }
 }
 
-pub(crate) fn push_seconds(text: &mut String, nanoseconds: u64) -> Result<(), AllocError> {
+pub(crate) fn push_seconds<A: Allocator>(
+    text: &mut String<A>,
+    nanoseconds: u64,
+) -> Result<(), AllocError> {
     let seconds = nanoseconds / 1_000_000_000;
     let micros = nanoseconds % 1_000_000_000 / 1000;
     write!(text, "{seconds}.{micros:06} s")
 }
 
-fn push_broken(
-    text: &mut String,
+fn push_broken<A: Allocator>(
+    text: &mut String<A>,
     broken: &Broken,
     begin: u64,
     relative: Option<i64>,
@@ -66,8 +73,8 @@ fn push_broken(
 }
 
 /// Appends a note: what is counted, and the section of the RFC that has it.
-fn push_note(
-    text: &mut String,
+fn push_note<A: Allocator>(
+    text: &mut String<A>,
     words: &str,
     note: Note,
     section: &str,
@@ -83,10 +90,10 @@ fn push_note(
 }
 
 /// Appends what was found at an end.
-pub(crate) fn push_found(
-    text: &mut String,
-    end: &JudgedEnd,
-    peer: &JudgedEnd,
+pub(crate) fn push_found<A: Allocator>(
+    text: &mut String<A>,
+    end: &JudgedEnd<A>,
+    peer: &JudgedEnd<A>,
     begin: u64,
     is_complete: bool,
     paint: Paint,
@@ -106,9 +113,9 @@ pub(crate) fn push_found(
 }
 
 /// Appends what was counted of an end, and its round trips.
-pub(crate) fn push_notes(
-    text: &mut String,
-    end: &JudgedEnd,
+pub(crate) fn push_notes<A: Allocator>(
+    text: &mut String<A>,
+    end: &JudgedEnd<A>,
     paint: Paint,
 ) -> Result<(), AllocError> {
     let notes = &end.flow.notes;
@@ -133,9 +140,9 @@ pub(crate) fn push_notes(
 }
 
 /// Appends what is said of an end.
-pub(crate) fn push_end(
-    text: &mut String,
-    end: &JudgedEnd,
+pub(crate) fn push_end<A: Allocator>(
+    text: &mut String<A>,
+    end: &JudgedEnd<A>,
     findings: usize,
     is_complete: bool,
     paint: Paint,

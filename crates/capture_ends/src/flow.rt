@@ -1,7 +1,7 @@
 //! What an end sent and acknowledged, as far as notes ask for it.
 use crate::judged_end::Packet;
 use crate::notes::{Kind, Notes};
-use std::alloc::{AllocError, Global};
+use std::alloc::{AllocError, Allocator, Global};
 use tcp_wire::{RawSegment, Seq, TcpOption};
 
 /// Numbers that were passed over: from the first up to before the second.
@@ -34,12 +34,12 @@ struct Acknowledged {
 }
 
 #[derive(Drop)]
-pub(crate) struct Flow {
+pub(crate) struct Flow<A: Allocator = Global> {
     /// The number of its SYN.
     initial: Option<Seq>,
     /// The number behind all that it sent: SND.NXT.
     next: Option<Seq>,
-    gaps: Vec<Gap>,
+    gaps: Vec<Gap, A>,
     timed: Option<Timed>,
     acknowledged: Option<Acknowledged>,
     /// Its SYN's window scale, if it sent a SYN (RFC 7323, 2.2).
@@ -68,8 +68,8 @@ fn offer_of(segment: &RawSegment<'_>) -> Option<u8> {
     offer
 }
 
-impl Flow {
-    pub(crate) fn new(alloc: Global) -> Self {
+impl<A: Allocator> Flow<A> {
+    pub(crate) fn new(alloc: A) -> Self {
         Flow {
             initial: None,
             next: None,
@@ -98,7 +98,7 @@ impl Flow {
     }
 
     /// Whether the segment is a keep-alive: all that was sent is acknowledged, and it begins one before (RFC 9293, 3.8.4).
-    fn is_keep_alive(&self, peer: &Flow, segment: &RawSegment<'_>) -> bool {
+    fn is_keep_alive(&self, peer: &Flow<A>, segment: &RawSegment<'_>) -> bool {
         let flags = segment.header.flags;
         !flags.is_syn()
             && !flags.is_fin()
@@ -154,7 +154,7 @@ impl Flow {
     /// Takes what begins before SND.NXT.
     fn take_older(
         &mut self,
-        peer: &mut Flow,
+        peer: &mut Flow<A>,
         number: usize,
         begin: Seq,
         end: Seq,
@@ -188,7 +188,7 @@ impl Flow {
     /// Takes the numbers of a segment: those of an acknowledgement alone are none, at SND.NXT.
     fn take_numbers(
         &mut self,
-        peer: &mut Flow,
+        peer: &mut Flow<A>,
         packet: Packet,
         begin: Seq,
         end: Seq,
@@ -240,7 +240,7 @@ impl Flow {
 
     /// The number behind the window that a segment of this end tells, if both SYNs are known, as only then the shift is
     /// (RFC 7323, 2.2 and 2.3).
-    fn edge_of(&self, peer: &Flow, segment: &RawSegment<'_>) -> Option<Seq> {
+    fn edge_of(&self, peer: &Flow<A>, segment: &RawSegment<'_>) -> Option<Seq> {
         let own = self.offer?;
         let other = peer.offer?;
         let shift = match own {
@@ -251,7 +251,7 @@ impl Flow {
     }
 
     /// Takes the acknowledgement of a segment, and its window.
-    fn take_ack(&mut self, peer: &mut Flow, packet: Packet, segment: &RawSegment<'_>) {
+    fn take_ack(&mut self, peer: &mut Flow<A>, packet: Packet, segment: &RawSegment<'_>) {
         let number = segment.header.ack;
         let window = segment.header.window;
         let edge = self.edge_of(peer, segment);
@@ -281,7 +281,7 @@ impl Flow {
     }
 
     /// Takes a SYN; one with another number begins all numbers anew.
-    fn take_syn(&mut self, peer: &mut Flow, segment: &RawSegment<'_>) {
+    fn take_syn(&mut self, peer: &mut Flow<A>, segment: &RawSegment<'_>) {
         let number = segment.header.seq;
         self.offer = Some(offer_of(segment));
         if self.initial != Some(number) {
@@ -296,7 +296,7 @@ impl Flow {
     /// The end sent a segment, which has no RST, to its peer.
     pub(crate) fn went(
         &mut self,
-        peer: &mut Flow,
+        peer: &mut Flow<A>,
         packet: Packet,
         segment: &RawSegment<'_>,
     ) -> Result<(), AllocError> {

@@ -5,7 +5,7 @@ use crate::judged_end::{Broken, JudgedEnd, Note, counts};
 use crate::notes::KINDS;
 use crate::telling::Verdict;
 use kit_judge::push_rule;
-use std::alloc::AllocError;
+use std::alloc::{AllocError, Allocator};
 use tcp_judge::Finding;
 
 /// A rule's name.
@@ -34,19 +34,19 @@ fn name_of(finding: Finding) -> &'static str {
 }
 
 /// Appends a time as seconds, with six digits behind the point: the most that a reader of JSON keeps of one from 1970 on.
-fn push_time(text: &mut String, nanoseconds: u64) -> Result<(), AllocError> {
+fn push_time<A: Allocator>(text: &mut String<A>, nanoseconds: u64) -> Result<(), AllocError> {
     let seconds = nanoseconds / 1_000_000_000;
     let micros = nanoseconds % 1_000_000_000 / 1000;
     write!(text, "{seconds}.{micros:06}")
 }
 
 /// Appends what each line of an end begins with.
-fn push_start(
-    text: &mut String,
+fn push_start<A: Allocator>(
+    text: &mut String<A>,
     kind: &str,
     connection: usize,
-    end: &JudgedEnd,
-    peer: &JudgedEnd,
+    end: &JudgedEnd<A>,
+    peer: &JudgedEnd<A>,
 ) -> Result<(), AllocError> {
     let side = end.side;
     let other = peer.side;
@@ -57,8 +57,8 @@ fn push_start(
 }
 
 /// Appends the first packet that breaks a rule. What a rule says has no character that JSON escapes.
-fn push_finding(
-    text: &mut String,
+fn push_finding<A: Allocator>(
+    text: &mut String<A>,
     broken: &Broken,
     relative: Option<i64>,
 ) -> Result<(), AllocError> {
@@ -77,11 +77,11 @@ fn push_finding(
 }
 
 /// Appends what was found at an end, and how many packets break a rule.
-pub(crate) fn push_findings(
-    text: &mut String,
+pub(crate) fn push_findings<A: Allocator>(
+    text: &mut String<A>,
     connection: usize,
-    end: &JudgedEnd,
-    peer: &JudgedEnd,
+    end: &JudgedEnd<A>,
+    peer: &JudgedEnd<A>,
     is_complete: bool,
 ) -> Result<usize, AllocError> {
     let mut findings = 0usize;
@@ -96,11 +96,11 @@ pub(crate) fn push_findings(
 }
 
 /// Appends what was counted of an end, and its round trips.
-pub(crate) fn push_notes(
-    text: &mut String,
+pub(crate) fn push_notes<A: Allocator>(
+    text: &mut String<A>,
     connection: usize,
-    end: &JudgedEnd,
-    peer: &JudgedEnd,
+    end: &JudgedEnd<A>,
+    peer: &JudgedEnd<A>,
 ) -> Result<(), AllocError> {
     let notes = &end.flow.notes;
     for kind in KINDS {
@@ -130,7 +130,7 @@ pub(crate) fn push_notes(
 }
 
 /// What is said of an end: that nothing was judged, that it breaks a rule, or that it breaks none.
-fn verdict_of(end: &JudgedEnd, findings: usize) -> &'static str {
+fn verdict_of<A: Allocator>(end: &JudgedEnd<A>, findings: usize) -> &'static str {
     if end.segments == 0 {
         return "nothing";
     }
@@ -138,11 +138,11 @@ fn verdict_of(end: &JudgedEnd, findings: usize) -> &'static str {
 }
 
 /// Appends an end.
-pub(crate) fn push_end(
-    text: &mut String,
+pub(crate) fn push_end<A: Allocator>(
+    text: &mut String<A>,
     connection: usize,
-    end: &JudgedEnd,
-    peer: &JudgedEnd,
+    end: &JudgedEnd<A>,
+    peer: &JudgedEnd<A>,
     findings: usize,
     is_complete: bool,
 ) -> Result<(), AllocError> {
@@ -162,9 +162,9 @@ pub(crate) fn push_end(
 }
 
 /// Appends the whole capture.
-pub(crate) fn push_capture(
-    text: &mut String,
-    capture: &Capture,
+pub(crate) fn push_capture<A: Allocator>(
+    text: &mut String<A>,
+    capture: &Capture<A>,
     verdict: Verdict,
 ) -> Result<(), AllocError> {
     let packets = capture.packets;

@@ -2,7 +2,7 @@
 use crate::flow::Flow;
 use crate::side::Side;
 use kit_judge::{is_damage, rule_of, wants_whole_log};
-use std::alloc::{AllocError, Global};
+use std::alloc::{AllocError, Allocator, Global};
 use tcp_judge::{Finding, Judge};
 use tcp_wire::{Addr, RawSegment, Seq};
 
@@ -43,30 +43,30 @@ pub(crate) const NONE: Note = Note { count: 0, first: 0 };
 
 /// An end, what is known of it and what it broke.
 #[derive(Drop)]
-pub(crate) struct JudgedEnd {
+pub(crate) struct JudgedEnd<A: Allocator = Global> {
     pub(crate) side: Side,
     /// Its address in checksums.
     pub(crate) addr: Addr,
-    judge: Judge,
+    judge: Judge<A>,
     /// The number of its first SYN, from which relative numbers count.
     pub(crate) initial: Option<Seq>,
     /// How many segments it sent, and how many bytes of text these had, resent ones among them.
     pub(crate) segments: usize,
     pub(crate) text: u64,
     /// A rule has at most one of these.
-    pub(crate) broken: Vec<Broken>,
+    pub(crate) broken: Vec<Broken, A>,
     /// Segments with a wrong checksum that it sent.
     pub(crate) damaged: Note,
     /// Whether what it acknowledges can't be compared with what came: it acknowledged something before a SYN came to it or it
     /// sent one, so that what came before isn't in the capture.
     pub(crate) lacks_beginning: bool,
     /// What it sent and acknowledged, with the notes.
-    pub(crate) flow: Flow,
+    pub(crate) flow: Flow<A>,
 }
 
 /// Adds a finding to those of its rule.
-fn add_finding(
-    broken: &mut Vec<Broken>,
+fn add_finding<A: Allocator>(
+    broken: &mut Vec<Broken, A>,
     packet: Packet,
     finding: Finding,
 ) -> Result<(), AllocError> {
@@ -84,12 +84,12 @@ fn add_finding(
     Ok(())
 }
 
-impl JudgedEnd {
-    pub(crate) fn new(alloc: Global, side: Side) -> Self {
+impl<A: Allocator + Copy> JudgedEnd<A> {
+    pub(crate) fn new(alloc: A, side: Side) -> Self {
         JudgedEnd {
             side,
             addr: side.host.in_sums(),
-            judge: Judge::new(alloc),
+            judge: Judge::new_in(alloc),
             initial: None,
             segments: 0,
             text: 0,
@@ -120,7 +120,7 @@ impl JudgedEnd {
         dst: Addr,
         bytes: &[u8],
         has_peer: bool,
-        peer: &mut Flow,
+        peer: &mut Flow<A>,
     ) -> Result<(), AllocError> {
         let src = self.addr;
         self.segments = self.segments.saturating_add(1);

@@ -1,7 +1,7 @@
 //! Both ends of each TCP connection of a capture, judged, and the report.
 //!
-//! [`judge_capture`] reads a capture to its end, in the pcap or the pcapng form, by a window; [`report`] tells what was
-//! found, in words or as JSON. A [`Watcher`] is told of each packet.
+//! [`open_capture`] reads which form a capture has, pcap or pcapng, and [`judge_capture`] reads it to its end, by a window;
+//! a [`Watcher`] is told how far. [`report`] tells what was found, in words or as JSON.
 #![tactic(auto)]
 
 mod capture;
@@ -16,7 +16,7 @@ mod paint;
 mod side;
 mod telling;
 
-pub use capture::{Capture, Watcher, read_capture, read_sections};
+pub use capture::{Capture, CaptureForm, Watcher, judge_capture, open_capture};
 pub use error::CaptureError;
 pub use paint::Paint;
 pub use side::Host;

@@ -1,6 +1,6 @@
 //! One side of a connection.
 use capture_form::stand_in;
-use std::alloc::{AllocError, Global};
+use std::alloc::{AllocError, Allocator, Global};
 use std::collections::BTreeMap;
 use std::fmt;
 use std::net::Ipv6Addr;
@@ -66,10 +66,10 @@ pub(crate) fn key_of(one: u64, other: u64) -> Key {
 /// The addresses of IPv6 of a capture, each with its number, so that a connection is looked for by numbers. That of an
 /// address of IPv4 is the address itself.
 #[derive(Drop)]
-pub(crate) struct Hosts {
-    numbers: BTreeMap<u128, u64>,
+pub(crate) struct Hosts<A: Allocator = Global> {
+    numbers: BTreeMap<u128, u64, A>,
     /// Each at its number's place.
-    addrs: Vec<[u8; 16]>,
+    addrs: Vec<[u8; 16], A>,
 }
 
 /// The number of the first address of IPv6.
@@ -80,8 +80,8 @@ pub(crate) fn number_of(addr: Addr) -> u64 {
     u64::from(u32::from_be_bytes(addr.0))
 }
 
-impl Hosts {
-    pub(crate) fn new(alloc: Global) -> Self {
+impl<A: Allocator + Copy> Hosts<A> {
+    pub(crate) fn new(alloc: A) -> Self {
         Hosts {
             numbers: BTreeMap::new(alloc),
             addrs: Vec::new(alloc),

@@ -6,7 +6,7 @@ use crate::json;
 use crate::judged_end::JudgedEnd;
 use crate::paint::Paint;
 use crate::side::Host;
-use std::alloc::{AllocError, Global};
+use std::alloc::{AllocError, Allocator};
 
 /// What was tried, and what was found.
 #[derive(Clone, Copy, Default)]
@@ -23,7 +23,7 @@ pub struct Verdict {
 }
 
 /// Why no end has all rules tried on it, if the capture as a whole is the reason.
-fn lack_of(capture: &Capture, at: Option<Host>) -> Option<&'static str> {
+fn lack_of<A: Allocator>(capture: &Capture<A>, at: Option<Host>) -> Option<&'static str> {
     if at.is_none() {
         return Some("--at ADDRESS names the end where the capture was taken");
     }
@@ -63,11 +63,11 @@ struct Place {
 }
 
 /// Appends an end with its findings, and returns how many packets break a rule.
-fn push_judged(
-    alloc: Global,
-    text: &mut String,
-    end: &JudgedEnd,
-    peer: &JudgedEnd,
+fn push_judged<A: Allocator + Copy>(
+    alloc: A,
+    text: &mut String<A>,
+    end: &JudgedEnd<A>,
+    peer: &JudgedEnd<A>,
     place: Place,
     is_complete: bool,
 ) -> Result<usize, AllocError> {
@@ -87,12 +87,12 @@ fn push_judged(
 }
 
 /// Appends an end, and adds it to the verdict.
-fn tell_end(
-    alloc: Global,
-    text: &mut String,
+fn tell_end<A: Allocator + Copy>(
+    alloc: A,
+    text: &mut String<A>,
     verdict: &mut Verdict,
-    end: &JudgedEnd,
-    peer: &JudgedEnd,
+    end: &JudgedEnd<A>,
+    peer: &JudgedEnd<A>,
     place: Place,
 ) -> Result<(), AllocError> {
     let is_complete = place.is_here && place.is_whole && !end.lacks_beginning;
@@ -114,10 +114,10 @@ fn tell_end(
     Ok(())
 }
 
-fn push_connection(
-    text: &mut String,
+fn push_connection<A: Allocator>(
+    text: &mut String<A>,
     number: usize,
-    connection: &Connection,
+    connection: &Connection<A>,
 ) -> Result<(), AllocError> {
     let first = connection.first.side;
     let second = connection.second.side;
@@ -132,7 +132,7 @@ fn push_connection(
     text.push_str("\n")
 }
 
-fn push_left_out(text: &mut String, left_out: LeftOut) -> Result<(), AllocError> {
+fn push_left_out<A: Allocator>(text: &mut String<A>, left_out: LeftOut) -> Result<(), AllocError> {
     let LeftOut {
         others,
         fragments,
@@ -158,7 +158,11 @@ fn push_left_out(text: &mut String, left_out: LeftOut) -> Result<(), AllocError>
 }
 
 /// Appends what the findings mean, and what wasn't tried.
-fn push_verdict(text: &mut String, verdict: Verdict, lack: Option<&str>) -> Result<(), AllocError> {
+fn push_verdict<A: Allocator>(
+    text: &mut String<A>,
+    verdict: Verdict,
+    lack: Option<&str>,
+) -> Result<(), AllocError> {
     let Verdict {
         ends,
         complete,
@@ -192,11 +196,11 @@ fn push_verdict(text: &mut String, verdict: Verdict, lack: Option<&str>) -> Resu
 }
 
 /// Appends both ends of a connection.
-fn tell_connection(
-    alloc: Global,
-    text: &mut String,
+fn tell_connection<A: Allocator + Copy>(
+    alloc: A,
+    text: &mut String<A>,
     verdict: &mut Verdict,
-    connection: &Connection,
+    connection: &Connection<A>,
     at: Option<Host>,
     place: Place,
 ) -> Result<(), AllocError> {
@@ -211,10 +215,10 @@ fn tell_connection(
 }
 
 /// Appends each connection.
-fn tell_connections(
-    alloc: Global,
-    text: &mut String,
-    connections: &Connections,
+fn tell_connections<A: Allocator + Copy>(
+    alloc: A,
+    text: &mut String<A>,
+    connections: &Connections<A>,
     at: Option<Host>,
     is_json: bool,
     paint: Paint,
@@ -242,7 +246,7 @@ fn tell_connections(
 }
 
 /// Appends what the capture has, and what is left out of the judgement.
-fn push_head(text: &mut String, capture: &Capture) -> Result<(), AllocError> {
+fn push_head<A: Allocator>(text: &mut String<A>, capture: &Capture<A>) -> Result<(), AllocError> {
     let packets = capture.packets;
     let count = capture.connections.list.len();
     write!(text, "packets {packets}, connections {count}\n")?;
@@ -269,13 +273,13 @@ fn push_head(text: &mut String, capture: &Capture) -> Result<(), AllocError> {
 }
 
 /// The report of a capture, taken at this address, and its verdict; as JSON, a line each, where that is wanted.
-pub fn report(
-    alloc: Global,
-    capture: &Capture,
+pub fn report<A: Allocator + Copy>(
+    alloc: A,
+    capture: &Capture<A>,
     at: Option<Host>,
     is_json: bool,
     paint: Paint,
-) -> Result<(String, Verdict), AllocError> {
+) -> Result<(String<A>, Verdict), AllocError> {
     let mut text = String::new(alloc);
     if !is_json {
         push_head(&mut text, capture)?;

@@ -6,7 +6,7 @@ ghost use Rattle.capture_window.specs.Windows.{Holds, HoldsBehind, first_wire, w
 use crate::window::Window;
 use capture_form::{Form, is_damaged, read_form, read_record};
 use kit_io::{Input, ReadError};
-use std::alloc::Global;
+use std::alloc::Allocator;
 
 /// The bytes that one read requests.
 const CHUNK: usize = 65536;
@@ -17,7 +17,10 @@ const HEAD: usize = 24;
 /// Reads once, and answers whether anything was read. The buffer is here, so that what finds enough in the window doesn't
 /// pay for it.
 #[inline(never)]
-pub(crate) fn read_on<I: Input>(input: &mut I, window: &mut Window) -> Result<bool, ReadError>
+pub(crate) fn read_on<I: Input, A: Allocator>(
+    input: &mut I,
+    window: &mut Window<A>,
+) -> Result<bool, ReadError>
     ensures held { OnOk result (Holds (I.remaining input.old) window.old (I.remaining input.new) window.new) }
     ensures more { IfOk result (λ some. some ≡ true → length window.old < length window.new) }
     ensures room { IfOk result (λ some. some ≡ true → length window.new < 2 ^ 63) }
@@ -36,7 +39,11 @@ pub(crate) fn read_on<I: Input>(input: &mut I, window: &mut Window) -> Result<bo
 }
 
 /// Reads on until the window holds this many bytes, or the input ends.
-pub fn fill_to<I: Input>(count: usize, input: &mut I, window: &mut Window) -> Result<(), ReadError>
+pub fn fill_to<I: Input, A: Allocator>(
+    count: usize,
+    input: &mut I,
+    window: &mut Window<A>,
+) -> Result<(), ReadError>
     ensures held { OnOk result (Holds (I.remaining input.old) window.old (I.remaining input.new) window.new) }
     ensures met { OnOk result (length window.new < count → IsAtEnd (I.remaining input.new)) }
 {
@@ -50,7 +57,10 @@ pub fn fill_to<I: Input>(count: usize, input: &mut I, window: &mut Window) -> Re
 
 /// Reads the form of a capture and takes the bytes that tell it. Where it is none in the pcap form, what was read stays in
 /// the window.
-pub fn open<I: Input>(input: &mut I, window: &mut Window) -> Result<Option<Form>, ReadError>
+pub fn open<I: Input, A: Allocator>(
+    input: &mut I,
+    window: &mut Window<A>,
+) -> Result<Option<Form>, ReadError>
     ensures form { IfOk result (λ form. IfSome (I.remaining input.old) (λ bytes. form ≡ form_of (window.old ++ bytes))) }
     ensures behind { IfOk result (λ form. IsSome form → HoldsBehind (I.remaining input.old) window.old (I.remaining input.new) window.new) }
     ensures held { IfOk result (λ form. form ≡ None → Holds (I.remaining input.old) window.old (I.remaining input.new) window.new) }
@@ -65,7 +75,11 @@ pub fn open<I: Input>(input: &mut I, window: &mut Window) -> Result<Option<Form>
 
 /// Reads on until a record begins what the window holds, and answers whether one does: none does where the input ends, or
 /// where a damaged record begins it.
-pub fn fill<I: Input>(form: Form, input: &mut I, window: &mut Window) -> Result<bool, ReadError>
+pub fn fill<I: Input, A: Allocator>(
+    form: Form,
+    input: &mut I,
+    window: &mut Window<A>,
+) -> Result<bool, ReadError>
     ensures held { OnOk result (Holds (I.remaining input.old) window.old (I.remaining input.new) window.new) }
     ensures whole { IfOk result (λ found. found ≡ true → IsSome (record_at form window.new)) }
     ensures end { IfOk result (λ found. found ≡ false → record_at form window.new ≡ None) }
@@ -85,7 +99,7 @@ pub fn fill<I: Input>(form: Form, input: &mut I, window: &mut Window) -> Result<
 }
 
 /// Takes the record that begins what the window holds, and answers its frame's length on the wire.
-pub fn pass_record(form: Form, window: &mut Window) -> Option<u32>
+pub fn pass_record<A: Allocator>(form: Form, window: &mut Window<A>) -> Option<u32>
     ensures { MatchOption result (record_at form window.old ≡ None) (λ wire. first_wire form window.old ≡ Some (wire, window.new)) }
 {
     let (wire, left) = match read_record(form, window.bytes()) {
@@ -98,7 +112,7 @@ pub fn pass_record(form: Form, window: &mut Window) -> Option<u32>
 }
 
 /// Adds a length at the end.
-pub(crate) fn keep(found: &mut Vec<u32>, wire: u32) -> Result<(), ReadError>
+pub(crate) fn keep<A: Allocator>(found: &mut Vec<u32, A>, wire: u32) -> Result<(), ReadError>
     ensures { OnOk result (found.new.items ≡ found.old.items ++ wire ∷ []) }
 {
     if found.push(wire).is_err() {
@@ -109,12 +123,12 @@ pub(crate) fn keep(found: &mut Vec<u32>, wire: u32) -> Result<(), ReadError>
 
 /// The lengths on the wire of the frames that the window and its input hold, behind a capture's form: all those of the
 /// capture, though never more than a record and what one read gives are held at once.
-pub fn wire_lengths<I: Input>(
-    alloc: Global,
+pub fn wire_lengths<I: Input, A: Allocator>(
+    alloc: A,
     form: Form,
     input: &mut I,
-    window: &mut Window,
-) -> Result<Vec<u32>, ReadError>
+    window: &mut Window<A>,
+) -> Result<Vec<u32, A>, ReadError>
     ensures { IfOk result (λ found. IfSome (I.remaining input.old) (λ bytes. found.items ≡ wires form (window.old ++ bytes))) }
 {
     let mut found = Vec::new(alloc);

@@ -9,14 +9,14 @@ use crate::reading::{keep, read_on};
 use crate::window::Window;
 use capture_form::pcapng::{Section, Step};
 use kit_io::{Input, ReadError};
-use std::alloc::Global;
+use std::alloc::Allocator;
 
 /// Reads on until a whole block begins what the window holds, and answers whether one does: none does where the input
 /// ends, or where a broken block begins it.
-pub fn fill_block<I: Input>(
-    section: &Section,
+pub fn fill_block<I: Input, A: Allocator>(
+    section: &Section<A>,
     input: &mut I,
-    window: &mut Window,
+    window: &mut Window<A>,
 ) -> Result<bool, ReadError>
     ensures held { OnOk result (Holds (I.remaining input.old) window.old (I.remaining input.new) window.new) }
     ensures whole { IfOk result (λ found. found ≡ is_whole (order_at section.now.order window.new) window.new) }
@@ -36,7 +36,7 @@ pub fn fill_block<I: Input>(
 }
 
 /// Takes all but the last `left` bytes.
-fn pass_to(left: usize, window: &mut Window)
+fn pass_to<A: Allocator>(left: usize, window: &mut Window<A>)
     requires { left ≤ length window.old }
     ensures { window.new ≡ drop (length window.old - left) window.old }
 {
@@ -46,9 +46,9 @@ fn pass_to(left: usize, window: &mut Window)
 
 /// Takes the block that begins what the window holds, and answers the length on the wire of the frame that it is, if it is
 /// a packet; `None` where no block begins it, or a damaged one.
-pub fn pass_block(
-    section: &mut Section,
-    window: &mut Window,
+pub fn pass_block<A: Allocator>(
+    section: &mut Section<A>,
+    window: &mut Window<A>,
 ) -> Result<Option<Option<u32>>, ReadError>
     ensures { IfOk result (λ passed. MatchOption passed (step_at section.old window.old ≡ None) (λ wire. wire_step section.old window.old ≡ Some ((section.new, wire), window.new))) }
 {
@@ -72,7 +72,7 @@ pub fn pass_block(
 }
 
 /// Adds the length of the frame that a block is, if it is a packet.
-fn keep_wire(found: &mut Vec<u32>, wire: Option<u32>) -> Result<(), ReadError>
+fn keep_wire<A: Allocator>(found: &mut Vec<u32, A>, wire: Option<u32>) -> Result<(), ReadError>
     ensures { OnOk result (found.new.items ≡ more_wires found.old.items wire) }
 {
     match wire {
@@ -83,12 +83,12 @@ fn keep_wire(found: &mut Vec<u32>, wire: Option<u32>) -> Result<(), ReadError>
 
 /// The lengths on the wire of the frames that the window and its input hold, in a section that may have begun: all those
 /// of the capture, though never more than a block and what one read gives are held at once. No capture has 2^64 blocks.
-pub fn section_lengths<I: Input>(
-    alloc: Global,
-    section: &mut Section,
+pub fn section_lengths<I: Input, A: Allocator>(
+    alloc: A,
+    section: &mut Section<A>,
     input: &mut I,
-    window: &mut Window,
-) -> Result<Vec<u32>, ReadError>
+    window: &mut Window<A>,
+) -> Result<Vec<u32, A>, ReadError>
     ensures { IfOk result (λ found. IfSome (I.remaining input.old) (λ bytes. found.items ≡ section_wires section.old (window.old ++ bytes))) }
 {
     let mut found = Vec::new(alloc);

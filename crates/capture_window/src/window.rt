@@ -1,18 +1,18 @@
 ghost use Rattle.std.specs.Prelude.{◌≡◌, ◌≤◌, ◌<◌, ◌^◌, ◌++◌, [], None, OnOk, drop, length};
 
 use kit_io::ReadError;
-use std::alloc::Global;
+use std::alloc::{Allocator, Global};
 use std::marker::Model;
 
 /// What was read of an input and isn't taken yet. A clause sees it as these bytes.
 #[derive(Debug, Drop)]
-pub struct Window {
-    bytes: Vec<u8>,
+pub struct Window<A: Allocator = Global> {
+    bytes: Vec<u8, A>,
     /// How many of them are taken.
     at: usize,
 }
 
-impl Model for Window {
+impl<A: Allocator> Model for Window<A> {
     ghost use Rattle.std.specs.Prelude.{ℕ, ◌≤◌, List, length, drop};
 
     ghost Value = { List ℕ };
@@ -23,16 +23,16 @@ impl Model for Window {
 }
 
 /// Lets the first `count` bytes go.
-fn drop_front(bytes: &mut Vec<u8>, count: usize)
+fn drop_front<A: Allocator>(bytes: &mut Vec<u8, A>, count: usize)
     requires { count ≤ length bytes.old.items }
     ensures { bytes.new.items ≡ drop count bytes.old.items }
 {
     bytes.drain(..count);
 }
 
-impl Window {
+impl<A: Allocator> Window<A> {
     /// Nothing was read.
-    pub fn new(alloc: Global) -> Self
+    pub fn new(alloc: A) -> Self
         ensures { result ≡ [] }
     {
         Window {

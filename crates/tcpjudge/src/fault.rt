@@ -51,6 +51,8 @@ impl From<CaptureError> for Fault {
         match error {
             CaptureError::ReadFault => Fault::ReadFault,
             CaptureError::NoMemory => Fault::NoMemory,
+            // No file is.
+            CaptureError::TooLong => Fault::ReadFault,
         }
     }
 }

@@ -2,9 +2,8 @@
 use crate::fault::Fault;
 use crate::progress::Progress;
 use crate::words::{Job, When, read_words};
-use capture_ends::{Capture, Host, Paint, read_capture, read_sections, report};
-use capture_form::pcapng::is_section;
-use capture_window::{Window, open};
+use capture_ends::{Capture, Host, Paint, judge_capture, open_capture, report};
+use capture_window::Window;
 use kit_io::{Counted, Input, read_all, write_all};
 use kit_judge::{Shown, judge_text};
 use std::fs::File;
@@ -155,18 +154,14 @@ fn judge_file(
     };
     let mut input = Counted::new(file);
     let mut window = Window::new(rt.alloc());
-    let form = open(&mut input, &mut window)?;
-    if form.is_none() && !is_section(window.bytes()) {
+    let Some(form) = open_capture(&mut input, &mut window)? else {
         return judge_log(rt, &mut input, &window, wanted);
-    }
+    };
     if wanted.is_complete {
         return Err(Fault::CompleteCapture);
     }
     let progress = Progress::new(rt, terminals.errors);
-    let capture = match form {
-        Some(form) => read_capture(rt.alloc(), form, &mut input, &mut window, &progress)?,
-        None => read_sections(rt.alloc(), &mut input, &mut window, &progress)?,
-    };
+    let capture = judge_capture(rt.alloc(), form, &mut input, &mut window, &progress)?;
     progress.end(capture.packets);
     tell_capture(rt, &capture, wanted, terminals)
 }

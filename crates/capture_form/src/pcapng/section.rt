@@ -13,7 +13,7 @@ use super::options::{number_of, padded};
 use crate::bytes::behind;
 use crate::frame::Frame;
 use crate::order::Order;
-use std::alloc::{AllocError, Global};
+use std::alloc::{AllocError, Allocator, Global};
 use std::marker::Model;
 
 /// The interfaces of a section that are read at most.
@@ -22,13 +22,13 @@ const MAX_INTERFACES: usize = 4096;
 /// What is known of the section that is read. A clause sees it as its order, its interfaces, and whether packets are
 /// missing.
 #[derive(Debug, Drop)]
-pub struct Section {
+pub struct Section<A: Allocator = Global> {
     order: Order,
-    interfaces: Vec<Interface>,
+    interfaces: Vec<Interface, A>,
     is_lossy: bool,
 }
 
-impl Model for Section {
+impl<A: Allocator> Model for Section<A> {
     ghost use Rattle.capture_form.specs.Sections.{SectionContent};
 
     ghost Value = { SectionContent };
@@ -89,9 +89,9 @@ fn read_lost(order: Order, body: &[u8]) -> u64
     number_of(order, 4, behind(body, 20 + padded(captured)))
 }
 
-impl Section {
+impl<A: Allocator> Section<A> {
     /// Nothing is known yet.
-    pub fn new(alloc: Global) -> Self
+    pub fn new(alloc: A) -> Self
         ensures { result ≡ start }
     {
         Section {

@@ -6,26 +6,26 @@ use Rattle.capture_window.proofs.SectionsHeld.{behind_block, passed_block}
 use Rattle.capture_window.proofs.sections.pass_block.Goals as goal
 
 pub returns-in-NoBlock : goal.returns-in-NoBlock
-returns-in-NoBlock c = ap (step_at c.args.section.now) (sym c.bytes.ensures) ∙ c.in-Ok.ensures.value ∙ ap (step_content c.step.new.self) c.in-NoBlock.is
+returns-in-NoBlock g c = ap (step_at c.args.section.now) (sym c.bytes.ensures) ∙ c.in-Ok.ensures.value ∙ ap (step_content c.step.new.self) c.in-NoBlock.is
 
 pub pass_to-requires : goal.pass_to-requires
-pass_to-requires c =
+pass_to-requires g c =
     let is : step_at c.args.section.now c.args.window.now ≡ Some ((c.step.new.self, None), c.in-Passed.rest.now) = ap (step_at c.args.section.now) (sym c.bytes.ensures) ∙ c.in-Ok.ensures.value ∙ ap (step_content c.step.new.self) c.in-Passed.is in
     (behind_block c.args.section.now c.args.window.now c.in-Passed.rest.now (c.step.new.self, None) is).0
 
 pub returns-in-Passed : goal.returns-in-Passed
-returns-in-Passed c =
+returns-in-Passed g c =
     let is : step_at c.args.section.now c.args.window.now ≡ Some ((c.step.new.self, None), c.in-Passed.rest.now) = ap (step_at c.args.section.now) (sym c.bytes.ensures) ∙ c.in-Ok.ensures.value ∙ ap (step_content c.step.new.self) c.in-Passed.is in
     passed_block c.args.section.now c.step.new.self c.args.window.now c.in-Passed.rest.now None is
     ∙ ap (λ (bytes : List ℕ). Some ((c.step.new.self, None), bytes)) (sym c.pass_to.ensures)
 
 pub pass_to-requires-in-Packet : goal.pass_to-requires-in-Packet
-pass_to-requires-in-Packet c =
+pass_to-requires-in-Packet g c =
     let is : step_at c.args.section.now c.args.window.now ≡ Some ((c.step.new.self, Some (frame_content c.in-Packet.frame)), c.in-Packet.rest.now) = ap (step_at c.args.section.now) (sym c.bytes.ensures) ∙ c.in-Ok.ensures.value ∙ ap (step_content c.step.new.self) c.in-Packet.is in
     (behind_block c.args.section.now c.args.window.now c.in-Packet.rest.now (c.step.new.self, Some (frame_content c.in-Packet.frame)) is).0
 
 pub returns-in-Packet : goal.returns-in-Packet
-returns-in-Packet c =
+returns-in-Packet g c =
     let is : step_at c.args.section.now c.args.window.now ≡ Some ((c.step.new.self, Some (frame_content c.in-Packet.frame)), c.in-Packet.rest.now) = ap (step_at c.args.section.now) (sym c.bytes.ensures) ∙ c.in-Ok.ensures.value ∙ ap (step_content c.step.new.self) c.in-Packet.is in
     passed_block c.args.section.now c.step.new.self c.args.window.now c.in-Packet.rest.now (Some (frame_content c.in-Packet.frame)) is
     ∙ ap (λ (bytes : List ℕ). Some ((c.step.new.self, Some c.in-Packet.frame.wire), bytes)) (sym c.pass_to-in-Packet.ensures)
