@@ -2,10 +2,11 @@ ghost use Rattle.std.specs.Prelude.{IfSome, None, Some, is_some, max, min, false
 ghost use Rattle.tcp_driver.specs.Deadlines.{kept, last};
 ghost use Rattle.tcp_driver.specs.Times.{restarts, round_trip};
 
+use crate::agreement::agree;
 use crate::conditions::{
     goes_again, is_shut, later_by, limit_of, opens, runs_none, shut_after, still,
 };
-use crate::deadlines::{Deadlines, LAST, earlier, is_kept, kept, no_later};
+use crate::deadlines::{Deadlines, LAST, earlier, kept, no_later};
 use crate::limits::Limits;
 use crate::machine::{Report, Sent, Timer, Wants};
 use std::marker::Model;
@@ -36,16 +37,21 @@ pub struct Timers {
     bursting: bool,
     /// The time of the last call.
     clock: u64,
+    /// What the timers were last set to run as, and whether nothing has stopped or started one since: so one comparison says at
+    /// most calls that they stand.
+    stood: Wants,
+    is_standing: bool,
 }
 
 impl Model for Timers {
-    ghost use Rattle.tcp_driver.specs.Times.{IsSoon, Times};
+    ghost use Rattle.std.specs.Prelude.{true, ◌≡◌};
+    ghost use Rattle.tcp_driver.specs.Times.{IsSoon, Times, stands};
 
     ghost Value = { Times };
 
     ghost view = { λ t. record { limits = t.limits; estimate = t.estimator; watch = t.watch; deadlines = t.deadlines; una = t.una; since = t.since; resent = t.resent; restarted = t.restarted; span = t.span; shut = t.shut; left = t.left; bursting = t.bursting; clock = t.clock } };
 
-    ghost invariant = { λ t. IsSoon (record { limits = t.limits; estimate = t.estimator; watch = t.watch; deadlines = t.deadlines; una = t.una; since = t.since; resent = t.resent; restarted = t.restarted; span = t.span; shut = t.shut; left = t.left; bursting = t.bursting; clock = t.clock }) };
+    ghost invariant = { λ t. IsSoon (record { limits = t.limits; estimate = t.estimator; watch = t.watch; deadlines = t.deadlines; una = t.una; since = t.since; resent = t.resent; restarted = t.restarted; span = t.span; shut = t.shut; left = t.left; bursting = t.bursting; clock = t.clock }) × (t.is_standing ≡ true → stands (record { limits = t.limits; estimate = t.estimator; watch = t.watch; deadlines = t.deadlines; una = t.una; since = t.since; resent = t.resent; restarted = t.restarted; span = t.span; shut = t.shut; left = t.left; bursting = t.bursting; clock = t.clock }) t.stood t.una ≡ true) };
 }
 
 impl Timers {
@@ -74,6 +80,13 @@ impl Timers {
             left: None,
             bursting: false,
             clock: now,
+            stood: Wants {
+                retransmit: false,
+                reorder: false,
+                time_wait: false,
+                fin_wait_2: false,
+            },
+            is_standing: false,
         }
     }
 
@@ -117,20 +130,13 @@ impl Timers {
         }
     }
 
-    /// Whether the timers run as the end wants them already, and nothing was acknowledged. All that says so is looked at at once:
-    /// mostly it is so, and a jump for each costs more.
+    /// Whether the timers are known to run as the end wants them already, and nothing was acknowledged.
     #[inline(always)]
-    #[tactic(auto, using(crate::proofs::Standing::at_once))]
+    #[tactic(auto, using(crate::proofs::Standing::stands_as_before))]
     fn stands(&self, wants: Wants, una: u64) -> bool
-        ensures { result ≡ stands self.now wants una }
+        ensures { result ≡ true → stands self.now wants una ≡ true }
     {
-        let runs = wants.retransmit;
-        let are_kept = is_kept(runs, self.deadlines.retransmit)
-            & is_kept(runs, self.since)
-            & is_kept(wants.reorder, self.deadlines.reorder)
-            & is_kept(wants.time_wait, self.deadlines.time_wait)
-            & is_kept(wants.fin_wait_2, self.left);
-        una == self.una && (are_kept && (runs || (self.resent == 0 && !self.restarted)))
+        self.is_standing && (una == self.una && agree(wants, self.stood))
     }
 
     /// The timers run as the end wants them, and start anew where something was acknowledged. Mostly they do already, and
@@ -165,6 +171,7 @@ impl Timers {
 
     /// As `follow` now, whether they do already or not. What the end wants comes as words, which stay in registers.
     #[inline(always)]
+    #[tactic(auto, using(crate::proofs::Standing::stands_behind))]
     fn start(
         &mut self,
         una: u64,
@@ -188,6 +195,13 @@ impl Timers {
         } else {
             self.start_anew(una, retransmit, reorder, time_wait, fin_wait_2);
         }
+        self.stood = Wants {
+            retransmit,
+            reorder,
+            time_wait,
+            fin_wait_2,
+        };
+        self.is_standing = true;
     }
 
     /// Those that don't run and have to start, where nothing was acknowledged.
@@ -203,6 +217,7 @@ impl Timers {
         ensures time_wait { is_some self.new.deadlines.time_wait ≡ time_wait }
         ensures rests { rests retransmit self.new ≡ true }
     {
+        self.is_standing = false;
         let now = self.clock;
         let rto = self.estimator.rto();
         self.deadlines.retransmit = kept(retransmit, true, self.deadlines.retransmit, now + rto);
@@ -233,6 +248,7 @@ impl Timers {
         ensures time_wait { is_some self.new.deadlines.time_wait ≡ time_wait }
         ensures rests { rests retransmit self.new ≡ true }
     {
+        self.is_standing = false;
         let now = self.clock;
         let rto = self.estimator.rto();
         self.deadlines.retransmit = if retransmit { Some(now + rto) } else { None };
@@ -265,6 +281,7 @@ impl Timers {
         ensures state { self.new ≡ record self.old { deadlines = record self.old.deadlines { reorder = kept reorder same self.old.deadlines.reorder (self.old.clock + min self.old.estimate.rto self.old.span); time_wait = kept time_wait true self.old.deadlines.time_wait (self.old.clock + min last self.old.limits.time_wait) }; left = kept fin_wait_2 true self.old.left self.old.clock } }
         ensures soon { IsSoon self.new }
     {
+        self.is_standing = false;
         let now = self.clock;
         let late = now + self.estimator.rto().min(self.span);
         let longest = LAST.min(self.limits.time_wait);
@@ -302,6 +319,7 @@ impl Timers {
     fn turn_window(&mut self, una: u64, window: Option<u64>)
         ensures { self.new ≡ after_window self.old una window }
     {
+        self.is_standing = false;
         if opens(self.shut, window) {
             self.estimator.forget_back_off();
             self.deadlines.retransmit = None;
@@ -321,10 +339,12 @@ impl Timers {
         self.measure(una, now);
         self.take_window(una, report.window);
         if report.repeats_fin {
+            self.is_standing = false;
             self.deadlines.time_wait = None;
         }
         // Mostly it isn't in FIN-WAIT-2.
         if self.left.is_some() && report.from_peer {
+            self.is_standing = false;
             self.left = None;
         }
     }
@@ -357,6 +377,7 @@ impl Timers {
         requires fits { sent.start + sent.count < 2 ^ 64 }
         ensures { self.new ≡ after_segment (Some sent) self.old now }
     {
+        self.is_standing = false;
         if self.restarts(sent) {
             self.deadlines.retransmit = None;
             self.restarted = true;
@@ -459,6 +480,7 @@ impl Timers {
         ensures state { self.new ≡ after_expiry self.old timer }
         ensures clock { self.new.clock ≡ self.old.clock }
     {
+        self.is_standing = false;
         match timer {
             Timer::Retransmit => {
                 self.estimator.back_off();
