@@ -3,7 +3,7 @@ use Rattle.std.proofs.Common.{◌≡◌, ℕ, ◌+◌, ◌==◌, Bool, true, fal
 use Rattle.std.specs.Prelude.{◌&&◌, ◌||◌, if◌then◌else◌, min}
 use Rattle.tcp_driver.specs.declared.machine.Wants.{Wants}
 use Rattle.tcp_driver.specs.Deadlines.{is_kept, kept, last}
-use Rattle.tcp_driver.specs.Times.{Times, deadlines_after, followed, span_after, stands, still, waits_on}
+use Rattle.tcp_driver.specs.Times.{Times, deadlines_after, followed, rests, span_after, stands, still, waits_on}
 
 first : (a b : Bool) → (a && b) ≡ true → a ≡ true
 first true b e = refl
@@ -13,20 +13,19 @@ second : (a b : Bool) → (a && b) ≡ true → b ≡ true
 second true b e = e
 second false b e = absurd (cc)
 
-at-last : (x : Bool) → false ≡ (x && false)
-at-last true = refl
-at-last false = refl
+wanted : (a b c d : Bool) → Wants
+wanted a b c d = record { retransmit = a; reorder = b; time_wait = c; fin_wait_2 = d }
 
--- what is looked at at once is what stands, one after another
-pub at_once : (u r s x o t l : Bool) → (u && (((((r && s) && o) && t) && l) && x)) ≡ (u && ((r && (s && x)) && (o && (t && l))))
-at_once false r s x o t l = refl
-at_once true false s x o t l = refl
-at_once true true false x o t l = refl
-at_once true true true x false t l = at-last x
-at_once true true true x true false l = at-last x
-at_once true true true x true true false = at-last x
-at_once true true true true true true true = refl
-at_once true true true false true true true = refl
+-- what agrees in each timer is the same
+pub agree_in_all : (one other : Wants) (r o t f : Bool) → (r ≡ true → one.retransmit ≡ other.retransmit) → (o ≡ true → one.reorder ≡ other.reorder) → (t ≡ true → one.time_wait ≡ other.time_wait) → (f ≡ true → one.fin_wait_2 ≡ other.fin_wait_2) → ((r && o) && (t && f)) ≡ true → one ≡ other
+unfolding wanted
+agree_in_all one other r o t f a b c d e =
+    let front = first (r && o) (t && f) e in
+    let back = second (r && o) (t && f) e in
+    ap (λ x. wanted x one.reorder one.time_wait one.fin_wait_2) (a (first r o front))
+    ∙ (ap (λ x. wanted other.retransmit x one.time_wait one.fin_wait_2) (b (second r o front))
+    ∙ (ap (λ x. wanted other.retransmit other.reorder x one.fin_wait_2) (c (first t f back))
+    ∙ ap (λ x. wanted other.retransmit other.reorder other.time_wait x) (d (second t f back))))
 
 kept-same : (runs : Bool) (before : Option ℕ) (new : ℕ) → is_kept runs before ≡ true → kept runs true before new ≡ before
 kept-same true (Some t) new e = refl
@@ -134,3 +133,35 @@ left_as_wanted t w una e = kept-some w.fin_wait_2 t.left (standing t w una e).le
 
 pub time_wait_as_wanted : (t : Times) (w : Wants) (una : ℕ) → stands t w una ≡ true → is_some t.deadlines.time_wait ≡ w.time_wait
 time_wait_as_wanted t w una e = kept-some w.time_wait t.deadlines.time_wait (standing t w una e).time_wait
+
+kept-as-wanted : (runs : Bool) (before : Option ℕ) → is_some before ≡ runs → is_kept runs before ≡ true
+kept-as-wanted true (Some t) e = refl
+kept-as-wanted true None e = absurd (cc)
+kept-as-wanted false None e = refl
+kept-as-wanted false (Some t) e = absurd (cc)
+
+both : (a b : Bool) → a ≡ true → b ≡ true → (a && b) ≡ true
+both true b e f = f
+both false b e f = absurd (cc)
+
+same-as-itself : (n : ℕ) → (n == n) ≡ true
+same-as-itself n = grind arith
+
+-- BEHIND A START they stand
+pub stands_behind : (t : Times) (w : Wants) → is_some t.deadlines.retransmit ≡ w.retransmit → is_some t.since ≡ w.retransmit → rests w.retransmit t ≡ true → is_some t.deadlines.reorder ≡ w.reorder → is_some t.deadlines.time_wait ≡ w.time_wait → is_some t.left ≡ w.fin_wait_2 → stands t w t.una ≡ true
+stands_behind t w r s x o tw l =
+    let waits = both (is_kept w.retransmit t.deadlines.retransmit) (is_kept w.retransmit t.since && rests w.retransmit t) (kept-as-wanted w.retransmit t.deadlines.retransmit r)
+    (both (is_kept w.retransmit t.since) (rests w.retransmit t) (kept-as-wanted w.retransmit t.since s) x) in
+    let last = both (is_kept w.time_wait t.deadlines.time_wait) (is_kept w.fin_wait_2 t.left) (kept-as-wanted w.time_wait t.deadlines.time_wait tw) (kept-as-wanted w.fin_wait_2 t.left l) in
+    both (t.una == t.una) (waits_on t w.retransmit && (is_kept w.reorder t.deadlines.reorder && (is_kept w.time_wait t.deadlines.time_wait && is_kept w.fin_wait_2 t.left))) (same-as-itself t.una)
+    (both (waits_on t w.retransmit) (is_kept w.reorder t.deadlines.reorder && (is_kept w.time_wait t.deadlines.time_wait && is_kept w.fin_wait_2 t.left)) waits
+    (both (is_kept w.reorder t.deadlines.reorder) (is_kept w.time_wait t.deadlines.time_wait && is_kept w.fin_wait_2 t.left) (kept-as-wanted w.reorder t.deadlines.reorder o) last))
+
+-- WHAT STOOD BEFORE, and is wanted again where nothing was acknowledged, stands
+pub stands_as_before : (t : Times) (known : Bool) (stood w : Wants) (una : ℕ) (same : Bool) → (known ≡ true → stands t stood t.una ≡ true) → (same ≡ true → w ≡ stood) → (known && (una == t.una && same)) ≡ true → stands t w una ≡ true
+stands_as_before t known stood w una same was agrees e =
+    let k = first known (una == t.una && same) e in
+    let rest = second known (una == t.una && same) e in
+    let u = same-una una t.una (first (una == t.una) same rest) in
+    let ww = agrees (second (una == t.una) same rest) in
+    ap (λ x. stands t x una) ww ∙ (ap (λ x. stands t stood x) u ∙ was k)

@@ -16,6 +16,7 @@
 //! 5. calls [`Driver::timeout`], and emits again where a timer has expired.
 #![tactic(auto)]
 
+mod agreement;
 mod conditions;
 mod deadlines;
 mod driver;

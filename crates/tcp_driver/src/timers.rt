@@ -1,11 +1,12 @@
+mod expiring;
+
 ghost use Rattle.std.specs.Prelude.{IfSome, None, Some, is_some, max, min, false, true, ◌≡◌, ◌==◌, ◌≤◌, ◌+◌, ◌<◌, ◌*◌, ◌^◌};
 ghost use Rattle.tcp_driver.specs.Deadlines.{kept, last};
 ghost use Rattle.tcp_driver.specs.Times.{restarts, round_trip};
 
-use crate::conditions::{
-    goes_again, is_shut, later_by, limit_of, opens, runs_none, shut_after, still,
-};
-use crate::deadlines::{Deadlines, LAST, earlier, is_kept, kept, no_later};
+use crate::agreement::agree;
+use crate::conditions::{goes_again, is_shut, opens, runs_none, shut_after, still};
+use crate::deadlines::{Deadlines, LAST, kept};
 use crate::limits::Limits;
 use crate::machine::{Report, Sent, Timer, Wants};
 use std::marker::Model;
@@ -36,20 +37,25 @@ pub struct Timers {
     bursting: bool,
     /// The time of the last call.
     clock: u64,
+    /// What the timers were last set to run as, and whether nothing has stopped or started one since: so one comparison says at
+    /// most calls that they stand.
+    stood: Wants,
+    is_standing: bool,
 }
 
 impl Model for Timers {
-    ghost use Rattle.tcp_driver.specs.Times.{IsSoon, Times};
+    ghost use Rattle.std.specs.Prelude.{true, ◌≡◌};
+    ghost use Rattle.tcp_driver.specs.Times.{IsSoon, Times, stands};
 
     ghost Value = { Times };
 
     ghost view = { λ t. record { limits = t.limits; estimate = t.estimator; watch = t.watch; deadlines = t.deadlines; una = t.una; since = t.since; resent = t.resent; restarted = t.restarted; span = t.span; shut = t.shut; left = t.left; bursting = t.bursting; clock = t.clock } };
 
-    ghost invariant = { λ t. IsSoon (record { limits = t.limits; estimate = t.estimator; watch = t.watch; deadlines = t.deadlines; una = t.una; since = t.since; resent = t.resent; restarted = t.restarted; span = t.span; shut = t.shut; left = t.left; bursting = t.bursting; clock = t.clock }) };
+    ghost invariant = { λ t. IsSoon (record { limits = t.limits; estimate = t.estimator; watch = t.watch; deadlines = t.deadlines; una = t.una; since = t.since; resent = t.resent; restarted = t.restarted; span = t.span; shut = t.shut; left = t.left; bursting = t.bursting; clock = t.clock }) × (t.is_standing ≡ true → stands (record { limits = t.limits; estimate = t.estimator; watch = t.watch; deadlines = t.deadlines; una = t.una; since = t.since; resent = t.resent; restarted = t.restarted; span = t.span; shut = t.shut; left = t.left; bursting = t.bursting; clock = t.clock }) t.stood t.una ≡ true) };
 }
 
 impl Timers {
-    ghost use Rattle.tcp_driver.specs.Times.{IsSoon, after_expiry, after_segment, after_window, expiring, expiry, first_times, followed, is_suspect, measured, next_expiry, rests, stands, taken, time_at, user_deadline, waits_on, with_user_timeout};
+    ghost use Rattle.tcp_driver.specs.Times.{IsSoon, after_expiry, after_segment, after_window, first_times, followed, is_suspect, measured, rests, stands, taken, time_at, waits_on, with_user_timeout};
     ghost use Rattle.tcp_timing.specs.Rules.{IsSound};
 
     /// No timer runs.
@@ -74,6 +80,13 @@ impl Timers {
             left: None,
             bursting: false,
             clock: now,
+            stood: Wants {
+                retransmit: false,
+                reorder: false,
+                time_wait: false,
+                fin_wait_2: false,
+            },
+            is_standing: false,
         }
     }
 
@@ -117,20 +130,13 @@ impl Timers {
         }
     }
 
-    /// Whether the timers run as the end wants them already, and nothing was acknowledged. All that says so is looked at at once:
-    /// mostly it is so, and a jump for each costs more.
+    /// Whether the timers are known to run as the end wants them already, and nothing was acknowledged.
     #[inline(always)]
-    #[tactic(auto, using(crate::proofs::Standing::at_once))]
+    #[tactic(auto, using(crate::proofs::Standing::stands_as_before))]
     fn stands(&self, wants: Wants, una: u64) -> bool
-        ensures { result ≡ stands self.now wants una }
+        ensures { result ≡ true → stands self.now wants una ≡ true }
     {
-        let runs = wants.retransmit;
-        let are_kept = is_kept(runs, self.deadlines.retransmit)
-            & is_kept(runs, self.since)
-            & is_kept(wants.reorder, self.deadlines.reorder)
-            & is_kept(wants.time_wait, self.deadlines.time_wait)
-            & is_kept(wants.fin_wait_2, self.left);
-        una == self.una && (are_kept && (runs || (self.resent == 0 && !self.restarted)))
+        self.is_standing && (una == self.una && agree(wants, self.stood))
     }
 
     /// The timers run as the end wants them, and start anew where something was acknowledged. Mostly they do already, and
@@ -165,6 +171,7 @@ impl Timers {
 
     /// As `follow` now, whether they do already or not. What the end wants comes as words, which stay in registers.
     #[inline(always)]
+    #[tactic(auto, using(crate::proofs::Standing::stands_behind))]
     fn start(
         &mut self,
         una: u64,
@@ -188,6 +195,13 @@ impl Timers {
         } else {
             self.start_anew(una, retransmit, reorder, time_wait, fin_wait_2);
         }
+        self.stood = Wants {
+            retransmit,
+            reorder,
+            time_wait,
+            fin_wait_2,
+        };
+        self.is_standing = true;
     }
 
     /// Those that don't run and have to start, where nothing was acknowledged.
@@ -203,6 +217,7 @@ impl Timers {
         ensures time_wait { is_some self.new.deadlines.time_wait ≡ time_wait }
         ensures rests { rests retransmit self.new ≡ true }
     {
+        self.is_standing = false;
         let now = self.clock;
         let rto = self.estimator.rto();
         self.deadlines.retransmit = kept(retransmit, true, self.deadlines.retransmit, now + rto);
@@ -233,6 +248,7 @@ impl Timers {
         ensures time_wait { is_some self.new.deadlines.time_wait ≡ time_wait }
         ensures rests { rests retransmit self.new ≡ true }
     {
+        self.is_standing = false;
         let now = self.clock;
         let rto = self.estimator.rto();
         self.deadlines.retransmit = if retransmit { Some(now + rto) } else { None };
@@ -265,6 +281,7 @@ impl Timers {
         ensures state { self.new ≡ record self.old { deadlines = record self.old.deadlines { reorder = kept reorder same self.old.deadlines.reorder (self.old.clock + min self.old.estimate.rto self.old.span); time_wait = kept time_wait true self.old.deadlines.time_wait (self.old.clock + min last self.old.limits.time_wait) }; left = kept fin_wait_2 true self.old.left self.old.clock } }
         ensures soon { IsSoon self.new }
     {
+        self.is_standing = false;
         let now = self.clock;
         let late = now + self.estimator.rto().min(self.span);
         let longest = LAST.min(self.limits.time_wait);
@@ -302,6 +319,7 @@ impl Timers {
     fn turn_window(&mut self, una: u64, window: Option<u64>)
         ensures { self.new ≡ after_window self.old una window }
     {
+        self.is_standing = false;
         if opens(self.shut, window) {
             self.estimator.forget_back_off();
             self.deadlines.retransmit = None;
@@ -321,10 +339,12 @@ impl Timers {
         self.measure(una, now);
         self.take_window(una, report.window);
         if report.repeats_fin {
+            self.is_standing = false;
             self.deadlines.time_wait = None;
         }
         // Mostly it isn't in FIN-WAIT-2.
         if self.left.is_some() && report.from_peer {
+            self.is_standing = false;
             self.left = None;
         }
     }
@@ -357,6 +377,7 @@ impl Timers {
         requires fits { sent.start + sent.count < 2 ^ 64 }
         ensures { self.new ≡ after_segment (Some sent) self.old now }
     {
+        self.is_standing = false;
         if self.restarts(sent) {
             self.deadlines.retransmit = None;
             self.restarted = true;
@@ -385,80 +406,12 @@ impl Timers {
         self.limits.suspect_after <= self.resent
     }
 
-    /// When the end is given up.
-    #[cold]
-    #[inline(never)]
-    fn user_deadline(&self) -> Option<u64>
-        ensures { result ≡ user_deadline self.now }
-    {
-        let unanswered = if self.is_suspect() {
-            later_by(self.since, limit_of(&self.limits, self.una))
-        } else {
-            None
-        };
-        earlier(unanswered, later_by(self.left, self.limits.fin_wait_2))
-    }
-
-    /// When a timer expires next.
-    #[inline(always)]
-    pub fn next_expiry(&self) -> Option<u64>
-        ensures { result ≡ next_expiry self.now }
-    {
-        let soonest = self.deadlines.soonest();
-        // Mostly nothing waits for the user.
-        if !self.is_suspect() && self.left.is_none() {
-            return soonest;
-        }
-        earlier(self.user_deadline(), soonest)
-    }
-
-    /// Whether a timer may have expired, where the next one expires at `next`. None does in a burst, and mostly none has.
-    #[inline(always)]
-    #[tactic(auto, using(crate::proofs::Expiring::none_expires))]
-    pub fn may_expire(&self, next: Option<u64>, now: u64) -> bool
-        requires { next ≡ next_expiry self.now }
-        ensures none { result ≡ false → expiry self.now now ≡ None }
-        ensures outside { result ≡ true → self.now.bursting ≡ false }
-    {
-        !self.bursting && no_later(next, now)
-    }
-
-    /// The timer that has expired, if one has.
-    #[inline(always)]
-    pub fn expiry(&self, now: u64) -> Option<Timer>
-        ensures { result ≡ expiry self.now now }
-    {
-        if self.may_expire(self.next_expiry(), now) {
-            self.first_expired(now)
-        } else {
-            None
-        }
-    }
-
-    /// The first of the timers that have expired outside a burst.
-    #[cold]
-    #[inline(never)]
-    fn first_expired(&self, now: u64) -> Option<Timer>
-        ensures { result ≡ expiring self.now now }
-    {
-        if no_later(self.user_deadline(), now) {
-            Some(Timer::User)
-        } else if no_later(self.deadlines.retransmit, now) {
-            Some(Timer::Retransmit)
-        } else if no_later(self.deadlines.reorder, now) {
-            Some(Timer::Reorder)
-        } else if no_later(self.deadlines.time_wait, now) {
-            Some(Timer::TimeWait)
-        } else {
-            None
-        }
-    }
-
     /// A timer has expired: a burst begins.
     pub fn expire(&mut self, timer: Timer)
         ensures state { self.new ≡ after_expiry self.old timer }
         ensures clock { self.new.clock ≡ self.old.clock }
     {
+        self.is_standing = false;
         match timer {
             Timer::Retransmit => {
                 self.estimator.back_off();
