@@ -109,12 +109,13 @@ pub(crate) fn push_found(
 pub(crate) fn push_notes(
     text: &mut String,
     end: &JudgedEnd,
+    is_complete: bool,
     paint: Paint,
 ) -> Result<(), AllocError> {
     let notes = &end.flow.notes;
     for kind in KINDS {
         let note = notes.of(kind);
-        if note.count > 0 {
+        if note.count > 0 && (is_complete || !kind.wants_all()) {
             push_note(text, kind.words(), note, kind.section(), paint)?;
         }
     }

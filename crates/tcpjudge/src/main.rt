@@ -17,6 +17,8 @@ mod program;
 mod progress;
 mod side;
 mod telling;
+mod told;
+mod watch;
 mod words;
 
 use crate::program::Terminals;
