@@ -376,9 +376,9 @@ def compare(cases, program, name, data, address):
             cases.holds(f"notes, {name}, {' '.join(words)}", found == wanted, f"found {found}, wanted {wanted}")
 
 
-# tshark's name of each note. Where the packets differ, those that are noted here alone, and by tshark 4.0 alone: it guesses by times whether
-# what fills a gap, or is sent again, was late, calls a segment with new and old text out of order, wants two duplicates before a fast retransmission, and each
-# within 20 ms of one, counts a duplicate where nothing is outstanding, and a keep-alive where a byte is.
+# tshark's name of each note that it has too. Where the packets differ, those that are noted here alone, and by tshark 4.0 alone: it guesses by
+# times whether what fills a gap, or is sent again, was late, calls a segment with new and old text out of order, wants two duplicates before a
+# fast retransmission, and each within 20 ms of one, counts a duplicate where nothing is outstanding, and a keep-alive where a byte is.
 ANALYSED = {"Retransmission": "retransmission", "FastRetransmission": "fast_retransmission", "OutOfOrder": "out_of_order",
             "PreviousNotSeen": "lost_segment", "DuplicateAck": "duplicate_ack", "ZeroWindow": "zero_window", "WindowFull": "window_full",
             "KeepAlive": "keep_alive"}

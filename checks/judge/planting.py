@@ -25,6 +25,7 @@ import tempfile
 from twice import HERE, Differs, Judges
 
 import capture
+from correct import ORDINARY
 from faults import GROUPS, places_of, planted, read_line
 from judge import findings, octets
 
@@ -32,10 +33,8 @@ PAGE = HERE.parents[1] / "docs/JUDGE.md"
 NOTE, WARNING, PLACES = 4194304, 6291456, 3
 COLUMNS = {"log": "Log: found", "finding": "Capture: found", "note": "Capture: found or noted", "warned": "tshark: error or warning",
            "told": "tshark: any line", "traced": "tcptrace"}
-# Notes that say nothing of a fault: what is inserted is one of these, if it is faulty or not.
-ORDINARY = {"Retransmission", "FastRetransmission", "OutOfOrder", "DuplicateAck", "ZeroWindow", "WindowFull", "KeepAlive"}
 # Of 100 planted faults the judge finds at least so many in a log and in a capture, and by notes, too.
-LEAST = {"log": 77, "finding": 60, "note": 88}
+LEAST = {"log": 75, "finding": 57, "note": 88}
 # So many are planted.
 PLANTED = 400
 WARNINGS = ["-w", "--checksum", *(f"--warn_{word}" for word in ("ooo", "printtrunc", "printbadmbz", "printbadcsum", "printbad_syn_fin_seq"))]
@@ -88,9 +87,9 @@ def at_least(counts, severity):
 
 
 def warnings(path):
-    """How many lines tcptrace has beside those of a capture without a fault: warnings, and none of its list of connections."""
+    """How many lines of warning tcptrace writes."""
     done = subprocess.run(["tcptrace", "-n", *WARNINGS, path], capture_output=True, text=True, errors="replace", check=False)
-    return len(done.stderr.splitlines()) + sum(bool(re.search(r"(?i)warn|bad|wrong|error|invalid|corrupt", line)) for line in done.stdout.splitlines())
+    return len(done.stderr.splitlines())
 
 
 class Base:
@@ -149,7 +148,7 @@ def table(judges, shows_kinds=False, has_others=True):
     for base in bases:
         accused = "accuses it" if base.is_accused or base.findings else "accuses nothing"
         warned, told = at_least(base.experts, WARNING), at_least(base.experts, NOTE)
-        others = f"; tshark: {warned} errors and warnings, {told - warned} notes; tcptrace: {base.warnings} lines" if has_others else ""
+        others = f"; tshark: {warned} errors and warnings, {told - warned} notes; tcptrace: {base.warnings} warnings" if has_others else ""
         print(f"{base.name}: {base.count} segments: the judge {accused}{others}")
     with concurrent.futures.ThreadPoolExecutor(4) as pool:
         rows = {kind: pool.submit(kind_row, kind, judges.program, bases) for kinds in GROUPS.values() for kind in kinds}
