@@ -12,6 +12,7 @@ class Line:
     def __init__(self, word, source, target, data):
         self.word, self.source, self.target, self.data = word, source, target, data
         self.seq, self.ack = struct.unpack(">II", data[4:12])
+        (self.window,) = struct.unpack(">H", data[14:16])
         self.flags, end = data[13], 4 * (data[12] >> 4)
         self.options, self.text = data[20:end], data[end:]
 
@@ -27,11 +28,12 @@ class Line:
 
     def changed(self, **fields):
         """The same with other fields."""
-        fields = {"seq": self.seq, "ack": self.ack, "flags": self.flags, "options": self.options, "text": self.text} | fields
+        fields = {"seq": self.seq, "ack": self.ack, "flags": self.flags, "window": self.window, "options": self.options, "text": self.text} | fields
         options = fields["options"] + bytes(-len(fields["options"]) % 4)
         front = struct.pack(">II", fields["seq"] % SPACE, fields["ack"] % SPACE)
         offset = bytes([(5 + len(options) // 4) << 4 | self.data[12] & 15, fields["flags"]])
-        return self.with_data(self.data[:4] + front + offset + self.data[14:20] + options + fields["text"])
+        window = struct.pack(">H", fields["window"])
+        return self.with_data(self.data[:4] + front + offset + window + self.data[16:20] + options + fields["text"])
 
     def __str__(self):
         addresses = [".".join(map(str, address)) for address in (self.source, self.target)]
@@ -55,6 +57,39 @@ class Place:
         self.fin = next((line.seq + len(line.text) for line in [*went, segment] if line.has(FIN)), None)
         # The numbers of text that went.
         self.gone = {(line.seq + i) % SPACE for line in went for i in range(len(line.text))}
+        self.came = [line for line in before if line.word == "came"]
+        # How far the end had sent before this segment, and how far that was acknowledged.
+        self.next = furthest(line.seq + line.numbers() for line in went if not line.has(RST))
+        self.acked = furthest(line.ack for line in self.came if line.has(ACK) and not line.has(RST))
+
+    def syns(self):
+        """Its SYN and the peer's, or None."""
+        lines = [*self.before, self.segment]
+        found = [next((line for line in lines if line.word == word and line.has(SYN)), None) for word in ("went", "came")]
+        return found if None not in found else None
+
+    def shift(self):
+        """How far its window is shifted (RFC 7323, 2.2)."""
+        own, peer = (body_of(line.options, 3) for line in self.syns())
+        return own[0] if own and peer else 0
+
+    def edge(self):
+        """Behind the window that it told last."""
+        last = next(line for line in reversed(self.before) if line.word == "went" and line.has(ACK) and not line.has(RST))
+        return last.ack + (last.window << (0 if last.has(SYN) else self.shift()))
+
+    def peer_edge(self):
+        """Behind the greatest window that came, from the furthest acknowledgement."""
+        own, peer = (body_of(line.options, 3) for line in self.syns())
+        shift = peer[0] if own and peer else 0
+        return self.acked + max(line.window << (0 if line.has(SYN) else shift) for line in self.came if line.has(ACK))
+
+    def stream(self, begin, count):
+        """The text from a number on, by all segments that went, or None."""
+        bytes_by_number = {(line.seq + i) % SPACE: byte for line in [*self.before, self.segment, *self.behind] if line.word == "went"
+                           for i, byte in enumerate(line.text)}
+        numbers = [(begin + i) % SPACE for i in range(count)]
+        return bytes(bytes_by_number[number] for number in numbers) if all(number in bytes_by_number for number in numbers) else None
 
     def is_plain(self):
         """Neither a SYN nor a reset."""
@@ -64,6 +99,35 @@ class Place:
         """The last text before it that went whole, or None."""
         went = [line for line in self.before if line.word == "went" and len(line.text) > 1 and not line.flags & (SYN | RST)]
         return next((line for line in reversed(went) if all((line.seq + i) % SPACE in self.gone for i in range(len(line.text)))), None)
+
+
+def furthest(numbers):
+    """The furthest of some numbers, or None."""
+    found = None
+    for number in numbers:
+        if found is None or 0 < (number - found) % SPACE < HALF:
+            found = number % SPACE
+    return found
+
+
+def body_of(area, kind):
+    """The body of the first option of a kind, or None."""
+    at = 0
+    while at < len(area) and area[at]:
+        if area[at] == kind:
+            return area[at + 2 : at + area[at + 1]]
+        at += 1 if area[at] == 1 else area[at + 1]
+    return None
+
+
+def without(area, kind):
+    """Options but for those of a kind, and no-operations."""
+    made, at = b"", 0
+    while at < len(area) and area[at]:
+        size = 1 if area[at] == 1 else area[at + 1]
+        made += b"" if area[at] in (1, kind) else area[at : at + size]
+        at += size
+    return made
 
 
 def instead(change, applies=lambda place: True):
@@ -115,9 +179,15 @@ def byte_at(place, at, value):
     return place.segment.with_data(data[:at] + bytes([value]) + data[at + 1 :])
 
 
+def own_times(place):
+    """The timestamps of the segment, as an option."""
+    body = body_of(place.segment.options, 8)
+    return bytes([1, 1, 8, 10]) + body if body and len(body) == 8 else b""
+
+
 def told_again(place, ack):
     """An empty acknowledgement of this number."""
-    return place.segment.changed(ack=ack, flags=ACK, options=b"", text=b"")
+    return place.segment.changed(ack=ack, flags=ACK, options=own_times(place), text=b"")
 
 
 def is_told(place):
@@ -137,7 +207,7 @@ def held_end(place):
 def reported(place, left, right):
     """An empty acknowledgement with a block of these numbers (RFC 2018, 3)."""
     option = bytes([1, 1, 5, 10]) + struct.pack(">II", left % SPACE, right % SPACE)
-    return place.segment.changed(flags=ACK, options=option, text=b"")
+    return place.segment.changed(flags=ACK, options=own_times(place) + option, text=b"")
 
 
 def may_report(place):
@@ -161,7 +231,7 @@ def held_block(place):
 def resent(place, text=None, seq=0, flags=ACK):
     """The last text again, with another one, or at another number."""
     line = place.again()
-    return line.changed(seq=line.seq + seq, flags=flags, text=line.text if text is None else text)
+    return line.changed(seq=line.seq + seq, ack=place.segment.ack, flags=flags, options=own_times(place), text=line.text if text is None else text)
 
 
 def can_resend(place):
@@ -201,7 +271,7 @@ POSITIONS = {
     "a resend one number on": after(lambda p: resent(p, p.again().text[:-1], 1), changes_when_moved),
     "a resend one number back": after(lambda p: resent(p, seq=-1), lambda p: changes_when_moved(p) and (p.again().seq - p.syn) % SPACE > 1),
     "a keep-alive with another byte": after(lambda p: resent(p, flipped(p.again().text)[:1]), can_resend),
-    "text behind the FIN": after(lambda p: p.segment.changed(seq=p.fin + 1, flags=ACK, text=b"x"), lambda p: p.is_plain() and p.fin is not None),
+    "text behind the FIN": after(lambda p: p.segment.changed(seq=p.fin + 1, flags=ACK, options=own_times(p), text=b"x"), lambda p: p.is_plain() and p.fin is not None),
     "text across the FIN": after(lambda p: p.segment.changed(seq=p.fin, flags=ACK, text=b"xy"), lambda p: p.is_plain() and p.fin is not None),
     "a second FIN one number on": after(lambda p: p.segment.changed(seq=p.fin + 1, flags=ACK | FIN, text=b""), lambda p: p.is_plain() and p.fin is not None),
     "a FIN before the end of the text": after(lambda p: resent(p, p.again().text[:-1], flags=ACK | FIN), lambda p: can_resend(p) and p.fin is None),
@@ -227,7 +297,174 @@ BLOCKS = {
     "a block whose edges are exchanged": after(lambda p: reported(p, p.peer + 1, p.peer), may_report),
     "a block by the end's own numbers": after(lambda p: reported(p, p.syn, p.syn + 1), may_report),
 }
-KINDS = FORM | POSITIONS | ACKNOWLEDGEMENTS | BLOCKS
+
+
+def empty(place, seq):
+    """An acknowledgement alone at this number, with the segment's options but for blocks."""
+    return place.segment.changed(seq=seq, flags=ACK, options=own_times(place), text=b"")
+
+
+def has_new_text(place):
+    """Whether it is text that goes the first time, at SND.NXT."""
+    return place.is_plain() and place.next is not None and place.segment.seq == place.next and len(place.segment.text) > 0
+
+
+def is_open(place):
+    """Whether both SYNs went, and were acknowledged."""
+    return is_told(place) and place.peer is not None and place.acked is not None and place.next is not None
+
+
+def reset(place, seq, flags=RST | ACK, **fields):
+    return place.segment.changed(seq=seq, flags=flags, options=b"", text=b"", **fields)
+
+
+def in_flight(place):
+    """How many numbers are in flight behind the segment."""
+    end = furthest([place.next, place.segment.seq + place.segment.numbers()])
+    return (end - place.acked) % SPACE
+
+
+def end_of(place):
+    """SND.NXT behind the segment."""
+    return furthest([place.next, place.segment.seq + place.segment.numbers()])
+
+
+ORDER = {
+    "text before the SYN is acknowledged": after(
+        lambda p: p.segment.changed(seq=p.syn + 1, flags=ACK, options=own_times(p), text=b"early"), lambda p: p.segment.has(SYN | ACK) and p.acked is None),
+    "text before the SYN's number": after(lambda p: p.segment.changed(seq=p.syn - 5, flags=ACK, options=own_times(p), text=b"older"), is_open),
+    "text that passes ten numbers over": instead(lambda p: p.segment.changed(seq=p.segment.seq + 10, text=p.segment.text[10:]), lambda p: has_new_text(p) and len(p.segment.text) > 10),
+    "text far behind a gap": after(lambda p: p.segment.changed(seq=end_of(p) + 5000, flags=ACK, options=own_times(p), text=b"ahead"), is_open),
+    "a FIN behind a gap": instead(lambda p: p.segment.changed(seq=p.segment.seq + 1), lambda p: p.is_plain() and p.segment.has(FIN)),
+    "an empty segment one number ahead": after(lambda p: empty(p, end_of(p) + 1), is_open),
+    "an empty segment far ahead": after(lambda p: empty(p, end_of(p) + 100000), is_open),
+    "an empty segment below what is acknowledged": after(lambda p: empty(p, p.acked - 10), lambda p: is_open(p) and (p.acked - p.syn) % SPACE > 10),
+    "an empty segment ten numbers too low, with text in flight": after(lambda p: empty(p, end_of(p) - 10), lambda p: is_open(p) and 20 < in_flight(p) < HALF),
+}
+RESETS = {
+    "a reset far ahead": after(lambda p: reset(p, end_of(p) + 100000), is_open),
+    "a reset one number ahead": after(lambda p: reset(p, end_of(p) + 1), is_open),
+    "a reset before the SYN's number": after(lambda p: reset(p, p.syn - 1), is_open),
+    "a reset at 0, of what didn't come": after(lambda p: reset(p, 0, ack=p.segment.ack + 77777), is_open),
+    "text after the own reset": lambda p: [p.segment, reset(p, end_of(p)), p.segment.changed(seq=end_of(p), flags=ACK, options=own_times(p), text=b"late")]
+    if is_open(p) and p.fin is None else None,
+    "an acknowledgement of text that came with RST": lambda p: [p.segment, came_with(p, flags=RST | ACK), told_again(p, p.segment.ack + 5)] if is_open(p) else None,
+    "an acknowledgement of text from another port": lambda p: [p.segment, from_port(came_with(p, flags=ACK)), told_again(p, p.segment.ack + 5)]
+    if is_open(p) else None,
+}
+WINDOWS = {
+    "text beyond the window": instead(
+        lambda p: p.segment.changed(text=p.segment.text + bytes(window_left(p) + 1 - len(p.segment.text))),
+        lambda p: has_new_text(p) and is_open(p) and window_left(p) < 60000 and len(p.segment.text) <= window_left(p)),
+    "a byte behind the window": after(
+        lambda p: p.segment.changed(seq=p.peer_edge(), flags=ACK, options=own_times(p), text=b"x"), lambda p: is_open(p)),
+    "a window that shrinks by the least that shows": instead(lambda p: p.segment.changed(window=shrunk(p, 1)), lambda p: is_open(p) and shrunk(p, 1) >= 0),
+    "a window that shrinks by half": instead(lambda p: p.segment.changed(window=shrunk(p, 0) // 2), lambda p: is_open(p) and shrunk(p, 1) >= 0),
+    "a window that shrinks to nothing": instead(lambda p: p.segment.changed(window=0), lambda p: is_open(p) and shrunk(p, 1) >= 0),
+}
+SIZES = {
+    "a segment a byte longer than the peer allows": instead(lambda p: p.segment.changed(text=longer(p, 1)), lambda p: has_new_text(p) and longer(p, 1) is not None),
+    "a segment twice as long as the peer allows": instead(
+        lambda p: p.segment.changed(text=longer(p, size_of(p))), lambda p: has_new_text(p) and longer(p, size_of(p)) is not None),
+}
+TIMES = {
+    "a timestamp that is left out": instead(lambda p: p.segment.changed(options=without(p.segment.options, 8)), lambda p: has_times(p)),
+    "a timestamp before the last one": instead(lambda p: with_times(p, last_time(p) - 1, times_of(p.segment)[1]), lambda p: has_times(p)),
+    "a timestamp far before the last one": instead(lambda p: with_times(p, last_time(p) - 100000, times_of(p.segment)[1]), lambda p: has_times(p)),
+    "an echo of a timestamp ahead of those that came": instead(lambda p: with_times(p, times_of(p.segment)[0], times_of(p.segment)[1] + 1000), lambda p: has_times(p)),
+    "an echo of a timestamp before those that came": instead(
+        lambda p: with_times(p, times_of(p.segment)[0], min(times_of(line)[0] for line in p.came if times_of(line)) - 1), lambda p: has_times(p)),
+    "an echo of nothing": instead(lambda p: with_times(p, times_of(p.segment)[0], 0), lambda p: has_times(p)),
+}
+MORE_BLOCKS = {
+    "a first block that isn't the newest": after(lambda p: with_blocks(p, [blocks_of(p)[1], blocks_of(p)[0], *blocks_of(p)[2:]]), lambda p: len(blocks_of(p)) > 1),
+    "two blocks that touch": after(
+        lambda p: with_blocks(p, halves(blocks_of(p)[0])), lambda p: len(blocks_of(p)) > 0 and (blocks_of(p)[0][1] - blocks_of(p)[0][0]) % SPACE > 1),
+    "a block before the acknowledgement": after(
+        lambda p: reported(p, p.segment.ack - 5, p.segment.ack), lambda p: may_report(p) and (p.segment.ack - p.peer) % SPACE > 6),
+    "an old block behind another one": after(
+        lambda p: with_blocks(p, [*blocks_of(p)[:1], (p.segment.ack - 5, p.segment.ack)]), lambda p: len(blocks_of(p)) > 0 and (p.segment.ack - p.peer) % SPACE > 6),
+}
+
+
+def came_with(place, flags):
+    """Five bytes that come in order, with these flags."""
+    last = place.came[-1]
+    return last.changed(seq=place.segment.ack, ack=end_of(place), flags=flags, options=b"", text=b"fresh")
+
+
+def from_port(line):
+    """The segment from another port."""
+    return line.with_data(bytes([line.data[0] ^ 1]) + line.data[1:])
+
+
+def window_left(place):
+    """How many numbers the greatest window that came has behind the segment's number."""
+    return (place.peer_edge() - place.segment.seq) % SPACE
+
+
+def shrunk(place, units):
+    """The window field with which the right edge is so many units before where it was told last, or below 0."""
+    left = (place.edge() - place.segment.ack) % SPACE
+    return (left >> place.shift()) - units if 0 < left < HALF and left >> place.shift() < 65536 else -1
+
+
+def size_of(place):
+    """The most text that the peer's SYN allows beside the options."""
+    told = body_of(place.syns()[1].options, 2)
+    return (int.from_bytes(told, "big") if told else 536) - len(place.segment.options)
+
+
+def longer(place, count):
+    """So much more text from the segment's number on than the peer allows, if so much went."""
+    return place.stream(place.segment.seq, size_of(place) + count) if place.syns() else None
+
+
+def times_of(line):
+    """The timestamp and the echo of a segment, or None."""
+    body = body_of(line.options, 8)
+    return struct.unpack(">II", body) if body and len(body) == 8 else None
+
+
+def has_times(place):
+    syns = place.syns()
+    return is_open(place) and all(times_of(syn) for syn in syns) and times_of(place.segment) is not None
+
+
+def last_time(place):
+    return next(times_of(line)[0] for line in reversed(place.before) if line.word == "went" and times_of(line))
+
+
+def with_times(place, time, echo):
+    """The segment with another timestamp and echo."""
+    area = place.segment.options
+    at = area.index(bytes([8, 10])) + 2
+    return place.segment.changed(options=area[:at] + struct.pack(">II", time % SPACE, echo % SPACE) + area[at + 8 :])
+
+
+def blocks_of(place):
+    """The blocks that a segment reports beyond what it acknowledges."""
+    body = body_of(place.segment.options, 5) if place.is_plain() else None
+    blocks = list(struct.iter_unpack(">II", body)) if body else []
+    return [block for block in blocks if 0 < (block[0] - place.segment.ack) % SPACE < HALF]
+
+
+def with_blocks(place, blocks):
+    """An acknowledgement alone with these blocks in place of its own."""
+    option = bytes([1, 1, 5, 2 + 8 * len(blocks)]) + b"".join(struct.pack(">II", left % SPACE, right % SPACE) for left, right in blocks)
+    return place.segment.changed(flags=ACK, options=own_times(place) + option, text=b"")
+
+
+def halves(block):
+    """A block in two that touch."""
+    middle = block[0] + (block[1] - block[0]) % SPACE // 2
+    return [(block[0], middle), (middle, block[1])]
+
+
+BLOCKS |= MORE_BLOCKS
+GROUPS = {"form": FORM, "positions": POSITIONS, "order": ORDER, "resets and ports": RESETS, "acknowledgements": ACKNOWLEDGEMENTS, "windows": WINDOWS,
+          "sizes": SIZES, "timestamps": TIMES, "blocks": BLOCKS}
+KINDS = {kind: make for kinds in GROUPS.values() for kind, make in kinds.items()}
 
 
 class Cut:
@@ -240,13 +477,19 @@ class Cut:
         return " ".join([*self.words, hexadecimal(self.data)])
 
 
-def planted(log, kind, most):
-    """Logs with one fault of this kind, in at most so many places, spread over the log."""
+def places_of(log):
+    """Each place of a log where a segment went."""
+    return [Place(log[:at], line, log[at + 1 :]) for at, line in enumerate(log) if line.word == "went"]
+
+
+def planted(places, kind, most):
+    """Logs with one fault of this kind, in at most so many of a log's places, spread over it; and the numbers of the lines that are new."""
     made = []
-    for at, line in enumerate(log):
-        if line.word == "went":
-            found = KINDS[kind](Place(log[:at], line, log[at + 1 :]))
-            if found is not None:
-                made.append([*log[:at], *found, *log[at + 1 :]])
+    for place in places:
+        found = KINDS[kind](place)
+        if found is not None:
+            first = len(place.before) + 1
+            new = {first + i for i, line in enumerate(found) if line is not place.segment and str(line).startswith("went")}
+            made.append(([*place.before, *found, *place.behind], new))
     step = max(1, len(made) / most)
     return [made[int(i * step)] for i in range(min(most, len(made)))]

@@ -1,31 +1,10 @@
 """Captures with notes, and with no note where one is near, whose reports are worked out by hand from the definitions of docs/JUDGE.md."""
 
-import struct
-
-from making import AT, FORM, ONE, OPENED, TWO, capture_of, connection, note, own, packet_of, peer, trips, verdict
-
-from program import with_checksum
+import captures_with_options
+from making import AT, FORM, ONE, OPENED, TWO, capture_of, note, own, packet_of, peer, reported as case, trips
 
 AGAIN, FAST, LATE, MISSING = "9293, 3.8.1", "5681, 3.2", "9293, 3.4", "9293, 3.4"
-DUPLICATES, WINDOWS, ALIVE = "5681, 2", "9293, 3.8.6", "9293, 3.8.4"
-
-
-def packet_by(row):
-    """A row's packet, with another window where it has the word `window=N`."""
-    words = [word for word in row.split(" ") if not word.startswith("window=")]
-    packet = packet_of(" ".join(words))
-    for word in row.split(" "):
-        if word.startswith("window="):
-            segment = packet[20:34] + struct.pack(">H", int(word.removeprefix("window="))) + packet[36:]
-            packet = packet[:20] + with_checksum(packet[12:16], packet[16:20], segment)
-    return packet
-
-
-def case(rows, ends, tried=1, words=AT):
-    """A capture of rows, a millisecond each, its words, and the report of one connection without a finding."""
-    count = len(rows)
-    return (capture_of([packet_by(row) for row in rows]), words,
-            f"packets {count}, connections 1\n{connection(1, 1, count, ends)}{verdict(2, 0, 0, tried)}", 0)
+DUPLICATES, WINDOWS, ALIVE, SHRINK = "5681, 2", "9293, 3.8.6", "9293, 3.8.4", "windows that shrink"
 
 
 FOUR = [*OPENED, "went 300/100 ACK text=AA", "went 302/100 ACK text=BB", "went 304/100 ACK text=CC", "went 306/100 ACK text=DD", "came 100/302 ACK"]
@@ -75,12 +54,12 @@ CASES = {
         [*FOUR, *[DUPLICATE] * 3, "went 304/100 ACK text=CC"],
         [peer(segments=6, text=0), note("duplicate acknowledgements", 3, 9, DUPLICATES), ONE,
          own(segments=6, text=10), note("retransmissions", 1, 12, AGAIN), TIMED]),
-    "notes as JSON": (capture_of([packet_by(row) for row in [*FOUR, *[DUPLICATE] * 3, SECOND]]), [*AT, "--json"], JSON, 0),
+    "notes as JSON": (capture_of([packet_of(row) for row in [*FOUR, *[DUPLICATE] * 3, SECOND]]), [*AT, "--json"], JSON, 0),
     # RFC 5681, 2: nothing is outstanding; text; another window, twice; a FIN.
     "no duplicate acknowledgements": case(
         [*OPENED, "came 100/300 ACK", "went 300/100 ACK text=AA", "came 100/300 ACK text=X", "came 101/300 ACK window=1000", "came 101/300 ACK",
          "came 101/300 FIN,ACK"],
-        [peer(segments=7, text=1), ONE, own(segments=2, text=2), ONE]),
+        [peer(segments=7, text=1), note(SHRINK, 1, 7, WINDOWS), ONE, own(segments=2, text=2), ONE]),
     "a gap, and what fills it": case(
         [*OPENED, "came 100/300 ACK text=AA", "came 104/300 ACK text=CC", "came 102/300 ACK text=BB", "went 300/106 ACK", "came 102/300 ACK text=BB"],
         [peer(segments=6, text=8), note("previous segment not seen", 1, 5, MISSING), note("out of order", 1, 6, LATE),
@@ -111,14 +90,14 @@ CASES = {
         [*OPENED, "came 5000 RST"], [peer(segments=3, text=0), ONE, own(segments=1), ONE]),
     "zero windows": case(
         [*OPENED, "went 300/100 ACK window=0", "went 300/100 ACK window=0", "went 300/100 ACK window=1", "went 300/100 FIN,ACK window=0"],
-        [peer(segments=2, text=0), ONE, own(segments=5), note("zero windows", 2, 4, WINDOWS), ONE]),
+        [peer(segments=2, text=0), ONE, own(segments=5), note("zero windows", 2, 4, WINDOWS), note(SHRINK, 2, 4, WINDOWS), ONE]),
     "a full window": case(
         [*OPENED, "went 300/100 ACK window=5", "came 100/300 ACK text=HELL", "came 104/300 ACK text=O"],
-        [peer(segments=4), note("window full", 1, 6, WINDOWS), ONE, own(segments=2), ONE]),
+        [peer(segments=4), note("window full", 1, 6, WINDOWS), ONE, own(segments=2), note(SHRINK, 1, 4, WINDOWS), ONE]),
     "a full window, behind a shift": case(
         ["came 99 SYN options=03030200", "went 299/100 SYN,ACK options=03030100", "came 100/300 ACK", "went 300/100 ACK window=3",
          "came 100/300 ACK text=HEL", "came 103/300 ACK text=LO!"],
-        [peer(segments=4, text=6), note("window full", 1, 6, WINDOWS), ONE, own(segments=2), ONE]),
+        [peer(segments=4, text=6), note("window full", 1, 6, WINDOWS), ONE, own(segments=2), note(SHRINK, 1, 4, WINDOWS), ONE]),
     "a full window, by a SYN's, which has no shift": case(
         ["came 99 SYN options=03030200", "went 299/100 SYN,ACK options=03030100 window=5", "came 100/300 ACK text=HELLO"],
         [peer(segments=2), note("window full", 1, 3, WINDOWS), ONE, own(segments=1), ONE]),
@@ -134,4 +113,4 @@ CASES = {
     "an acknowledgement of a part": case(
         [*OPENED, "went 300/100 ACK text=HELLO", "came 100/302 ACK", "came 100/305 ACK"],
         [peer(segments=4, text=0), ONE, own(segments=2, text=5), trips(2, 1, 1.5, 2)]),
-}
+} | captures_with_options.CASES

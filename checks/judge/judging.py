@@ -22,6 +22,7 @@ from twice import Differs, Judges, rules
 
 import capture
 import captures as captures_by_hand
+import correct
 import growth
 import planting
 import rfc_rows
@@ -77,6 +78,18 @@ def peer_captures(folder, programs):
                 for end, address in ("own", 1), ("peer", 2):
                     name = "our end" if end == "own" or program.name == "second" else "lwIP"
                     yield stacks.Taken(name, prefix.with_name(f"{prefix.name}.{end}"), "A" if opener == address else "B")
+
+
+def address_of(taken):
+    """The address of the end at which a capture was taken."""
+    _, lines = next(iter(logs_of(taken)), (None, []))
+    return next((line.split(" ")[1] for line in lines if line.startswith("went")), "0.0.0.0")
+
+
+def captures_in(folder, words):
+    """All captures of stacks."""
+    captures = [taken for make in stacks.captures(words.netstack) for taken in make(folder)]
+    return captures + (list(peer_captures(folder, words.peers)) if words.peers else [])
 
 
 def first_source(path):
@@ -145,11 +158,11 @@ def main():
     with tempfile.TemporaryDirectory() as name:
         folder = pathlib.Path(name)
         folder.chmod(0o777)
-        captures = [taken for make in stacks.captures(words.netstack) for taken in make(folder)]
-        captures += peer_captures(folder, words.peers) if words.peers else []
+        captures = captures_in(folder, words)
         clean = judge_captures(cases, judges, captures)
+        correct.judge_correct(cases, words.tcpjudge, captures, address_of)
         judge_cuts(cases, judges, clean)
-    planting.judge_planted(cases, judges)
+    planting.judge_planted(cases, judges, has_others=not words.short)
     judge_random(cases, judges, 500 if words.short else 10000)
     growth.judge_growth(cases, words.tcpjudge)
     print(f"{judges.count} logs judged twice\n{cases.count} cases, {cases.failed} failed")

@@ -157,3 +157,10 @@ def note(words, count, first, section):
 TWO, ONE = trips(2), trips(1)
 SILENT = f"{PEER}: sent nothing, nothing judged"
 CLEAN = f"packets 5, connections 1\n{connection(1, 1, 5, [peer(), TWO, own(), ONE])}{verdict(2, 0, 0, 1)}"
+
+
+def reported(rows, ends, tried=1, words=AT):
+    """A capture of rows, a millisecond each, its words, and the report of one connection without a finding."""
+    count = len(rows)
+    return (capture_of([packet_of(row) for row in rows]), words,
+            f"packets {count}, connections 1\n{connection(1, 1, count, ends)}{verdict(2, 0, 0, tried)}", 0)

@@ -3,8 +3,8 @@
 # faults, on captures that are cut, on random logs, and on logs that grow (growth.py): checks/judge/test.sh [TCPJUDGE [LIBRARY]]
 # [--short]. TCPJUDGE is the built program (else crates/tcpjudge's own), LIBRARY the C library (else crates/tcp_c's own), over which
 # checks/peers is built. Each log is judged by the program and by the second one of checks/differential, which have to say the same;
-# nothing that is judged breaks a rule but the planted faults, of which at least 95 of 100 are found; and twice as long a log takes at
-# most 2.2 times the instructions. The last line is `N cases, M failed`.
+# nothing that is judged breaks a rule but the planted faults, of which so many are found as planting.py has in LEAST; and twice as long a
+# log takes at most 2.2 times the instructions. The last line is `N cases, M failed`.
 # It wants root, network namespaces and /dev/net/tun, and installs packages by apt-get where this machine lacks them; where one is
 # missing it fails, or, with LEAVE_OUT=1 in the environment, says so and leaves out what wants it.
 set -euo pipefail
@@ -24,6 +24,7 @@ need_tun
 install_commands <<'LIST'
 ip iproute2
 tshark tshark
+tcptrace tcptrace
 slirp4netns slirp4netns
 pasta passt
 valgrind valgrind

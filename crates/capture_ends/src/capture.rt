@@ -67,6 +67,7 @@ fn take_frame<A: Allocator + Copy>(
     let seen = Packet {
         number,
         time: frame.time,
+        is_mended: false,
     };
     let is_whole = !is_cut_train(frame, packet);
     match tcp_of(packet) {

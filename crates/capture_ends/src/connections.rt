@@ -373,7 +373,7 @@ impl<A: Allocator + Copy> Connections<A> {
         };
         if sum == Sum::LeftToDevice {
             mend(&mut self.mended, way.src, way.dst, bytes)?;
-            return connection.take(packet, source, &self.mended, is_right);
+            return connection.take(packet.mended(), source, &self.mended, is_right);
         }
         connection.take(packet, source, bytes, is_right)
     }

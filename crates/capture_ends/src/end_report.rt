@@ -116,12 +116,13 @@ pub(crate) fn push_found<A: Allocator>(
 pub(crate) fn push_notes<A: Allocator>(
     text: &mut String<A>,
     end: &JudgedEnd<A>,
+    is_complete: bool,
     paint: Paint,
 ) -> Result<(), AllocError> {
     let notes = &end.flow.notes;
     for kind in KINDS {
         let note = notes.of(kind);
-        if note.count > 0 {
+        if note.count > 0 && (is_complete || !kind.wants_all()) {
             push_note(text, kind.words(), note, kind.section(), paint)?;
         }
     }

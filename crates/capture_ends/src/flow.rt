@@ -1,8 +1,10 @@
 //! What an end sent and acknowledged, as far as notes ask for it.
 use crate::judged_end::Packet;
 use crate::notes::{Kind, Notes};
+use crate::told::Told;
+use crate::watch::Watch;
 use std::alloc::{AllocError, Allocator, Global};
-use tcp_wire::{RawSegment, Seq, TcpOption};
+use tcp_wire::{RawSegment, Seq};
 
 /// Numbers that were passed over: from the first up to before the second.
 #[derive(Clone, Copy)]
@@ -44,6 +46,12 @@ pub(crate) struct Flow<A: Allocator = Global> {
     acknowledged: Option<Acknowledged>,
     /// Its SYN's window scale, if it sent a SYN (RFC 7323, 2.2).
     offer: Option<Option<u8>>,
+    /// The number behind the window that it told last.
+    edge: Option<Seq>,
+    /// The least number of a segment without text: SND.NXT, or where what was sent again since it moved begins.
+    floor: Option<Seq>,
+    /// What it tells beside its numbers.
+    watch: Watch<A>,
     pub(crate) notes: Notes,
 }
 
@@ -54,22 +62,9 @@ fn len_of(segment: &RawSegment<'_>) -> u32 {
     (segment.text.len() as u32).saturating_add(controls)
 }
 
-/// The window scale that a SYN offers.
-fn offer_of(segment: &RawSegment<'_>) -> Option<u8> {
-    let mut left = segment.options_left();
-    let mut offer = None;
-    for _ in 0..40u32 {
-        match left.next() {
-            None => break,
-            Some(TcpOption::WindowScale(shift)) => offer = Some(shift.min(14)),
-            Some(_) => {}
-        }
-    }
-    offer
-}
-
 impl<A: Allocator> Flow<A> {
-    pub(crate) fn new(alloc: A) -> Self {
+    /// What is known of an end at first, whose peer's maximum segment size is `untold` where its SYN has none.
+    pub(crate) fn new(alloc: A, untold: u16) -> Self {
         Flow {
             initial: None,
             next: None,
@@ -77,6 +72,9 @@ impl<A: Allocator> Flow<A> {
             timed: None,
             acknowledged: None,
             offer: None,
+            edge: None,
+            floor: None,
+            watch: Watch::new(alloc, untold),
             notes: Notes::new(),
         }
     }
@@ -161,6 +159,7 @@ impl<A: Allocator> Flow<A> {
     ) -> Result<(), AllocError> {
         // What is sent again isn't timed, nor what is sent before it is acknowledged (RFC 6298, 3).
         self.timed = None;
+        self.lower_floor(begin);
         let is_late = self.fill_gaps(begin, end)? && !peer.acknowledges_behind(begin);
         let is_fast = peer.answers(begin);
         if is_fast {
@@ -203,6 +202,7 @@ impl<A: Allocator> Flow<A> {
             }
             if next.before(end) {
                 self.next = Some(end);
+                self.floor = Some(end);
             }
             return Ok(());
         }
@@ -211,10 +211,34 @@ impl<A: Allocator> Flow<A> {
             self.add_gap(next, begin)?;
         }
         self.next = Some(end);
+        self.floor = Some(end);
         if begin != end {
             self.begin_timing(packet, end);
         }
         Ok(())
+    }
+
+    /// SND.NXT may have fallen back to a number, from which on all is sent again.
+    fn lower_floor(&mut self, begin: Seq) {
+        if let Some(floor) = self.floor {
+            if begin.before(floor) {
+                self.floor = Some(begin);
+            }
+        }
+    }
+
+    /// Whether a segment without text, SYN and FIN at a number is neither at SND.NXT, nor where that may have fallen back
+    /// to, nor a probe: these are at the furthest acknowledgement or one before (RFC 9293, 3.8.4).
+    fn is_behind(&self, peer: &Flow<A>, begin: Seq) -> bool {
+        let is_below = match self.floor {
+            Some(floor) => begin.before(floor),
+            None => false,
+        };
+        match peer.acknowledges() {
+            Some(number) if begin.plus(1) == number || begin == number => false,
+            Some(number) => is_below || begin.before(number),
+            None => is_below,
+        }
     }
 
     /// Times what is sent the first time, unless something is timed already: one round trip at a time (RFC 6298, 3).
@@ -238,16 +262,46 @@ impl<A: Allocator> Flow<A> {
         }
     }
 
-    /// The number behind the window that a segment of this end tells, if both SYNs are known, as only then the shift is
-    /// (RFC 7323, 2.2 and 2.3).
-    fn edge_of(&self, peer: &Flow<A>, segment: &RawSegment<'_>) -> Option<Seq> {
+    /// How far the window of a segment of this end is shifted, if both SYNs are known, as only then that is (RFC 7323, 2.2
+    /// and 2.3).
+    fn shift_of(&self, peer: &Flow<A>, segment: &RawSegment<'_>) -> Option<u32> {
         let own = self.offer?;
         let other = peer.offer?;
-        let shift = match own {
-            Some(shift) if other.is_some() && !segment.header.flags.is_syn() => shift,
-            _ => 0,
+        match own {
+            Some(shift) if other.is_some() && !segment.header.flags.is_syn() => {
+                Some(u32::from(shift.min(14)))
+            }
+            _ => Some(0),
+        }
+    }
+
+    /// The number behind the window that a segment of this end tells, if the shift is known.
+    fn edge_of(&self, peer: &Flow<A>, segment: &RawSegment<'_>) -> Option<Seq> {
+        let shift = self.shift_of(peer, segment)?;
+        Some(
+            segment
+                .header
+                .ack
+                .plus(u32::from(segment.header.window) << shift.min(14)),
+        )
+    }
+
+    /// Takes the number behind the window of a segment, unless that was late. One that falls by less than the shift shows is
+    /// rounded down (RFC 9293, 3.8.6; RFC 7323, 2.4).
+    fn take_edge(&mut self, peer: &Flow<A>, packet: Packet, segment: &RawSegment<'_>) {
+        if self.acknowledges_behind(segment.header.ack) {
+            return;
+        }
+        let (Some(shift), Some(edge)) = (self.shift_of(peer, segment), self.edge_of(peer, segment))
+        else {
+            return;
         };
-        Some(segment.header.ack.plus(u32::from(segment.header.window) << u32::from(shift.min(14))))
+        if let Some(known) = self.edge {
+            if edge.before(known) && known.minus(edge) >> shift.min(14) > 0 {
+                self.notes.add(Kind::ShrunkWindow, packet.number);
+            }
+        }
+        self.edge = Some(edge);
     }
 
     /// Takes the acknowledgement of a segment, and its window.
@@ -281,14 +335,18 @@ impl<A: Allocator> Flow<A> {
     }
 
     /// Takes a SYN; one with another number begins all numbers anew.
-    fn take_syn(&mut self, peer: &mut Flow<A>, segment: &RawSegment<'_>) {
+    fn take_syn(&mut self, peer: &mut Flow<A>, segment: &RawSegment<'_>, told: &Told) {
         let number = segment.header.seq;
-        self.offer = Some(offer_of(segment));
+        self.offer = Some(told.shift);
         if self.initial != Some(number) {
             self.next = None;
             self.gaps.clear();
             self.timed = None;
+            self.floor = None;
+            self.watch.forget_sent();
             peer.acknowledged = None;
+            peer.edge = None;
+            peer.watch.forget_came();
         }
         self.initial = Some(number);
     }
@@ -300,28 +358,57 @@ impl<A: Allocator> Flow<A> {
         packet: Packet,
         segment: &RawSegment<'_>,
     ) -> Result<(), AllocError> {
-        let flags = segment.header.flags;
+        let told = Told::of(segment);
         let begin = segment.header.seq;
-        let len = len_of(segment);
-        let end = begin.plus(len);
-        if flags.is_syn() {
-            self.take_syn(peer, segment);
+        let end = begin.plus(len_of(segment));
+        if segment.header.flags.is_syn() {
+            self.take_syn(peer, segment, &told);
         }
+        self.watch
+            .went(&mut self.notes, &peer.watch, packet, segment, &told);
+        let is_again = match self.next {
+            Some(next) => begin.before(next),
+            None => false,
+        };
+        peer.watch.came(segment, &told, begin, end, is_again)?;
         if self.is_keep_alive(peer, segment) {
             self.notes.add(Kind::KeepAlive, packet.number);
         } else {
-            self.take_numbers(peer, packet, begin, end)?;
-            if !segment.text.is_empty() && peer.ends_at(end) {
-                self.notes.add(Kind::WindowFull, packet.number);
-            }
+            self.take_new(peer, packet, segment, begin, end)?;
         }
-        if flags.is_ack() {
-            self.take_ack(peer, packet, segment);
-            if segment.header.window == 0 && !flags.is_syn() && !flags.is_fin() {
-                self.notes.add(Kind::ZeroWindow, packet.number);
-            }
+        if segment.header.flags.is_ack() {
+            self.take_window(peer, packet, segment);
         }
         Ok(())
+    }
+
+    /// Takes the numbers of a segment that is no keep-alive.
+    fn take_new(
+        &mut self,
+        peer: &mut Flow<A>,
+        packet: Packet,
+        segment: &RawSegment<'_>,
+        begin: Seq,
+        end: Seq,
+    ) -> Result<(), AllocError> {
+        if begin == end && self.is_behind(peer, begin) {
+            self.notes.add(Kind::OldNumber, packet.number);
+        }
+        self.take_numbers(peer, packet, begin, end)?;
+        if !segment.text.is_empty() && peer.ends_at(end) {
+            self.notes.add(Kind::WindowFull, packet.number);
+        }
+        Ok(())
+    }
+
+    /// Takes the acknowledgement and the window of a segment.
+    fn take_window(&mut self, peer: &mut Flow<A>, packet: Packet, segment: &RawSegment<'_>) {
+        let flags = segment.header.flags;
+        self.take_edge(peer, packet, segment);
+        self.take_ack(peer, packet, segment);
+        if segment.header.window == 0 && !flags.is_syn() && !flags.is_fin() {
+            self.notes.add(Kind::ZeroWindow, packet.number);
+        }
     }
 
     /// Whether the window that it told ends before this number.

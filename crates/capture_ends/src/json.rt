@@ -101,12 +101,13 @@ pub(crate) fn push_notes<A: Allocator>(
     connection: usize,
     end: &JudgedEnd<A>,
     peer: &JudgedEnd<A>,
+    is_complete: bool,
 ) -> Result<(), AllocError> {
     let notes = &end.flow.notes;
     for kind in KINDS {
         let Note { count, first } = notes.of(kind);
         let name = kind.name();
-        if count > 0 {
+        if count > 0 && (is_complete || !kind.wants_all()) {
             push_start(text, "note", connection, end, peer)?;
             write!(
                 text,

@@ -1,5 +1,6 @@
 //! One end of a connection: its judge, and what is found of it.
 use crate::flow::Flow;
+use crate::notes::Kind;
 use crate::side::Side;
 use kit_judge::{is_damage, rule_of, wants_whole_log};
 use std::alloc::{AllocError, Allocator, Global};
@@ -13,6 +14,19 @@ pub(crate) struct Packet {
     pub(crate) number: usize,
     /// When it was seen, in nanoseconds from 1970 on.
     pub(crate) time: u64,
+    /// Whether its checksum was left to a device, and is made right.
+    pub(crate) is_mended: bool,
+}
+
+impl Packet {
+    /// The packet, whose checksum was left to a device.
+    pub(crate) fn mended(self) -> Packet {
+        Packet {
+            number: self.number,
+            time: self.time,
+            is_mended: true,
+        }
+    }
 }
 
 /// The first packet that breaks a rule, and how many do.
@@ -96,7 +110,7 @@ impl<A: Allocator + Copy> JudgedEnd<A> {
             broken: Vec::new(alloc),
             damaged: NONE,
             lacks_beginning: false,
-            flow: Flow::new(alloc),
+            flow: Flow::new(alloc, side.host.untold_size()),
         }
     }
 
@@ -136,12 +150,26 @@ impl<A: Allocator + Copy> JudgedEnd<A> {
         if is_damage(finding) {
             self.damaged.add(packet.number);
         }
+        if let Some(kind) = kind_of(finding) {
+            self.flow.notes.add(kind, packet.number);
+        }
         add_finding(&mut self.broken, packet, finding)
     }
 
     /// A segment came to it.
     pub(crate) fn came(&mut self, src: Addr, bytes: &[u8]) -> Result<(), AllocError> {
         self.judge.came(src, self.addr, bytes)
+    }
+}
+
+/// The note of a finding of order, but for those of a segment behind SND.NXT, which has a note already.
+fn kind_of(finding: Finding) -> Option<Kind> {
+    match finding {
+        Finding::BeforeAck(_) => Some(Kind::BeforeAck),
+        Finding::AfterReset(_) => Some(Kind::AfterReset),
+        Finding::BeyondWindow(_) => Some(Kind::BeyondWindow),
+        Finding::StrayReset(_) => Some(Kind::StrayReset),
+        _ => None,
     }
 }
 
@@ -159,7 +187,7 @@ fn is_of_order(finding: Finding) -> bool {
 }
 
 /// Whether a finding counts, where all rules may be tried and where they mayn't. One of order never does: the machine's
-/// own queue may have dropped a segment before it was captured, and a firewall may have sent a reset.
+/// own queue may have dropped a segment before it was captured, and a firewall may have sent a reset. It is a note.
 pub(crate) fn counts(finding: Finding, is_complete: bool) -> bool {
     !is_of_order(finding) && (is_complete || (!wants_whole_log(finding) && !is_damage(finding)))
 }

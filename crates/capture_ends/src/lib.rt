@@ -15,6 +15,8 @@ mod notes;
 mod paint;
 mod side;
 mod telling;
+mod told;
+mod watch;
 
 pub use capture::{Capture, CaptureForm, Watcher, judge_capture, open_capture};
 pub use error::CaptureError;

@@ -21,6 +21,14 @@ impl Host {
             Host::V6(bytes) => stand_in(bytes),
         }
     }
+
+    /// The maximum segment size of a SYN that has none (RFC 9293, 3.7.1).
+    pub(crate) fn untold_size(self) -> u16 {
+        match self {
+            Host::V4(_) => 536,
+            Host::V6(_) => 1220,
+        }
+    }
 }
 
 /// The address and the port of an end.

@@ -74,7 +74,7 @@ fn push_judged<A: Allocator + Copy>(
     let connection = place.connection;
     if place.is_json {
         let findings = json::push_findings(text, connection, end, peer, is_complete)?;
-        json::push_notes(text, connection, end, peer)?;
+        json::push_notes(text, connection, end, peer, is_complete)?;
         json::push_end(text, connection, end, peer, findings, is_complete)?;
         return Ok(findings);
     }
@@ -82,7 +82,7 @@ fn push_judged<A: Allocator + Copy>(
     let findings = push_found(&mut lines, end, peer, place.begin, is_complete, place.paint)?;
     push_end(text, end, findings, is_complete, place.paint)?;
     text.push_str(&lines)?;
-    push_notes(text, end, place.paint)?;
+    push_notes(text, end, is_complete, place.paint)?;
     Ok(findings)
 }
 
