@@ -62,7 +62,7 @@ fn len_of(segment: &RawSegment<'_>) -> u32 {
     (segment.text.len() as u32).saturating_add(controls)
 }
 
-impl<A: Allocator> Flow<A> {
+impl<A: Allocator + Copy> Flow<A> {
     /// What is known of an end at first, whose peer's maximum segment size is `untold` where its SYN has none.
     pub(crate) fn new(alloc: A, untold: u16) -> Self {
         Flow {
@@ -78,7 +78,9 @@ impl<A: Allocator> Flow<A> {
             notes: Notes::new(),
         }
     }
+}
 
+impl<A: Allocator> Flow<A> {
     /// The number that its furthest acknowledgement has.
     fn acknowledges(&self) -> Option<Seq> {
         match self.acknowledged {
