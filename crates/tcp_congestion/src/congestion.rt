@@ -86,7 +86,8 @@ pub trait Congestion {
 
     /// Data are sent again after nothing was sent for longer than the timeout.
     fn was_idle(&mut self)
-        ensures { self.new ≡ control.idle self.old };
+        ensures after { self.new ≡ control.idle self.old }
+        ensures limits { control.limits self.new ≡ control.limits self.old };
 }
 
 impl Congestion for Reno {
