@@ -13,16 +13,35 @@ import windows
 from times import SECOND, compared, stored
 
 CRATE = pathlib.Path(__file__).resolve().parents[2] / "crates" / "test_flow"
+RULES = {"none": None, "reno": windows.Reno, "cubic": windows.Cubic}
 STANDARD = (240 * SECOND, 3, 180 * SECOND, 300 * SECOND, None)
+
+
+def path_of(rule, smss, limit):
+    return RULES[rule] and RULES[rule](smss, limit)
 
 
 class Flow:
     """What answers a line. A number is a segment of a byte."""
 
     def begin(self, rule, now, first, limit):
-        self.driver, self.path = driver.Second(), {"reno": windows.Reno, "cubic": windows.Cubic}[rule](1, limit)
+        self.driver = driver.Second()
         self.driver.new(now, first, *STANDARD)
-        self.is_shut, self.sent_at = False, now
+        self.path, self.is_shut, self.sent_at = path_of(rule, 1, limit), False, now
+
+    def choose(self, now, rule, smss, limit):
+        self.path, self.is_shut, self.sent_at = path_of(rule, int(smss), int(limit)), False, now
+        self.settle()
+        return "chosen"
+
+    def settle(self):
+        """The window is of the segments that both SYNs agreed on, here of one number: RFC 6928, 2; RFC 5681, 3.1 where a SYN was lost."""
+        if self.path is None or self.end.una == 0 or self.path.smss == 1:
+            return
+        is_one = self.path.cwnd == self.path.smss
+        self.path.begins_with(1)
+        if is_one:
+            self.path.syn_lost()
 
     @property
     def end(self):
@@ -35,8 +54,13 @@ class Flow:
     def arrive(self, now, ack, gap, fin, window, flags):
         before, is_duplicate = self.end.una, ack == self.end.una
         answer = self.driver.arrive(now, ack, gap, fin, window, flags)
-        if not answer.startswith("taken"):
+        if not answer.startswith("taken") or self.path is None:
             return answer
+        self.told(now, before, is_duplicate, window)
+        self.settle()
+        return answer
+
+    def told(self, now, before, is_duplicate, window):
         self.is_shut = window == 0
         una, blocks = self.end.una, "reorder" in self.end.wants()
         if una > before:
@@ -46,17 +70,18 @@ class Flow:
         elif is_duplicate:
             said = self.path.duplicate(una, self.flight, self.end.nxt)
         else:
-            return answer
+            return
         # RFC 6582, 3.2: the first segment goes out again, unless blocks say what is lost.
         if said.endswith("again") and not blocks:
             self.driver.uses("resend-first", now)
-        return answer
 
-    def emit(self, now):
+    def emit(self, now, window):
+        if self.path is None:
+            return self.driver.emit(now, window)
         # RFC 5681, 4.1: nothing was sent for longer than the timeout.
         if self.flight == 0 and now - self.sent_at > self.driver.estimator.rto:
             self.path.idle()
-        answer = self.driver.emit(now, int(self.path.room(0)))
+        answer = self.driver.emit(now, min(window, int(self.path.room(0))))
         if answer.startswith("sent") and not answer.endswith(" 0"):
             self.sent_at = now
         return answer
@@ -64,6 +89,8 @@ class Flow:
     def timeout(self, now):
         una, nxt, flight = self.end.una, self.end.nxt, self.flight
         timer = self.driver.timeout(now)
+        if self.path is None:
+            return timer
         if timer == "retransmit" and una == 0:
             self.path.syn_lost()
         elif timer == "retransmit" and not self.is_shut:
@@ -72,31 +99,42 @@ class Flow:
             self.path.lost(una, flight, nxt)
         return timer
 
+    @property
+    def next(self):
+        return min(self.driver.all_deadlines().values(), default="-")
+
     def answer(self, line):
         word, *words = line.split(" ")
-        numbers = [int(word) for word in words]
-        if word in ("reno", "cubic"):
-            answer = self.begin(word, *numbers) or ""
-        elif word in ("arrive", "emit", "timeout"):
-            answer = getattr(self, word)(*numbers)
+        if word in RULES:
+            answer = self.begin(word, *map(int, words)) or ""
+        elif word == "choose":
+            answer = self.choose(int(words[0]), *words[1:])
+        elif word == "user-timeout":
+            self.driver.user, answer = None if words[0] == "-" else int(words[0]), "set"
+        elif word == "tick":
+            answer = f"{self.timeout(int(words[0]))} {self.next}"
+        elif word in ("arrive", "vouched", "emit", "train", "timeout"):
+            # A device that sums, or cuts what is one segment, changes nothing here.
+            answer = getattr(self, {"vouched": "arrive", "train": "emit"}.get(word, word))(*map(int, words))
         else:
-            answer = self.driver.uses(word, *numbers)
-        at = min(self.driver.all_deadlines().values(), default="-")
-        return f"{answer} {at} {self.path.shown()} {self.flight}"
+            answer = self.driver.uses(word, *map(int, words))
+        shown = self.path.shown() if self.path else f"{windows.HIGH} {windows.HIGH}"
+        suspect = " suspect" if self.driver.expiries >= self.driver.suspect else ""
+        return f"{answer} {self.next} {shown} {self.flight}{suspect}"
 
 
 class Turns(driver.Turns):
-    """The caller's loop of driver.py over a flow, which has no window to pass."""
+    """The caller's loop of driver.py over a flow, to which it passes a window, too."""
 
-    blocks = True
+    blocks, emits_by, expires_by = True, "emit", "timeout"
 
-    def __init__(self, rule, first, limit, lost=(), way=driver.WAY):
-        self.second, self.lines, self.lost, self.shown, self.way = Flow(), [], set(lost), 9, way
+    def __init__(self, rule, first, limit, lost=(), way=driver.WAY, window=driver.MOST):
+        self.second, self.lines, self.lost, self.shown, self.way, self.window = Flow(), [], set(lost), 9, way, window
         self.expired, self.now, self.count, self.next, self.early, self.coming = [], 0, 0, first, set(), []
         self.call(f"{rule} 0 {first} {limit}")
 
     def emits(self):
-        while (answer := self.call(f"emit {self.now}"))[0] == "sent":
+        while (answer := self.call(f"{self.emits_by} {self.now} {self.window}"))[0] == "sent":
             start, count = int(answer[1]), int(answer[2])
             if self.count not in self.lost and count:
                 self.early.add(start)
@@ -114,7 +152,7 @@ class Turns(driver.Turns):
             self.now = max(self.now, min(times))
             while self.coming and self.coming[0][0] <= self.now:
                 self.call(f"arrive {self.now} {self.coming.pop(0)[1]}")
-            self.turn("timeout")
+            self.turn(self.expires_by)
 
 
 def worked():
@@ -141,7 +179,28 @@ def worked():
         late.runs(2)
         late.turn("abort")
         all_turns.append(late)
+        all_turns.append(chosen(rule))
+    none = Turns("none", 1, 1, (5,))
+    none.turn("send 60")
+    none.runs(30)
+    all_turns.append(none)
     return [line for turns in all_turns for line in turns.lines]
+
+
+def chosen(rule):
+    """A window that is chosen for an end that has sent nothing, before its SYN goes out, which is lost: both SYNs agree on smaller segments. It
+    goes out by trains, within a window of the caller's of 12 numbers, and what comes is vouched for. Its path is suspect, and its user
+    waits for it without a limit."""
+    turns = Turns("none", 0, 1, lost=(0, 30, *range(60, 75)), window=12)
+    turns.emits_by, turns.expires_by = "train", "tick"
+    turns.call(f"choose 0 {rule} 2 1")
+    turns.call("user-timeout -")
+    turns.turn("send 1")
+    turns.runs(3)
+    turns.turn("vouched 1 0 0 9 0", "send 80", "resend-first")
+    turns.runs(60)
+    assert turns.second.end.una == 81, turns.second.end.una
+    return turns
 
 
 def random_calls(draw, count):
@@ -151,18 +210,21 @@ def random_calls(draw, count):
         at = draw.choice((now, now, now, max(0, now - 5000)))
         kind = draw.randrange(60)
         if kind == 0 or number == 0:
-            yield f"{draw.choice(('reno', 'cubic'))} {at} {draw.choice((0, 1, 5))} {draw.choice((1, 2, 8))}"
+            yield f"{draw.choice(tuple(RULES))} {at} {draw.choice((0, 1, 5))} {draw.choice((1, 2, 8))}"
         elif kind < 26:
-            yield from [f"emit {at}"] * draw.choice((1, 1, 5))
+            window = draw.choice((driver.MOST, driver.MOST, draw.randrange(30)))
+            yield from [f"{draw.choice(('emit', 'emit', 'train'))} {at} {window}"] * draw.choice((1, 1, 5))
         elif kind < 40:
             ack = f"{draw.choice((draw.randrange(12), draw.randrange(100)))} {draw.choice((0, 0, 1))} {int(draw.randrange(30) == 0)}"
-            yield from [f"arrive {at} {ack} {draw.choice((0, 9, 9))} {draw.choice((0, 16, 20))}"] * draw.choice((1, 1, 4))
+            yield from [f"{draw.choice(('arrive', 'arrive', 'vouched'))} {at} {ack} {draw.choice((0, 9, 9))} {draw.choice((0, 16, 20))}"] * draw.choice((1, 1, 4))
         elif kind < 48:
-            yield f"timeout {at}"
+            yield f"{draw.choice(('timeout', 'tick'))} {at}"
+        elif kind == 48:
+            yield draw.choice((f"user-timeout {draw.choice(('-', 60 * SECOND))}", f"choose {at} {draw.choice(tuple(RULES))} {draw.choice((1, 2, 9))} 1"))
         elif kind < 56:
             yield f"send {at} {draw.randrange(30)}"
         else:
-            yield f"{draw.choice(('receive', 'acknowledge', 'acknowledge', 'close') + ('abort',) * (number % 9 == 0))} {at}"
+            yield f"{draw.choice(('receive', 'acknowledge', 'acknowledge', 'close', 'resend-first') + ('abort',) * (number % 9 == 0))} {at}"
 
 
 def answers_of(lines):

@@ -11,7 +11,11 @@ class Reno:
     """RFC 5681, 3 and 4, with RFC 6582, 3.2, RFC 3042, RFC 3465, RFC 6928, by the names of these."""
 
     def __init__(self, smss, limit=1):
-        self.smss, self.limit = smss, limit
+        self.limit = limit
+        self.begins_with(smss)
+
+    def begins_with(self, smss):
+        self.smss = smss
         self.cwnd = self.iw = min(10 * smss, max(2 * smss, 14600))
         self.ssthresh = HIGH
         self.recover = 0

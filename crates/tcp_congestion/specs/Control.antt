@@ -1,11 +1,13 @@
 -- Any congestion window, as functions of its state W.
-use Rattle.std.specs.Prelude.{ℕ, Bool}
+use Rattle.std.specs.Prelude.{ℕ, Bool, true}
 use Rattle.tcp_congestion.specs.Reno.{Window}
 use Rattle.tcp_congestion.specs.Reno as reno
 use Rattle.tcp_congestion.specs.Cubic.{CubicWindow}
 use Rattle.tcp_congestion.specs.Cubic as cubic
 
 pub record Control (W : Type 0) : Type 0 where
+  -- whether there is a window at all: where there is none nothing is told to it, and nothing waits for it
+  pub limits : W → Bool
   pub smss : W → ℕ
   pub cwnd : W → ℕ
   pub ssthresh : W → ℕ
@@ -27,12 +29,14 @@ pub record Control (W : Type 0) : Type 0 where
   -- what is sent again
   pub may_resend : W → Bool
   pub resent : W → ℕ → W
-  -- a SYN was lost, or nothing was sent for long
+  -- both SYNs agreed on SMSS, a SYN was lost, or nothing was sent for long
+  pub agreed : W → ℕ → W
   pub syn_resent : W → W
   pub idle : W → W
 
 abbrev pub reno_control : Control Window
 reno_control = record {
+  limits = λ w. true;
   smss = λ w. w.smss;
   cwnd = λ w. w.cwnd;
   ssthresh = λ w. w.ssthresh;
@@ -48,12 +52,14 @@ reno_control = record {
   timed_out = λ w flight snd_nxt. reno.after_timeout w flight snd_nxt;
   may_resend = λ w. reno.may_resend w;
   resent = λ w count. reno.after_resent w count;
+  agreed = λ w smss. reno.after_agreement w smss;
   syn_resent = λ w. reno.after_syn_resent w;
   idle = λ w. reno.after_idle w;
 }
 
 abbrev pub cubic_control : Control CubicWindow
 cubic_control = record {
+  limits = λ c. true;
   smss = λ c. c.window.smss;
   cwnd = λ c. c.window.cwnd;
   ssthresh = λ c. c.window.ssthresh;
@@ -69,6 +75,7 @@ cubic_control = record {
   timed_out = λ c flight snd_nxt. cubic.after_timeout c flight snd_nxt;
   may_resend = λ c. reno.may_resend c.window;
   resent = λ c count. record c { window = reno.after_resent c.window count };
+  agreed = λ c smss. record c { window = reno.after_agreement c.window smss };
   syn_resent = λ c. record c { window = reno.after_syn_resent c.window };
   idle = λ c. cubic.after_idle_time c;
 }

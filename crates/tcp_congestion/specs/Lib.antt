@@ -3,6 +3,7 @@ pub mod Reno
 pub mod Root
 pub mod Cubic
 pub mod Control
+pub mod AnyWindow
 pub mod Growth
 pub mod CubicGrowth
 pub mod Limiter

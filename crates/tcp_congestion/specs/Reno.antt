@@ -183,6 +183,10 @@ after_resent w count = record w { resent = min max_window (w.resent + count) }
 abbrev pub may_resend : Window → Bool
 may_resend w = nat_lt w.resent w.cwnd
 
+-- BOTH SYNs HAVE AGREED on SMSS: the window begins with IW of it (RFC 6928, 2), or with one segment where a SYN was lost before
+abbrev pub after_agreement : Window → ℕ → Window
+after_agreement w smss = record (new_window_with smss w.limit) { cwnd = if w.cwnd == w.smss then smss else initial_window smss }
+
 -- A SYN WAS LOST: the window begins with one segment (RFC 5681, 3.1)
 abbrev pub after_syn_resent : Window → Window
 after_syn_resent w = record w { cwnd = w.smss }

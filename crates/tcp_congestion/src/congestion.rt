@@ -13,6 +13,14 @@ pub trait Congestion {
     /// What it does, as functions of its state.
     ghost control: { Control Self };
 
+    /// Whether it is a window at all. Where it isn't nothing has to be told to it, and nothing waits for it.
+    fn limits(&self) -> bool
+        ensures { result ≡ control.limits self.now };
+
+    /// SMSS, in bytes: of a full segment.
+    fn smss(&self) -> u64
+        ensures { result ≡ control.smss self.now };
+
     /// The congestion window: at least one segment.
     fn cwnd(&self) -> u64
         ensures value { result ≡ control.cwnd self.now }
@@ -66,19 +74,34 @@ pub trait Congestion {
     fn resent(&mut self, count: u64)
         ensures { self.new ≡ control.resent self.old count };
 
+    /// Both SYNs have agreed on full segments of `smss` bytes, and no text was sent yet.
+    fn agreed(&mut self, smss: u64)
+        requires least { 0 < smss }
+        requires most { smss ≤ max_segment }
+        ensures { self.new ≡ control.agreed self.old smss };
+
     /// The handshake is over, and its SYN was lost.
     fn syn_was_resent(&mut self)
         ensures { self.new ≡ control.syn_resent self.old };
 
     /// Data are sent again after nothing was sent for longer than the timeout.
     fn was_idle(&mut self)
-        ensures { self.new ≡ control.idle self.old };
+        ensures after { self.new ≡ control.idle self.old }
+        ensures limits { control.limits self.new ≡ control.limits self.old };
 }
 
 impl Congestion for Reno {
     ghost use Rattle.tcp_congestion.specs.Control.{reno_control};
 
     ghost control = { reno_control };
+
+    fn limits(&self) -> bool {
+        true
+    }
+
+    fn smss(&self) -> u64 {
+        Reno::smss(self)
+    }
 
     fn cwnd(&self) -> u64 {
         Reno::cwnd(self)
@@ -131,6 +154,10 @@ impl Congestion for Reno {
         Reno::resent(self, count);
     }
 
+    fn agreed(&mut self, smss: u64) {
+        Reno::agreed(self, smss);
+    }
+
     fn syn_was_resent(&mut self) {
         Reno::syn_was_resent(self);
     }
@@ -144,6 +171,14 @@ impl Congestion for Cubic {
     ghost use Rattle.tcp_congestion.specs.Control.{cubic_control};
 
     ghost control = { cubic_control };
+
+    fn limits(&self) -> bool {
+        true
+    }
+
+    fn smss(&self) -> u64 {
+        Cubic::smss(self)
+    }
 
     fn cwnd(&self) -> u64 {
         Cubic::cwnd(self)
@@ -187,6 +222,10 @@ impl Congestion for Cubic {
 
     fn resent(&mut self, count: u64) {
         Cubic::resent(self, count);
+    }
+
+    fn agreed(&mut self, smss: u64) {
+        Cubic::agreed(self, smss);
     }
 
     fn syn_was_resent(&mut self) {

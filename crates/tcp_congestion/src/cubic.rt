@@ -73,7 +73,7 @@ impl Model for Cubic {
 
 impl Cubic {
     ghost use Rattle.tcp_congestion.specs.Cubic.{after_acknowledgement, after_duplicate, after_idle_time, after_loss, after_report_of, after_timeout, new_cubic};
-    ghost use Rattle.tcp_congestion.specs.Reno.{after_resent, after_syn_resent, begins_recovery, is_new_loss, is_partial, may_resend, room_of};
+    ghost use Rattle.tcp_congestion.specs.Reno.{after_agreement, after_resent, after_syn_resent, begins_recovery, is_new_loss, is_partial, may_resend, room_of};
     ghost use Rattle.tcp_congestion.specs.Sizes.{max_limit, max_segment, max_window};
 
     /// The window of a connection that begins, as [`Reno::with_limit`] has it: of full segments of `smss` bytes, of which an
@@ -231,6 +231,15 @@ impl Cubic {
         self.window.syn_was_resent();
     }
 
+    /// Both SYNs have agreed on full segments of `smss` bytes, as for [`Reno::agreed`].
+    pub fn agreed(&mut self, smss: u64)
+        requires least { 0 < smss }
+        requires most { smss ≤ max_segment }
+        ensures { self.new ≡ record self.old { window = after_agreement self.old.window smss } }
+    {
+        self.window.agreed(smss);
+    }
+
     /// Data are sent again after nothing was sent for longer than the timeout (RFC 5681, 4.1; RFC 9438, 5.8).
     pub fn was_idle(&mut self)
         ensures { self.new ≡ after_idle_time self.old }
@@ -242,6 +251,13 @@ impl Cubic {
 
 // What the calls are made of.
 impl Cubic {
+    /// SMSS.
+    pub(crate) fn smss(&self) -> u64
+        ensures { result ≡ self.now.window.smss }
+    {
+        self.window.smss()
+    }
+
     ghost use Rattle.tcp_congestion.specs.Cubic.{after_growth, approached, avoided, befriended, est_rate, estimated, in_stage, is_friendly, reduced, target_of, timed, w_cubic};
     ghost use Rattle.tcp_congestion.specs.Sizes.{latest, max_threshold, max_window};
 

@@ -73,7 +73,7 @@ impl Model for Reno {
 }
 
 impl Reno {
-    ghost use Rattle.tcp_congestion.specs.Reno.{new_window, new_window_with, room_of, after_acknowledgement, after_loss, after_report, is_new_loss, is_partial, after_duplicate, begins_recovery, after_timeout, after_resent, may_resend, after_syn_resent, after_idle};
+    ghost use Rattle.tcp_congestion.specs.Reno.{new_window, new_window_with, room_of, after_acknowledgement, after_agreement, after_loss, after_report, is_new_loss, is_partial, after_duplicate, begins_recovery, after_timeout, after_resent, may_resend, after_syn_resent, after_idle};
     ghost use Rattle.tcp_congestion.specs.Sizes.{max_limit, max_segment, max_window};
 
     /// The window of a connection that begins, with full segments of `smss` bytes as both SYNs agreed on them: IW (RFC
@@ -242,6 +242,20 @@ impl Reno {
         ensures { self.new ≡ after_syn_resent self.old }
     {
         self.cwnd = self.smss;
+    }
+
+    /// Both SYNs have agreed on full segments of `smss` bytes: the window begins with them as [`Reno::with_limit`] has it, or with
+    /// one where a SYN was lost before (RFC 6928, 2; RFC 5681, 3.1).
+    pub fn agreed(&mut self, smss: u64)
+        requires least { 0 < smss }
+        requires most { smss ≤ max_segment }
+        ensures { self.new ≡ after_agreement self.old smss }
+    {
+        let was_lost = self.cwnd == self.smss;
+        *self = Reno::with_limit(smss, self.limit);
+        if was_lost {
+            self.cwnd = smss;
+        }
     }
 
     /// Data are sent again after nothing was sent for longer than the timeout (RFC 5681, 4.1): the window is the initial one

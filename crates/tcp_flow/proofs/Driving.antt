@@ -1,13 +1,15 @@
 -- The driver in a flow is as after calls of its own.
-use Rattle.std.proofs.Common.{◌≡◌, ℕ, Bool, true, false, List, [], ◌∷◌, refl}
-use Rattle.std.specs.Prelude.{◌||◌, if◌then◌else◌}
+use Rattle.std.proofs.Common.{◌≡◌, ℕ, Bool, true, false, List, [], ◌∷◌, refl, subst}
+use Rattle.std.specs.Prelude.{◌||◌, ◌&&◌, if◌then◌else◌, Option, replicate}
 use Rattle.tcp_congestion.specs.Control.{Control}
 use Rattle.tcp_driver.specs.declared.machine.Report.{Report}
 use Rattle.tcp_driver.specs.Calls.{Call, Arrives, Emits, Uses, after_calls}
+use Rattle.tcp_driver.specs.Rows.{after_emissions, emissions_of}
+use Rattle.tcp_driver.specs.Trains.{TrainIsEmissions}
 use Rattle.tcp_driver.specs.Driver.{Driving, after_arrival, at, is_withheld, way_of}
 use Rattle.tcp_driver.specs.Machine.{Machine}
-use Rattle.tcp_flow.specs.Flow.{Flowing, after_duplicate, after_progress, allowed, has_blocks, is_idle, rested, told, una_of, with_first}
-use Rattle.tcp_flow.specs.Calls.{Comes, Goes, Passes, Asks, FlowIsDriven}
+use Rattle.tcp_flow.specs.Flow.{Flowing, after_duplicate, after_progress, allowed, emitted_as_one, has_blocks, is_idle, rested, row_of, settled, told, una_of, with_first}
+use Rattle.tcp_flow.specs.Calls.{Comes, Goes, GoesAsOne, Passes, Asks, Limits, Chooses, FlowIsDriven}
 
 -- the driver of x is as after a call of d, and perhaps the first segment goes out again
 record Follows {S : Type 0} (m : Machine S) (d x : Driving S) (now : ℕ) (call : Call S) : Type 0 where
@@ -33,22 +35,33 @@ by-kind m c d f acked now call true b e = first m d _ now call _ e
 by-kind m c d f acked now call false true e = by-blocks m d f _ _ now call _ (has_blocks m f) e
 by-kind m c d f acked now call false false e = record { resends = false; same = e }
 
+-- told of a window that isn't one, nothing changes
+by-limits : {S W : Type 0} (m : Machine S) (smss_of : S → Option ℕ) (c : Control W) (d : Driving S) (f g : Flowing S W) (acked now : ℕ) (call : Call S) (limits moved duplicate : Bool)
+    → f.driving ≡ after_calls m d (call ∷ []) → g.driving ≡ after_calls m d (call ∷ [])
+    → Follows m d (if limits
+    then settled smss_of c (if moved then after_progress m c g acked now else (if duplicate then after_duplicate m c g now else g))
+    else f).driving now call
+by-limits m smss_of c d f g acked now call true moved duplicate e i =
+    let h = by-kind m c d g acked now call moved duplicate i in
+    record { resends = h.resends; same = h.same }
+by-limits m smss_of c d f g acked now call false moved duplicate e i = record { resends = false; same = e }
+
 unchanged : {A : Type 0} (x y : A) (b : Bool) → b ≡ true → x ≡ (if b then x else y)
 unchanged x y true e = refl
 unchanged x y false e = absurd (cc)
 
 -- in a burst, and where it is withheld, an arrival changes nothing
-by-taken : {S W : Type 0} (m : Machine S) (c : Control W) (f : Flowing S W) (now : ℕ) (src dst bytes : List ℕ) (report : Report) (b : Bool)
+by-taken : {S W : Type 0} (m : Machine S) (smss_of : S → Option ℕ) (c : Control W) (f : Flowing S W) (now : ℕ) (src dst bytes : List ℕ) (vouched : Bool) (report : Report) (b : Bool)
     → (f.driving.times.bursting || is_withheld m f.driving.core bytes) ≡ b
     → Follows m f.driving (if b then f
-    else told m c (record f { driving = after_arrival m f.driving (at f.driving now) src dst bytes (way_of f.driving false) }) (una_of m f) report now).driving
-    now (Arrives now src dst bytes false)
-by-taken m c f now src dst bytes report true e = record {
+    else told m smss_of c (record f { driving = after_arrival m f.driving (at f.driving now) src dst bytes (way_of f.driving vouched) }) (una_of m f) report now).driving
+    now (Arrives now src dst bytes vouched)
+by-taken m smss_of c f now src dst bytes vouched report true e = record {
   resends = false;
   same = unchanged f.driving _ (f.driving.times.bursting || is_withheld m f.driving.core bytes) e;
 }
-by-taken m c f now src dst bytes report false e =
-    by-kind m c f.driving _ report.acked now (Arrives now src dst bytes false) _ report.is_duplicate refl
+by-taken m smss_of c f now src dst bytes vouched report false e =
+    by-limits m smss_of c f.driving _ _ report.acked now (Arrives now src dst bytes vouched) _ _ report.is_duplicate refl refl
 
 rest-by : {S W : Type 0} (f : Flowing S W) (x : W) (b : Bool) → (if b then record f { window = x } else f).driving ≡ f.driving
 rest-by f x true = refl
@@ -58,14 +71,31 @@ emits-by : {S W : Type 0} (m : Machine S) (f g : Flowing S W) (now window : ℕ)
     → after_calls m g.driving (Emits now window ∷ []) ≡ after_calls m f.driving (Emits now window ∷ [])
 emits-by m f g now window e = cc
 
-pub driven_lem : {S W : Type 0} (m : Machine S) (c : Control W) → FlowIsDriven m c
-driven_lem m c f (Comes now src dst bytes) =
-    let h = by-taken m c f now src dst bytes (m.report f.driving.core src dst bytes (way_of f.driving false))
+many-by : {S W : Type 0} (m : Machine S) (f g : Flowing S W) (count now window : ℕ) → TrainIsEmissions m → g.driving ≡ f.driving
+    → after_emissions m count g.driving (at g.driving now) window ≡ after_calls m f.driving (replicate count (Emits now window))
+many-by m f g count now window trains e =
+    subst (λ d. after_emissions m count g.driving (at g.driving now) window ≡ after_calls m d (replicate count (Emits now window))) e
+    (trains g.driving count now window)
+
+chosen-by : {S W : Type 0} (f g : Flowing S W) (b : Bool) → f.driving ≡ g.driving → (if b then f else g).driving ≡ g.driving
+chosen-by f g true e = e
+chosen-by f g false e = refl
+
+pub driven_lem : {S W : Type 0} (m : Machine S) (smss_of : S → Option ℕ) (c : Control W) → TrainIsEmissions m → FlowIsDriven m smss_of c
+driven_lem m smss_of c trains f (Comes now src dst bytes vouched) =
+    let h = by-taken m smss_of c f now src dst bytes vouched (m.report f.driving.core src dst bytes (way_of f.driving vouched))
     (f.driving.times.bursting || is_withheld m f.driving.core bytes) refl in
     record { resends = h.resends; same = h.same }
-driven_lem m c f (Goes now) = record {
+driven_lem m smss_of c trains f (Goes now window) = record {
   resends = false;
-  same = emits-by m f (rested m c f now) now (allowed c (rested m c f now)) (rest-by f (c.idle f.window) (is_idle m f now));
+  same = emits-by m f (rested m c f now) now (allowed c (rested m c f now) window) (rest-by f (c.idle f.window) (c.limits f.window && is_idle m f now));
 }
-driven_lem m c f (Passes now) = record { resends = false; same = refl }
-driven_lem m c f (Asks now does) = record { resends = false; same = refl }
+driven_lem m smss_of c trains f (GoesAsOne now window most room) = record {
+  resends = false;
+  same = many-by m f (rested m c f now) (emissions_of (row_of m c (rested m c f now) window most room)) now (allowed c (rested m c f now) window) trains
+      (rest-by f (c.idle f.window) (c.limits f.window && is_idle m f now));
+}
+driven_lem m smss_of c trains f (Passes now) = record { resends = false; same = refl }
+driven_lem m smss_of c trains f (Asks now does) = record { resends = false; same = refl }
+driven_lem m smss_of c trains f (Limits limit) = record { resends = false; same = refl }
+driven_lem m smss_of c trains f (Chooses now window) = record { resends = false; same = chosen-by _ _ (c.limits window) refl }

@@ -1,43 +1,63 @@
 -- What an arrival that was taken has told.
-use Rattle.std.proofs.Common.{◌≡◌, ℕ, List, Bool, true, false, ap, sym}
+use Rattle.std.proofs.Common.{◌≡◌, ℕ, List, Bool, true, false, refl, sym, ap, ◌∙◌, Option}
 use Rattle.std.specs.Prelude.{◌||◌, if◌then◌else◌}
 use Rattle.tcp_driver.specs.declared.machine.Report.{Report}
 use Rattle.tcp_driver.specs.declared.driver.Taken.{Taken}
 use Rattle.tcp_driver.specs.declared.driver.Taken.TheVariants.{Done, EmitFirst, Withheld}
 use Rattle.tcp_driver.specs.declared.machine.Way.{Way}
-use Rattle.tcp_driver.specs.Driver.{Driving, after_arrival, arrival_answer, at, is_withheld, way_of}
+use Rattle.tcp_driver.specs.Driver.{Driving, after_arrival, after_taken, arrival_answer, at, is_withheld, way_of}
 use Rattle.tcp_driver.specs.Machine.{Machine}
 use Rattle.tcp_congestion.specs.Control.{Control}
-use Rattle.tcp_flow.specs.Flow.{Flowing, after_segment, told}
+use Rattle.tcp_flow.specs.Flow.{Flowing, after_segment, heard, told}
 
-abbrev is_done : {T : Type 0} → Taken T → Bool
-is_done (Done report answer) = true
-is_done other = false
+-- what was taken was told, and else nothing has changed
+told-is : {S W T : Type 0} (m : Machine S) (smss_of : S → Option ℕ) (c : Control W) (f : Flowing S W) (una now : ℕ) (after : Driving S) (report : Report) (answer : T) (bursting withheld : Bool)
+    → heard m smss_of c (record f { driving = if bursting || withheld then f.driving else after }) una
+    (if bursting then EmitFirst else (if withheld then Withheld else Done report answer)) now
+    ≡ (if bursting || withheld then f
+    else told m smss_of c (record f { driving = if bursting || withheld then f.driving else after }) una report now)
+told-is m smss_of c f una now after report answer true withheld = refl
+told-is m smss_of c f una now after report answer false true = refl
+told-is m smss_of c f una now after report answer false false = refl
 
-abbrev report_in : {T : Type 0} → Report → Taken T → Report
-report_in first (Done report answer) = report
-report_in first other = first
+pub heard_at : {S W T : Type 0} (m : Machine S) (smss_of : S → Option ℕ) (c : Control W) (f : Flowing S W) (now : ℕ) (src dst bytes : List ℕ) (vouched : Bool)
+    (answer : S → List ℕ → List ℕ → List ℕ → Way → T)
+    → heard m smss_of c (record f { driving = after_arrival m f.driving (at f.driving now) src dst bytes (way_of f.driving vouched) }) (m.una f.driving.core)
+    (arrival_answer m answer f.driving src dst bytes (way_of f.driving vouched)) now
+    ≡ after_segment m smss_of c f now src dst bytes vouched
+heard_at m smss_of c f now src dst bytes vouched answer =
+    told-is m smss_of c f (m.una f.driving.core) now (after_taken m f.driving (at f.driving now) src dst bytes (way_of f.driving vouched))
+    (m.report f.driving.core src dst bytes (way_of f.driving vouched)) (answer f.driving.core src dst bytes (way_of f.driving vouched))
+    f.driving.times.bursting (is_withheld m f.driving.core bytes)
 
-pub told_is : {A T : Type 0} (P : Report → A) (x : A) (bursting withheld : Bool) (report told : Report) (answer given : T)
-    → (if bursting then EmitFirst else (if withheld then Withheld else Done report answer)) ≡ Done told given
-    → P told ≡ (if bursting || withheld then x else P report)
-told_is P x true withheld report told answer given e = let f : false ≡ true = ap is_done e in absurd (cc)
-told_is P x false true report told answer given e = let f : false ≡ true = ap is_done e in absurd (cc)
-told_is P x false false report told answer given e = let f : report ≡ told = ap (report_in report) e in sym (ap P f)
+-- a window that isn't one is told nothing
+unheard-is : {S W : Type 0} (m : Machine S) (smss_of : S → Option ℕ) (c : Control W) (f : Flowing S W) (una now : ℕ) (after : Driving S) (report : Report) (bursting withheld : Bool)
+    → c.limits f.window ≡ false
+    → (record f { driving = if bursting || withheld then f.driving else after })
+    ≡ (if bursting || withheld then f
+    else told m smss_of c (record f { driving = if bursting || withheld then f.driving else after }) una report now)
+unheard-is m smss_of c f una now after report true withheld e = refl
+unheard-is m smss_of c f una now after report false true e = refl
+unheard-is m smss_of c f una now after report false false e = cc
 
-pub told_at : {S W T : Type 0} (m : Machine S) (c : Control W) (f g : Flowing S W) (now : ℕ) (src dst bytes : List ℕ) (vouched : Bool)
-    (after : Driving S) (una : ℕ) (report : Report) (answer : S → List ℕ → List ℕ → List ℕ → Way → T) (given : T) (result : Taken T) (new : Flowing S W)
+pub unheard_at : {S W : Type 0} (m : Machine S) (smss_of : S → Option ℕ) (c : Control W) (f : Flowing S W) (now : ℕ) (src dst bytes : List ℕ) (vouched : Bool)
+    → c.limits f.window ≡ false
+    → (record f { driving = after_arrival m f.driving (at f.driving now) src dst bytes (way_of f.driving vouched) })
+    ≡ after_segment m smss_of c f now src dst bytes vouched
+unheard_at m smss_of c f now src dst bytes vouched e =
+    unheard-is m smss_of c f (m.una f.driving.core) now (after_taken m f.driving (at f.driving now) src dst bytes (way_of f.driving vouched))
+    (m.report f.driving.core src dst bytes (way_of f.driving vouched)) f.driving.times.bursting (is_withheld m f.driving.core bytes) e
+
+pub heard_by : {S W T : Type 0} (m : Machine S) (smss_of : S → Option ℕ) (c : Control W) (f g : Flowing S W) (now : ℕ) (src dst bytes : List ℕ) (vouched : Bool)
+    (answer : S → List ℕ → List ℕ → List ℕ → Way → T) (after : Driving S) (una : ℕ) (result : Taken T) (new : Flowing S W)
     → f ≡ g → after ≡ after_arrival m f.driving (at f.driving now) src dst bytes (way_of f.driving vouched) → una ≡ m.una f.driving.core
-    → result ≡ arrival_answer m answer f.driving src dst bytes (way_of f.driving vouched) → result ≡ Done report given
-    → new ≡ told m c (record { driving = after; window = f.window; shut = f.shut; sent_at = f.sent_at }) una report now
-    → new ≡ after_segment m c g now src dst bytes vouched
-told_at m c f g now src dst bytes vouched after una report answer given result new v s u a i t =
-    let e : arrival_answer m answer f.driving src dst bytes (way_of f.driving vouched) ≡ Done report given = cc in
-    let step = told_is (λ r. told m c (record f { driving = after_arrival m f.driving (at f.driving now) src dst bytes (way_of f.driving vouched) })
-    (m.una f.driving.core) r now) f f.driving.times.bursting (is_withheld m f.driving.core bytes)
-    (m.report f.driving.core src dst bytes (way_of f.driving vouched)) report
-    (answer f.driving.core src dst bytes (way_of f.driving vouched)) given e in
-    let one : new ≡ told m c (record f { driving = after_arrival m f.driving (at f.driving now) src dst bytes (way_of f.driving vouched) })
-    (m.una f.driving.core) report now = cc in
-    let two : new ≡ after_segment m c f now src dst bytes vouched = cc in
-    cc
+    → result ≡ arrival_answer m answer f.driving src dst bytes (way_of f.driving vouched)
+    → new ≡ heard m smss_of c (record f { driving = after }) una result now
+    → new ≡ after_segment m smss_of c g now src dst bytes vouched
+heard_by m smss_of c f g now src dst bytes vouched answer after una result new s a u i t =
+    let driving = after_arrival m f.driving (at f.driving now) src dst bytes (way_of f.driving vouched) in
+    t ∙ ap (λ x. heard m smss_of c (record f { driving = x }) una result now) a
+    ∙ ap (λ (x : ℕ). heard m smss_of c (record f { driving = driving }) x result now) u
+    ∙ ap (λ x. heard m smss_of c (record f { driving = driving }) (m.una f.driving.core) x now) i
+    ∙ heard_at m smss_of c f now src dst bytes vouched answer
+    ∙ ap (λ x. after_segment m smss_of c x now src dst bytes vouched) s

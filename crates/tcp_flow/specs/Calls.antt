@@ -1,36 +1,48 @@
 -- The calls of a flow as calls of its driver.
-use Rattle.std.specs.Prelude.{◌≡◌, ℕ, Bool, false, if◌then◌else◌, List, [], ◌∷◌}
+use Rattle.std.specs.Prelude.{◌≡◌, ℕ, Bool, false, if◌then◌else◌, List, [], ◌∷◌, Option, replicate}
 use Rattle.tcp_congestion.specs.Control.{Control}
-use Rattle.tcp_driver.specs.Calls.{Call, Arrives, Emits, Expires, Uses, after_calls}
+use Rattle.tcp_driver.specs.Calls.{Call, Arrives, Emits, Expires, SetsUserTimeout, Uses, after_calls}
 use Rattle.tcp_driver.specs.Machine.{Machine}
-use Rattle.tcp_flow.specs.Flow.{Flowing, after_segment, after_timeout, after_use, allowed, emitted, rested}
+use Rattle.tcp_driver.specs.Rows.{emissions_of}
+use Rattle.tcp_flow.specs.Flow.{Flowing, after_segment, after_timeout, after_use, after_user_limit, allowed, emitted, emitted_as_one, rested, row_of, with_window}
 
--- each at a time; an arrival with its source and destination; a user's call with what the end is after it
-pub data FlowCall (S : Type 0) : Type 0 where
-  Comes : ℕ → List ℕ → List ℕ → List ℕ → FlowCall S
-  Goes : ℕ → FlowCall S
-  Passes : ℕ → FlowCall S
-  Asks : ℕ → (S → S) → FlowCall S
+-- each at a time, but a user timeout; an arrival with its source and destination, and whether a device has found its checksum right; an
+-- emission within the caller's window, and one of at most so many segments into so much room; a user's call with what the end is after it
+pub data FlowCall (S W : Type 0) : Type 0 where
+  Comes : ℕ → List ℕ → List ℕ → List ℕ → Bool → FlowCall S W
+  Goes : ℕ → ℕ → FlowCall S W
+  GoesAsOne : ℕ → ℕ → ℕ → ℕ → FlowCall S W
+  Passes : ℕ → FlowCall S W
+  Asks : ℕ → (S → S) → FlowCall S W
+  Limits : Option ℕ → FlowCall S W
+  Chooses : ℕ → W → FlowCall S W
 
-abbrev pub after_flow_call : {S W : Type 0} → Machine S → Control W → Flowing S W → FlowCall S → Flowing S W
-after_flow_call m c f (Comes now src dst bytes) = after_segment m c f now src dst bytes false
-after_flow_call m c f (Goes now) = emitted m c (rested m c f now) now
-after_flow_call m c f (Passes now) = after_timeout m c f now
-after_flow_call m c f (Asks now does) = after_use m f now (does f.driving.core)
+abbrev pub after_flow_call : {S W : Type 0} → Machine S → (S → Option ℕ) → Control W → Flowing S W → FlowCall S W → Flowing S W
+after_flow_call m smss_of c f (Comes now src dst bytes vouched) = after_segment m smss_of c f now src dst bytes vouched
+after_flow_call m smss_of c f (Goes now window) = emitted m c (rested m c f now) now window
+after_flow_call m smss_of c f (GoesAsOne now window most room) = emitted_as_one m c (rested m c f now) now window most room
+after_flow_call m smss_of c f (Passes now) = after_timeout m c f now
+after_flow_call m smss_of c f (Asks now does) = after_use m f now (does f.driving.core)
+after_flow_call m smss_of c f (Limits limit) = after_user_limit f limit
+after_flow_call m smss_of c f (Chooses now window) = with_window smss_of c f window now
 
 -- THE DRIVER'S CALLS that a flow's call makes, the newest first: an arrival, behind which the first segment may go out again, an
--- emission within the window, an expiry, or what the user asks
-abbrev pub calls_of : {S W : Type 0} → Machine S → Control W → Flowing S W → Bool → FlowCall S → List (Call S)
-calls_of m c f resends (Comes now src dst bytes) =
-    if resends then Uses now m.first_resent ∷ Arrives now src dst bytes false ∷ [] else Arrives now src dst bytes false ∷ []
-calls_of m c f resends (Goes now) = Emits now (allowed c (rested m c f now)) ∷ []
+-- emission within the windows, or as many as segments go out as one, an expiry, or what the user asks
+abbrev pub calls_of : {S W : Type 0} → Machine S → Control W → Flowing S W → Bool → FlowCall S W → List (Call S)
+calls_of m c f resends (Comes now src dst bytes vouched) =
+    if resends then Uses now m.first_resent ∷ Arrives now src dst bytes vouched ∷ [] else Arrives now src dst bytes vouched ∷ []
+calls_of m c f resends (Goes now window) = Emits now (allowed c (rested m c f now) window) ∷ []
+calls_of m c f resends (GoesAsOne now window most room) =
+    replicate (emissions_of (row_of m c (rested m c f now) window most room)) (Emits now (allowed c (rested m c f now) window))
 calls_of m c f resends (Passes now) = Expires now ∷ []
 calls_of m c f resends (Asks now does) = Uses now does ∷ []
+calls_of m c f resends (Limits limit) = SetsUserTimeout limit ∷ []
+calls_of m c f resends (Chooses now window) = []
 
 -- WHATEVER IS CALLED, the driver in a flow is as after these, so that each of its laws holds of it
-pub record IsDriven {S W : Type 0} (m : Machine S) (c : Control W) (f : Flowing S W) (call : FlowCall S) : Type 0 where
+pub record IsDriven {S W : Type 0} (m : Machine S) (smss_of : S → Option ℕ) (c : Control W) (f : Flowing S W) (call : FlowCall S W) : Type 0 where
   pub resends : Bool
-  pub same : (after_flow_call m c f call).driving ≡ after_calls m f.driving (calls_of m c f resends call)
+  pub same : (after_flow_call m smss_of c f call).driving ≡ after_calls m f.driving (calls_of m c f resends call)
 
-abbrev pub FlowIsDriven : {S W : Type 0} → Machine S → Control W → Type 0
-FlowIsDriven {S = S} {W = W} m c = (f : Flowing S W) (call : FlowCall S) → IsDriven m c f call
+abbrev pub FlowIsDriven : {S W : Type 0} → Machine S → (S → Option ℕ) → Control W → Type 0
+FlowIsDriven {S = S} {W = W} m smss_of c = (f : Flowing S W) (call : FlowCall S W) → IsDriven m smss_of c f call

@@ -1,15 +1,20 @@
--- One end with its times, under a congestion window, whatever the end and the window are.
-use Rattle.std.specs.Prelude.{◌≡◌, ℕ, ◌+◌, ◌-◌, ◌*◌, ◌<◌, ◌≤◌, nat_lt, min, Bool, false, not, ◌&&◌, ◌||◌, ◌==◌, if◌then◌else◌, List, Option, Some, None, IfSome}
+-- One end with its times, under a congestion window, whatever the end and the window are. Where a window is none (`limits`), nothing is
+-- told to it, and nothing waits for it: the flow does what its driver does.
+use Rattle.std.specs.Prelude.{◌≡◌, ℕ, ◌+◌, ◌-◌, ◌*◌, ◌<◌, ◌≤◌, nat_lt, min, Bool, true, false, not, ◌&&◌, ◌||◌, ◌==◌, if◌then◌else◌, List, Option, Some, None, IfSome}
 use Rattle.tcp_timing.specs.declared.round_trip.RoundTrip.{RoundTrip}
 use Rattle.tcp_congestion.specs.Control.{Control}
 use Rattle.tcp_congestion.specs.Sizes.{latest}
+use Rattle.tcp_driver.specs.declared.driver.Taken.{Taken}
+use Rattle.tcp_driver.specs.declared.driver.Taken.TheVariants.{Done}
 use Rattle.tcp_driver.specs.declared.machine.Report.{Report}
+use Rattle.tcp_driver.specs.declared.machine.Row.{Row}
 use Rattle.tcp_driver.specs.declared.machine.Sent.{Sent}
 use Rattle.tcp_driver.specs.declared.machine.Timer.{Timer}
 use Rattle.tcp_driver.specs.declared.machine.Timer.TheVariants.{Retransmit, Reorder}
 use Rattle.tcp_driver.specs.Times.{expiry}
-use Rattle.tcp_driver.specs.Driver.{Driving, after_arrival, after_emission, after_time, after_user, at, holds, is_withheld, sent_of, way_of}
+use Rattle.tcp_driver.specs.Driver.{Driving, after_arrival, after_emission, after_time, after_user, after_user_timeout, at, holds, is_withheld, sent_of, way_of}
 use Rattle.tcp_driver.specs.Machine.{Machine}
+use Rattle.tcp_driver.specs.Rows.{after_emissions, emissions_of}
 
 pub record Flowing (S W : Type 0) : Type 0 where
   pub driving : Driving S
@@ -67,14 +72,27 @@ after_report m c f una report now =
     if nat_lt una (una_of m f) then after_progress m c f report.acked now
     else (if report.is_duplicate then after_duplicate m c f now else f)
 
--- told of a segment that was taken, before which SND.UNA was this
-abbrev pub told : {S W : Type 0} → Machine S → Control W → Flowing S W → ℕ → Report → ℕ → Flowing S W
-told m c f una report now = after_report m c (record f { shut = shut_by report.window f.shut }) una report now
+-- SMSS is what both SYNs agreed on, once they have (RFC 5681, 2)
+abbrev pub agreed_by : {W : Type 0} → Control W → W → Option ℕ → W
+agreed_by c w None = w
+agreed_by c w (Some smss) = if c.smss w == smss then w else c.agreed w smss
 
-abbrev pub after_segment : {S W : Type 0} → Machine S → Control W → Flowing S W → ℕ → List ℕ → List ℕ → List ℕ → Bool → Flowing S W
-after_segment m c f now src dst bytes vouched =
+abbrev pub settled : {S W : Type 0} → (S → Option ℕ) → Control W → Flowing S W → Flowing S W
+settled smss_of c f = record f { window = agreed_by c f.window (smss_of f.driving.core) }
+
+-- told of a segment that was taken, before which SND.UNA was this
+abbrev pub told : {S W : Type 0} → Machine S → (S → Option ℕ) → Control W → Flowing S W → ℕ → Report → ℕ → Flowing S W
+told m smss_of c f una report now =
+    if c.limits f.window then settled smss_of c (after_report m c (record f { shut = shut_by report.window f.shut }) una report now) else f
+
+abbrev pub heard : {S W T : Type 0} → Machine S → (S → Option ℕ) → Control W → Flowing S W → ℕ → Taken T → ℕ → Flowing S W
+heard m smss_of c f una (Done report answer) now = told m smss_of c f una report now
+heard m smss_of c f una other now = f
+
+abbrev pub after_segment : {S W : Type 0} → Machine S → (S → Option ℕ) → Control W → Flowing S W → ℕ → List ℕ → List ℕ → List ℕ → Bool → Flowing S W
+after_segment m smss_of c f now src dst bytes vouched =
     if f.driving.times.bursting || is_withheld m f.driving.core bytes then f
-    else told m c (record f { driving = after_arrival m f.driving (at f.driving now) src dst bytes (way_of f.driving vouched) }) (una_of m f)
+    else told m smss_of c (record f { driving = after_arrival m f.driving (at f.driving now) src dst bytes (way_of f.driving vouched) }) (una_of m f)
     (m.report f.driving.core src dst bytes (way_of f.driving vouched)) now
 
 -- ---- AN EMISSION. Nothing was in flight, and nothing sent for longer than the timeout (RFC 5681, 4.1)
@@ -82,27 +100,46 @@ abbrev pub is_idle : {S W : Type 0} → Machine S → Flowing S W → ℕ → Bo
 is_idle m f now = (flight_of m f == 0) && nat_lt f.driving.times.estimate.rto (now - f.sent_at)
 
 abbrev pub rested : {S W : Type 0} → Machine S → Control W → Flowing S W → ℕ → Flowing S W
-rested m c f now = if is_idle m f now then record f { window = c.idle f.window } else f
+rested m c f now = if c.limits f.window && is_idle m f now then record f { window = c.idle f.window } else f
 
--- THE WINDOW OF WHAT GOES OUT, in numbers from SND.UNA: the room where nothing is in flight
-abbrev pub allowed : {S W : Type 0} → Control W → Flowing S W → ℕ
-allowed c f = c.room f.window 0
+-- THE WINDOW OF WHAT GOES OUT, in numbers from SND.UNA: the caller's, and the room where nothing is in flight
+abbrev pub allowed : {S W : Type 0} → Control W → Flowing S W → ℕ → ℕ
+allowed c f window = if c.limits f.window then min window (c.room f.window 0) else window
 
--- WHAT GOES OUT STAYS IN THE WINDOW (RFC 5681, 3.1; RFC 3042, 2): unless it is the acknowledgement alone, it ends at most cwnd and two
--- segments past SND.UNA, or nothing before it is in flight
-abbrev pub StaysInWindow : {S W : Type 0} → Machine S → Control W → Flowing S W → Option Sent → Type 0
-StaysInWindow m c f sent =
-    holds m f.driving.core (allowed c f) ≡ false
+-- WHAT GOES OUT STAYS IN THE WINDOW (RFC 5681, 3.1; RFC 3042, 2): unless it is the acknowledgement alone, or nothing before it is in
+-- flight, it ends at most cwnd and two segments past SND.UNA, and no further than the caller's window
+abbrev pub StaysInWindow : {S W : Type 0} → Machine S → Control W → Flowing S W → ℕ → Option Sent → Type 0
+StaysInWindow m c f window sent =
+    holds m f.driving.core (allowed c f window) ≡ false → c.limits f.window ≡ true
     → IfSome sent (λ sent. una_of m f < sent.start → 0 < sent.count → sent.start + sent.count ≤ una_of m f + (c.cwnd f.window + 2 * c.smss f.window))
 
-abbrev pub sent_at_by : Option Sent → ℕ → ℕ → ℕ
-sent_at_by None now before = before
-sent_at_by (Some sent) now before = if sent.count == 0 then before else now
+abbrev pub StaysInOwn : {S W : Type 0} → Machine S → Control W → Flowing S W → ℕ → Option Sent → Type 0
+StaysInOwn m c f window sent =
+    holds m f.driving.core (allowed c f window) ≡ false
+    → IfSome sent (λ sent. una_of m f < sent.start → 0 < sent.count → sent.start + sent.count ≤ una_of m f + window)
 
-abbrev pub emitted : {S W : Type 0} → Machine S → Control W → Flowing S W → ℕ → Flowing S W
-emitted m c f now = record f {
-  driving = after_emission m f.driving (at f.driving now) (allowed c f);
-  sent_at = sent_at_by (sent_of m f.driving.core (allowed c f)) now f.sent_at;
+abbrev pub sent_at_by : Bool → Option Sent → ℕ → ℕ → ℕ
+sent_at_by limits None now before = before
+sent_at_by limits (Some sent) now before = if limits && not (sent.count == 0) then now else before
+
+abbrev pub emitted : {S W : Type 0} → Machine S → Control W → Flowing S W → ℕ → ℕ → Flowing S W
+emitted m c f now window = record f {
+  driving = after_emission m f.driving (at f.driving now) (allowed c f window);
+  sent_at = sent_at_by (c.limits f.window) (sent_of m f.driving.core (allowed c f window)) now f.sent_at;
+}
+
+-- AS ONE, for a device that cuts them: as many emissions as these segments are
+abbrev pub row_of : {S W : Type 0} → Machine S → Control W → Flowing S W → ℕ → ℕ → ℕ → Option Row
+row_of m c f window most room = m.row f.driving.core (allowed c f window) most room
+
+abbrev pub sent_at_by_row : Bool → Option Row → ℕ → ℕ → ℕ
+sent_at_by_row limits None now before = before
+sent_at_by_row limits (Some row) now before = if limits && not (row.count == 0) then now else before
+
+abbrev pub emitted_as_one : {S W : Type 0} → Machine S → Control W → Flowing S W → ℕ → ℕ → ℕ → ℕ → Flowing S W
+emitted_as_one m c f now window most room = record f {
+  driving = after_emissions m (emissions_of (row_of m c f window most room)) f.driving (at f.driving now) (allowed c f window);
+  sent_at = sent_at_by_row (c.limits f.window) (row_of m c f window most room) now f.sent_at;
 }
 
 -- ---- TIME PASSES. Of what was in flight before
@@ -116,9 +153,17 @@ lost_by m c f other = f.window
 abbrev pub after_timeout : {S W : Type 0} → Machine S → Control W → Flowing S W → ℕ → Flowing S W
 after_timeout m c f now = record f {
   driving = after_time m f.driving (at f.driving now);
-  window = lost_by m c f (expiry f.driving.times (at f.driving now));
+  window = if c.limits f.window then lost_by m c f (expiry f.driving.times (at f.driving now)) else f.window;
 }
 
 -- ---- A USER'S CALL is the driver's
 abbrev pub after_use : {S W : Type 0} → Machine S → Flowing S W → ℕ → S → Flowing S W
 after_use m f now core = record f { driving = after_user m f.driving (at f.driving now) core }
+
+abbrev pub after_user_limit : {S W : Type 0} → Flowing S W → Option ℕ → Flowing S W
+after_user_limit f limit = record f { driving = after_user_timeout f.driving limit }
+
+-- ANOTHER WINDOW, of an end that has sent no text
+abbrev pub with_window : {S W : Type 0} → (S → Option ℕ) → Control W → Flowing S W → W → ℕ → Flowing S W
+with_window smss_of c f window now =
+    let new = new_flowing f.driving window now in if c.limits window then settled smss_of c new else new

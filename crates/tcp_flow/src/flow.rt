@@ -1,20 +1,21 @@
-ghost use Rattle.std.specs.Prelude.{◌≡◌, ◌≤◌, ◌<◌, ◌+◌, ◌^◌, IfSome, length};
+ghost use Rattle.std.specs.Prelude.{◌≡◌, ◌≤◌, ◌<◌, ◌+◌, ◌*◌, ◌^◌, IfSome, length};
 
+use crate::paced::Paced;
 use std::marker::Model;
 use tcp_congestion::Congestion;
-use tcp_driver::{Core, Driver, Report, Sent, Taken, Timer};
+use tcp_driver::{Driver, Report, Sent, Taken, Timer};
 
 /// One end with its times (RFC 6298, 5) under a congestion window (RFC 5681, 3; RFC 9438). What is in flight is bounded by
 /// that window, and what comes, expires and rests is told to it.
 #[derive(Drop)]
-pub struct Flow<C: Core + Drop, W: Congestion + Drop> {
+pub struct Flow<C: Paced + Drop, W: Congestion + Drop> {
     driver: Driver<C>,
     window: W,
     is_shut: bool,
     sent_at: u64,
 }
 
-impl<C: Core + Drop, W: Congestion + Drop> Model for Flow<C, W> {
+impl<C: Paced + Drop, W: Congestion + Drop> Model for Flow<C, W> {
     ghost use Rattle.tcp_flow.specs.Flow.{Flowing};
 
     ghost Value = { Flowing C W };
@@ -22,11 +23,12 @@ impl<C: Core + Drop, W: Congestion + Drop> Model for Flow<C, W> {
     ghost view = { λ f. record { driving = f.driver; window = f.window; shut = f.is_shut; sent_at = f.sent_at } };
 }
 
-impl<C: Core + Drop, W: Congestion + Drop> Flow<C, W> {
+impl<C: Paced + Drop, W: Congestion + Drop> Flow<C, W> {
     ghost use Rattle.std.specs.Prelude.{false, true};
     ghost use Rattle.tcp_driver.specs.Driver.{arrival_answer, at, sent_of, way_of, written_of};
     ghost use Rattle.tcp_driver.specs.Times.{expiry, next_expiry};
-    ghost use Rattle.tcp_flow.specs.Flow.{after_segment, after_timeout, after_use, allowed, emitted, new_flowing, rested};
+    ghost use Rattle.tcp_driver.specs.Times.{is_suspect};
+    ghost use Rattle.tcp_flow.specs.Flow.{after_segment, after_timeout, after_use, after_user_limit, allowed, emitted, emitted_as_one, new_flowing, rested, with_window};
 
     /// A driver that was just made, and a window.
     pub fn new(driver: Driver<C>, window: W, now: u64) -> Flow<C, W>
@@ -48,6 +50,18 @@ impl<C: Core + Drop, W: Congestion + Drop> Flow<C, W> {
         self.driver.poll_at()
     }
 
+    /// Chooses another window for an end that has sent no text yet. The idle time counts from now on.
+    pub fn set_window(&mut self, window: W, now: u64)
+        ensures { self.new ≡ with_window C.smss_of W.control self.old window now }
+    {
+        self.window = window;
+        self.is_shut = false;
+        self.sent_at = now;
+        if self.window.limits() {
+            self.settle();
+        }
+    }
+
     /// A segment has come at a time, from the IPv4 address `src` to `dst`, as for the driver.
     pub fn arrive(
         &mut self,
@@ -57,30 +71,80 @@ impl<C: Core + Drop, W: Congestion + Drop> Flow<C, W> {
         bytes: &[u8],
     ) -> Taken<C::Arriving>
         ensures answer { result ≡ arrival_answer C.machine C.arrival_answer self.old.driving src dst bytes.now (way_of self.old.driving false) }
-        ensures state { self.new ≡ after_segment C.machine W.control self.old now src dst bytes.now false }
+        ensures state { self.new ≡ after_segment C.machine C.smss_of W.control self.old now src dst bytes.now false }
     {
         let una = self.driver.core().una();
         let taken = self.driver.arrive(now, src, dst, bytes);
-        if let Taken::Done(report, _) = &taken {
-            let report = *report;
-            self.told(una, report, now);
+        if self.window.limits() {
+            self.hear(una, &taken, now);
         }
         taken
     }
 
-    ghost use Rattle.tcp_flow.specs.Flow.{after_duplicate, after_progress, told, with_first, srtt_of};
+    /// The same of a segment whose checksum a device has found right: it isn't summed (RFC 9293, 3.1).
+    pub fn arrive_vouched(
+        &mut self,
+        now: u64,
+        src: [u8; 4],
+        dst: [u8; 4],
+        bytes: &[u8],
+    ) -> Taken<C::Arriving>
+        ensures answer { result ≡ arrival_answer C.machine C.arrival_answer self.old.driving src dst bytes.now (way_of self.old.driving true) }
+        ensures state { self.new ≡ after_segment C.machine C.smss_of W.control self.old now src dst bytes.now true }
+    {
+        let una = self.driver.core().una();
+        let taken = self.driver.arrive_vouched(now, src, dst, bytes);
+        if self.window.limits() {
+            self.hear(una, &taken, now);
+        }
+        taken
+    }
+
+    /// What became of a segment is told to the window.
+    #[inline(never)]
+    fn hear(&mut self, una: u64, taken: &Taken<C::Arriving>, now: u64)
+        requires { W.control.limits self.old.window ≡ true }
+        ensures { self.new ≡ heard C.machine C.smss_of W.control self.old una taken.now now }
+    {
+        if let Taken::Done(report, _) = taken {
+            let report = *report;
+            self.told(una, report, now);
+        }
+    }
+
+    ghost use Rattle.tcp_flow.specs.Flow.{after_duplicate, after_progress, after_report, heard, settled, srtt_of, told, with_first};
 
     /// What came is told to the window.
     fn told(&mut self, una: u64, report: Report, now: u64)
-        ensures { self.new ≡ told C.machine W.control self.old una report now }
+        requires { W.control.limits self.old.window ≡ true }
+        ensures { self.new ≡ told C.machine C.smss_of W.control self.old una report now }
     {
         if let Some(window) = report.window {
             self.is_shut = window == 0;
         }
+        self.report(una, report, now);
+        self.settle();
+    }
+
+    /// What was acknowledged is told to the window.
+    fn report(&mut self, una: u64, report: Report, now: u64)
+        ensures { self.new ≡ after_report C.machine W.control self.old una report now }
+    {
         if una < self.driver.core().una() {
             self.progress(report.acked, now);
         } else if report.is_duplicate {
             self.duplicate(now);
+        }
+    }
+
+    /// The window is of the segments that both SYNs agreed on, once they have.
+    fn settle(&mut self)
+        ensures { self.new ≡ settled C.smss_of W.control self.old }
+    {
+        if let Some(smss) = self.driver.core().smss() {
+            if smss != self.window.smss() {
+                self.window.agreed(smss);
+            }
         }
     }
 
@@ -123,7 +187,7 @@ impl<C: Core + Drop, W: Congestion + Drop> Flow<C, W> {
         }
     }
 
-    ghost use Rattle.tcp_flow.specs.Flow.{StaysInWindow, is_idle, lost_by, nxt_of};
+    ghost use Rattle.tcp_flow.specs.Flow.{StaysInOwn, StaysInWindow, is_idle, lost_by, nxt_of};
 
     /// SND.NXT.
     fn nxt(&self) -> u64
@@ -135,18 +199,37 @@ impl<C: Core + Drop, W: Congestion + Drop> Flow<C, W> {
             .saturating_add(self.driver.flight())
     }
 
-    /// Writes the segment that is due, if one is, within the congestion window and what it lets out beyond that, as for the
-    /// driver. Where nothing was in flight, and no text was sent for longer than the timeout, the window is told first.
-    pub fn emit(&mut self, now: u64, out: &mut [u8]) -> Option<Sent>
+    /// Writes the segment that is due, if one is, within the caller's window, the congestion window and what that lets out beyond
+    /// itself, as for the driver. Where nothing was in flight, and no text was sent for longer than the timeout, the congestion
+    /// window is told first.
+    pub fn emit(&mut self, now: u64, window: u64, out: &mut [u8]) -> Option<Sent>
         requires { C.machine.room ≤ length out.old }
-        ensures sent { result ≡ sent_of C.machine self.old.driving.core (allowed W.control (rested C.machine W.control self.old now)) }
+        ensures sent { result ≡ sent_of C.machine self.old.driving.core (allowed W.control (rested C.machine W.control self.old now) window) }
         ensures most { IfSome result (λ sent. sent.len ≤ C.machine.room) }
-        ensures written { out.new ≡ written_of C.machine self.old.driving.core (allowed W.control (rested C.machine W.control self.old now)) out.old }
-        ensures stays { StaysInWindow C.machine W.control (rested C.machine W.control self.old now) result }
-        ensures state { self.new ≡ emitted C.machine W.control (rested C.machine W.control self.old now) now }
+        ensures written { out.new ≡ written_of C.machine self.old.driving.core (allowed W.control (rested C.machine W.control self.old now) window) out.old }
+        ensures stays { StaysInWindow C.machine W.control (rested C.machine W.control self.old now) window result }
+        ensures stays_own { StaysInOwn C.machine W.control (rested C.machine W.control self.old now) window result }
+        ensures state { self.new ≡ emitted C.machine W.control (rested C.machine W.control self.old now) now window }
+    {
+        if !self.window.limits() {
+            return self.driver.emit(now, window, out);
+        }
+        self.emit_limited(now, window, out)
+    }
+
+    /// The same under a window that is one.
+    fn emit_limited(&mut self, now: u64, window: u64, out: &mut [u8]) -> Option<Sent>
+        requires room { C.machine.room ≤ length out.old }
+        requires limits { W.control.limits self.old.window ≡ true }
+        ensures sent { result ≡ sent_of C.machine self.old.driving.core (allowed W.control (rested C.machine W.control self.old now) window) }
+        ensures most { IfSome result (λ sent. sent.len ≤ C.machine.room) }
+        ensures written { out.new ≡ written_of C.machine self.old.driving.core (allowed W.control (rested C.machine W.control self.old now) window) out.old }
+        ensures stays { StaysInWindow C.machine W.control (rested C.machine W.control self.old now) window result }
+        ensures stays_own { StaysInOwn C.machine W.control (rested C.machine W.control self.old now) window result }
+        ensures state { self.new ≡ emitted C.machine W.control (rested C.machine W.control self.old now) now window }
     {
         self.rest(now);
-        let window = self.window.room(0);
+        let window = self.allowed(window);
         let sent = self.driver.emit(now, window, out);
         if let Some(sent) = &sent {
             if sent.count > 0 {
@@ -156,9 +239,66 @@ impl<C: Core + Drop, W: Congestion + Drop> Flow<C, W> {
         sent
     }
 
+    /// Writes as one, for a device that cuts and sums them, the segments that may go out within the lesser of both windows, at
+    /// most `most`, as for the driver: as many calls of [`emit`](Self::emit).
+    pub fn emit_train(
+        &mut self,
+        now: u64,
+        window: u64,
+        out: &mut [u8],
+        most: usize,
+    ) -> Option<C::Train>
+        requires { C.machine.room ≤ length out.old }
+        ensures train { result ≡ C.train_answer self.old.driving.core (allowed W.control (rested C.machine W.control self.old now) window) most (length out.old) }
+        ensures written { out.new ≡ C.machine.written_row self.old.driving.core (allowed W.control (rested C.machine W.control self.old now) window) most out.old }
+        ensures state { self.new ≡ emitted_as_one C.machine W.control (rested C.machine W.control self.old now) now window most (length out.old) }
+    {
+        if !self.window.limits() {
+            return self.driver.emit_train(now, window, out, most);
+        }
+        self.emit_train_limited(now, window, out, most)
+    }
+
+    /// The same under a window that is one.
+    fn emit_train_limited(
+        &mut self,
+        now: u64,
+        window: u64,
+        out: &mut [u8],
+        most: usize,
+    ) -> Option<C::Train>
+        requires room { C.machine.room ≤ length out.old }
+        requires limits { W.control.limits self.old.window ≡ true }
+        ensures train { result ≡ C.train_answer self.old.driving.core (allowed W.control (rested C.machine W.control self.old now) window) most (length out.old) }
+        ensures written { out.new ≡ C.machine.written_row self.old.driving.core (allowed W.control (rested C.machine W.control self.old now) window) most out.old }
+        ensures state { self.new ≡ emitted_as_one C.machine W.control (rested C.machine W.control self.old now) now window most (length out.old) }
+    {
+        self.rest(now);
+        let window = self.allowed(window);
+        let train = self.driver.emit_train(now, window, out, most);
+        if let Some(train) = &train {
+            if C::numbers(train) > 0 {
+                self.sent_at = now;
+            }
+        }
+        train
+    }
+
+    /// How far what goes out may reach past SND.UNA.
+    fn allowed(&self, window: u64) -> u64
+        requires { W.control.limits self.now.window ≡ true }
+        ensures value { result ≡ allowed W.control self.now window }
+        ensures own { result ≤ window }
+        ensures most { result ≤ W.control.cwnd self.now.window + 2 * W.control.smss self.now.window }
+    {
+        window.min(self.window.room(0))
+    }
+
     /// The window is told of an idle time.
     fn rest(&mut self, now: u64)
-        ensures { self.new ≡ rested C.machine W.control self.old now }
+        requires { W.control.limits self.old.window ≡ true }
+        ensures rested { self.new ≡ rested C.machine W.control self.old now }
+        ensures limits { W.control.limits self.new.window ≡ true }
     {
         if self.is_idle(now) {
             self.window.was_idle();
@@ -174,7 +314,35 @@ impl<C: Core + Drop, W: Congestion + Drop> Flow<C, W> {
     }
 
     /// It is `now`: the timer that has expired, if one has, as for the driver. A loss is told to the window.
+    #[inline(always)]
     pub fn timeout(&mut self, now: u64) -> Option<Timer>
+        ensures expired { result ≡ expiry self.old.driving.times (at self.old.driving now) }
+        ensures state { self.new ≡ after_timeout C.machine W.control self.old now }
+    {
+        if !self.window.limits() {
+            return self.driver.timeout(now);
+        }
+        self.timeout_limited(now)
+    }
+
+    /// It is `now`: as [`timeout`](Self::timeout), and when it has to be called next, as [`poll_at`](Self::poll_at) behind it.
+    #[inline(always)]
+    pub fn tick(&mut self, now: u64) -> (Option<Timer>, Option<u64>)
+        ensures expired { result.0 ≡ expiry self.old.driving.times (at self.old.driving now) }
+        ensures next { result.1 ≡ next_expiry self.new.driving.times }
+        ensures state { self.new ≡ after_timeout C.machine W.control self.old now }
+    {
+        if !self.window.limits() {
+            return self.driver.tick(now);
+        }
+        let timer = self.timeout_limited(now);
+        (timer, self.driver.poll_at())
+    }
+
+    /// The timer that has expired, under a window that is one.
+    #[inline(never)]
+    fn timeout_limited(&mut self, now: u64) -> Option<Timer>
+        requires { W.control.limits self.old.window ≡ true }
         ensures expired { result ≡ expiry self.old.driving.times (at self.old.driving now) }
         ensures state { self.new ≡ after_timeout C.machine W.control self.old now }
     {
@@ -196,6 +364,30 @@ impl<C: Core + Drop, W: Congestion + Drop> Flow<C, W> {
             _ => {}
         }
         timer
+    }
+
+    /// Whether the path to the peer may be dead, as for the driver (RFC 9293, 3.8.3).
+    #[must_use]
+    pub fn is_suspect(&self) -> bool
+        ensures { result ≡ is_suspect self.now.driving.times }
+    {
+        self.driver.is_suspect()
+    }
+
+    /// Sets the user timeout, as for the driver (RFC 9293, 3.8.3).
+    pub fn set_user_timeout(&mut self, limit: Option<u64>)
+        ensures { self.new ≡ after_user_limit self.old limit }
+    {
+        self.driver.set_user_timeout(limit);
+    }
+
+    /// Of what is in flight the first segment goes out again at once, for a caller that finds losses by itself (RFC 5681, 3.2):
+    /// whether anything is in flight. The window isn't told.
+    pub fn resend_first(&mut self, now: u64) -> bool
+        ensures answer { result ≡ C.machine.can_resend self.old.driving.core }
+        ensures state { self.new ≡ after_use C.machine self.old now (C.machine.first_resent self.old.driving.core) }
+    {
+        self.driver.resend_first(now)
     }
 
     /// The driver: its end, its estimator, and what it says of both.

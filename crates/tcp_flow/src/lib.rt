@@ -2,9 +2,12 @@
 //!
 //! - [`Flow`]: a [`Driver`](tcp_driver::Driver) whose window for what goes out is a [`Congestion`](tcp_congestion::Congestion),
 //!   and which tells that what comes, what expires and what rests.
+//! - [`Paced`]: what it asks of an end for that.
 #![tactic(auto)]
 
 mod flow;
 pub mod laws;
+mod paced;
 
 pub use flow::Flow;
+pub use paced::Paced;

@@ -1,5 +1,6 @@
 -- A small end as a machine: it sends numbers, one in a segment.
-use Rattle.std.specs.Prelude.{ℕ, ◌+◌, ◌-◌, ◌^◌, Bool, true, false, not, ◌&&◌, ◌||◌, ◌==◌, nat_lt, if◌then◌else◌, List, [], ◌∷◌, length, Option, Some, None, is_some, option_map, min, max}
+use Rattle.std.specs.Prelude.{◌≡◌, ℕ, ◌+◌, ◌-◌, ◌^◌, Bool, true, false, not, ◌&&◌, ◌||◌, ◌==◌, nat_lt, if◌then◌else◌, List, [], ◌∷◌, length, Option, Some, None, is_some, option_map, min, max}
+use Rattle.std.proofs.Common.{refl}
 use Rattle.tcp_driver.specs.declared.machine.Report.{Report}
 use Rattle.tcp_driver.specs.declared.machine.Row.{Row}
 use Rattle.tcp_driver.specs.declared.machine.Sent.{Sent}
@@ -115,3 +116,12 @@ machine = record {
   closed = closed;
   aborted = λ s. record s { is_over = true };
 }
+
+-- both SYNs have agreed on segments of a number, once the first number is acknowledged
+abbrev pub smss_of : Small → Option ℕ
+smss_of s = if nat_lt 0 s.una then Some 1 else None
+
+-- a segment that goes alone takes as many numbers as the driver is told of
+pub counted : (sent : Option Sent) → option_map (λ row. row.count) (option_map row_of sent) ≡ option_map (λ s. s.count) sent
+counted None = refl
+counted (Some sent) = refl

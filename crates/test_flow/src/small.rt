@@ -3,6 +3,7 @@ ghost use Rattle.std.specs.Prelude.{◌≡◌, ◌≤◌, ◌+◌, ◌<◌, ◌^
 ghost use Rattle.test_flow.specs.Small.{row_of, segment};
 
 use tcp_driver::{Core, Report, Row, Sent, Timer, Wants, Way, holds};
+use tcp_flow::Paced;
 
 /// The bytes of each of its segments.
 const SEGMENT: usize = 14;
@@ -282,6 +283,24 @@ impl Core for Small {
         let can = !self.is_over;
         self.is_over = true;
         can
+    }
+}
+
+impl Paced for Small {
+    ghost use Rattle.test_flow.specs.Small.{counted, goes_out, smss_of};
+
+    ghost smss_of = { smss_of };
+
+    ghost numbers_of = { λ train. train.count };
+
+    ghost counts = { λ s window most room. counted (goes_out s window) };
+
+    fn smss(&self) -> Option<u64> {
+        if self.una > 0 { Some(1) } else { None }
+    }
+
+    fn numbers(train: &Sent) -> u64 {
+        train.count
     }
 }
 
