@@ -7,8 +7,7 @@ ghost use Rattle.tcp_wire.specs.Wire.{max_text_len};
 ghost use Rattle.tcp_judge.specs.Known.{nothing_known, place_of, is_keep_alive, ends_by, known_after, count_acked, acked_position, known_with};
 ghost use Rattle.tcp_judge.specs.Heard.{acks_beyond, is_further, goes_further, acked_number_after, after_went};
 ghost use Rattle.tcp_judge.specs.Rules.{fin_finding, form_finding, text_finding, position_finding, order_finding, report_finding, heard_finding};
-ghost use Rattle.tcp_judge.specs.Judgement.{finding_read, known_read, known_came, finding_at, known_past};
-ghost use Rattle.tcp_judge.specs.Log.{passage_content};
+ghost use Rattle.tcp_judge.specs.Judgement.{finding_read, known_read, known_came};
 ghost use Rattle.tcp_judge.specs.Taken.{taken_of};
 
 use crate::answers::{goes_elsewhere, is_stray, keep_answer};
@@ -20,7 +19,6 @@ use crate::heard::{
     oversteps, ports_after, standing,
 };
 use crate::lookup::is_from;
-use crate::passage::Passage;
 use crate::positions::{
     acked_position_by, early_by, fin_by, initial_after, initial_by, next_finding, opens_fast,
     takes_numbers,
@@ -494,20 +492,5 @@ impl<A: Allocator + Copy> Judge<A> {
         let finding = self.last_finding(found, place, &segment);
         self.learn(place, is_further, &segment)?;
         Ok(finding)
-    }
-
-    /// A passage of a log: [`came`](Judge::came) or [`went`](Judge::went). What came breaks no rule.
-    pub fn take(&mut self, passage: &Passage) -> Result<Option<Finding>, AllocError>
-        ensures finding { IfOk result (λ finding. finding ≡ finding_at self.old (passage_content passage.now)) }
-        ensures known { OnOk result (self.new ≡ known_past self.old (passage_content passage.now)) }
-        ensures err { OnErr result (self.new ≡ self.old) }
-    {
-        match passage {
-            Passage::Came(src, dst, bytes) => {
-                self.came(*src, *dst, bytes)?;
-                Ok(None)
-            }
-            Passage::Went(src, dst, bytes) => self.went(*src, *dst, bytes),
-        }
     }
 }
