@@ -1,4 +1,10 @@
 //! A capture read to its end.
+ghost use Rattle.std.specs.Prelude.{◌≡◌, ◌↔◌, ◌++◌, [], IfOk, IfSome, IsSome, None, length, false};
+ghost use Rattle.capture_form.specs.Pcap.{form_of};
+ghost use Rattle.capture_form.specs.Sections.{start};
+ghost use Rattle.capture_window.specs.Windows.{Holds, HoldsBehind, wires, section_wires};
+ghost use Rattle.capture_ends.specs.Captures.{frames_behind, pcap_form};
+
 use crate::connections::Connections;
 use crate::error::CaptureError;
 use crate::judged_end::Packet;
@@ -7,6 +13,7 @@ use capture_form::{Form, Found, Frame, packet_of, tcp_of};
 use capture_window::{Taker, Window, open, take_frames, take_sections};
 use kit_io::{Input, ReadError};
 use std::alloc::{AllocError, Allocator, Global};
+use std::marker::Model;
 
 /// Who is told how far a capture is read.
 pub trait Watcher {
@@ -23,7 +30,7 @@ pub enum CaptureForm {
     Sections,
 }
 
-/// What a capture has.
+/// What a capture has. A clause sees it as how many frames it has, and whether it is cut short or damaged.
 #[derive(Drop)]
 pub struct Capture<A: Allocator = Global> {
     /// The link of its frames, of the first where they may differ.
@@ -35,6 +42,14 @@ pub struct Capture<A: Allocator = Global> {
     pub is_cut: bool,
     /// Whether packets are missing: dropped when it was taken, or in obsolete packet blocks.
     pub(crate) is_lossy: bool,
+}
+
+impl<A: Allocator> Model for Capture<A> {
+    ghost use Rattle.capture_ends.specs.Captures.{CaptureContent};
+
+    ghost Value = { CaptureContent };
+
+    ghost view = { λ c. record { packets = c.packets; is_cut = c.is_cut } };
 }
 
 /// The most bytes of a segment that is judged: what a packet of IPv4 carries.
@@ -93,7 +108,11 @@ fn take_frame<A: Allocator + Copy>(
 pub fn open_capture<I: Input, A: Allocator>(
     input: &mut I,
     window: &mut Window<A>,
-) -> Result<Option<CaptureForm>, CaptureError> {
+) -> Result<Option<CaptureForm>, CaptureError>
+    ensures pcap { IfOk result (λ form. IfSome (I.remaining input.old) (λ bytes. pcap_form form ≡ form_of (window.old ++ bytes))) }
+    ensures behind { IfOk result (λ form. IsSome (pcap_form form) → HoldsBehind (I.remaining input.old) window.old (I.remaining input.new) window.new) }
+    ensures held { IfOk result (λ form. pcap_form form ≡ None → Holds (I.remaining input.old) window.old (I.remaining input.new) window.new) }
+{
     if let Some(form) = open(input, window)? {
         return Ok(Some(CaptureForm::Pcap(form)));
     }
@@ -131,7 +150,10 @@ fn read_records<I: Input, W: Watcher, A: Allocator + Copy>(
     input: &mut I,
     window: &mut Window<A>,
     watcher: &W,
-) -> Result<Capture<A>, CaptureError> {
+) -> Result<Capture<A>, CaptureError>
+    ensures packets { IfOk result (λ c. IfSome (I.remaining input.old) (λ bytes. c.packets ≡ length (wires form (window.old ++ bytes)))) }
+    ensures cut { IfOk result (λ c. (c.is_cut ≡ false) ↔ (window.new ≡ [])) }
+{
     let mut connections = Connections::new(alloc);
     let mut frames = Frames {
         connections: &mut connections,
@@ -156,7 +178,10 @@ fn read_sections<I: Input, W: Watcher, A: Allocator + Copy>(
     input: &mut I,
     window: &mut Window<A>,
     watcher: &W,
-) -> Result<Capture<A>, CaptureError> {
+) -> Result<Capture<A>, CaptureError>
+    ensures packets { IfOk result (λ c. IfSome (I.remaining input.old) (λ bytes. c.packets ≡ length (section_wires start (window.old ++ bytes)))) }
+    ensures cut { IfOk result (λ c. (c.is_cut ≡ false) ↔ (window.new ≡ [])) }
+{
     let mut connections = Connections::new(alloc);
     let mut section = Section::new(alloc);
     let mut frames = Frames {
@@ -183,7 +208,10 @@ pub fn judge_capture<I: Input, W: Watcher, A: Allocator + Copy>(
     input: &mut I,
     window: &mut Window<A>,
     watcher: &W,
-) -> Result<Capture<A>, CaptureError> {
+) -> Result<Capture<A>, CaptureError>
+    ensures packets { IfOk result (λ c. IfSome (I.remaining input.old) (λ bytes. c.packets ≡ frames_behind form (window.old ++ bytes))) }
+    ensures cut { IfOk result (λ c. (c.is_cut ≡ false) ↔ (window.new ≡ [])) }
+{
     match form {
         CaptureForm::Pcap(form) => read_records(alloc, form, input, window, watcher),
         CaptureForm::Sections => read_sections(alloc, input, window, watcher),

@@ -1,4 +1,8 @@
 //! One side of a connection.
+ghost use Rattle.std.specs.Prelude.{◌≡◌, option_map};
+ghost use Rattle.kit_text.specs.Words.{addr_of, octets};
+ghost use Rattle.capture_ends.specs.Hosts.{v4_of};
+
 use capture_form::stand_in;
 use kit_text::read_addr;
 use std::alloc::{AllocError, Allocator, Global};
@@ -16,7 +20,9 @@ pub enum Host {
 
 impl Host {
     /// The address that a text names, of IPv4 in dotted decimals, or of IPv6 (RFC 4291, 2.2).
-    pub fn read(text: &[u8]) -> Option<Host> {
+    pub fn read(text: &[u8]) -> Option<Host>
+        ensures { option_map octets (v4_of result) ≡ addr_of text.now }
+    {
         if let Some(addr) = read_addr(text) {
             return Some(Host::V4(addr));
         }
