@@ -1,5 +1,5 @@
 /* What the programs share around the module's calls: words, a file's bytes, and what becomes of an answer. PROGRAM is the program's name. */
-enum { STATUS_OF_FAULT = 2, WELL = 0, REFUSED = 1, FAULT = 2 };
+enum { STATUS_OF_FAULT = 2, WELL = 0, REFUSED = 1, FAULT = 2, LITTLE_MEMORY = 3, LITTLE_ROOM = 4 };
 enum { WORDS = 40, BAD_LINE = 41, NO_MEMORY = 42, NO_INPUT = 43, NO_OUTPUT = 44 };
 
 /* A text that grows. */
@@ -92,7 +92,7 @@ static int run(module_call *call, const struct text *input, outcome *report)
             break;
         u32 answer = call(&work);
         look(&work);
-        if (answer <= FAULT)
+        if (answer != LITTLE_MEMORY && answer != LITTLE_ROOM)
             status = report(answer, &work);
         end(&work);
         wanted = size == wanted ? size_after(wanted, input->length) : 0;

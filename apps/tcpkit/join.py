@@ -49,13 +49,13 @@ enum { TABLE_AT = 0 };
 """
 
 # Of each program: what of it is proved, the file of its words and its output, and the calls that it makes.
-PROGRAMS = {"tcpkit": ("replay and listing", "program.c", ["tcp_web_list", "tcp_web_replay"]), "tcpjudge": ("judge", "judge.c", ["tcp_web_judge"])}
+PROGRAMS = {"tcpkit": ("replay and listing", "program.c", ["tcp_web_list", "tcp_web_replay"]), "tcpjudge": ("judge", "judge.c", ["tcp_web_judge", "tcp_web_capture"])}
 JUDGE = HERE.parents[1] / "crates/tcpjudge/src/program.rt"
 
 
 def help_of():
     """What the proved tcpjudge prints when asked for help, as C."""
-    lines = re.search(r'^const HELP: &str = "(.*?)^";', JUDGE.read_text(), re.M | re.S)[1].splitlines()
+    lines = "".join(re.findall(r'^const \w*HELP: &str = "(.*?)^";', JUDGE.read_text(), re.M | re.S)).splitlines()
     return "#define HELP \\\n" + " \\\n".join(f'    "{line}\\n"' for line in lines) + "\n\n"
 
 
@@ -82,7 +82,7 @@ def main():
     name, out, libraries = sys.argv[2], pathlib.Path(sys.argv[3]), sys.argv[4:]
     what, program, calls = PROGRAMS[name]
     text = pathlib.Path(sys.argv[1]).read_text()
-    join.KNOWN |= {"I32_ROTL", "I64_ROTL", "I64_CLZ", "i32_load8_s"}
+    join.KNOWN |= {"I32_ROTL", "I64_ROTL", "I64_CLZ", "I64_CTZ", "i32_load8_s"}
     declared, body = needed(*join.functions(text, "tcp_web"), calls)
     body, loops, summed, pieces = quicker.quicker(body)
     at, _, data = join.table_of(text)

@@ -12,6 +12,7 @@ struct block {
 CODE u32 tcp_web_replay(struct block, const u8 *script, size_t, u8 *out, size_t, size_t *count);
 CODE u32 tcp_web_list(struct block, const u8 *list, size_t, u8 *out, size_t, size_t *count, size_t *line);
 CODE u32 tcp_web_judge(struct block, const u8 *log, size_t, u32 is_complete, u32 is_first, u8 *out, size_t, size_t *count, size_t *line);
+CODE u32 tcp_web_capture(struct block, const u8 *file, size_t, const u8 *at, size_t, u32 is_json, u32 is_painted, u8 *out, size_t, size_t *count);
 
 struct work {
     const u8 *input;
@@ -26,6 +27,7 @@ struct work {
 #define MODULE(name) tcp_web_##name
 #define BLOCK(work) ((struct block){(work)->memory + (work)->room, (work)->room})
 #define INPUT(work) (work)->input, (work)->length
+#define WORD(work, word) (const u8 *)(word), strlen(word)
 #define OUTPUT(work) (work)->memory, (work)->room
 #define COUNT(work) &(work)->count
 #define LINE(work) &(work)->line

@@ -12,6 +12,9 @@ test=tcpkit
 . ../../c/machine/common.sh
 top=$(cd ../.. && pwd)
 libraries=$(realpath -m "${1:-$top/c/dist/out/prebuilt}")
+# The program that the gate has built, with which the one of C is compared where it is here.
+proved=("$top/crates/tcpjudge/out/tcpjudge")
+[[ -x ${proved[0]} ]] || proved=()
 passed=0
 pass() { passed=$((passed + 1)); }
 fail() { echo "tcpkit: FAILED: $*"; exit 1; }
@@ -22,7 +25,7 @@ done
 # Both programs on all cases, each by its own words: out/tested runs it.
 stored() {
     python3 cases.py "$PWD/out/tested.tcpkit"
-    python3 judge_cases.py "$PWD/out/tested.tcpjudge"
+    python3 judge_cases.py "$PWD/out/tested.tcpjudge" "${proved[@]}"
     passed=$((passed + 2))
 }
 
@@ -66,7 +69,7 @@ emulated() {
 }
 
 same_code out/tcpkit.c "$libraries" libtcp_web.a tcp_web_list tcp_web_replay
-same_code out/tcpjudge.c "$libraries" libtcp_web.a tcp_web_judge
+same_code out/tcpjudge.c "$libraries" libtcp_web.a tcp_web_judge tcp_web_capture
 cases gcc -O2
 is_machine_code out/tested.tcpkit yes
 is_machine_code out/tested.tcpjudge yes

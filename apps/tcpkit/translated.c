@@ -1,8 +1,8 @@
 /*
- * A call of the module in C. Its memory is one piece: its stack and its data, the records of the call, the input, room for what is
- * written, and the block that the call works in.
+ * A call of the module in C. Its memory is one piece: its stack and its data, the records of the call, a word of at most 64 bytes,
+ * the input, room for what is written, and the block that the call works in.
  */
-enum { AT_BLOCK = (HEAP_BASE + 15) / 16 * 16, AT_COUNT = AT_BLOCK + 16, AT_LINE = AT_COUNT + 8, AT_INPUT = AT_LINE + 8 };
+enum { AT_BLOCK = (HEAP_BASE + 15) / 16 * 16, AT_COUNT = AT_BLOCK + 16, AT_LINE = AT_COUNT + 8, AT_WORD = AT_LINE + 8, AT_INPUT = AT_WORD + 64 };
 
 struct work {
     Machine machine;
@@ -18,6 +18,7 @@ struct work {
 #define MODULE(name) w2c_tcp_web_##name
 #define BLOCK(work) &(work)->machine, AT_BLOCK
 #define INPUT(work) AT_INPUT, (work)->length
+#define WORD(work, word) (memcpy((work)->memory + AT_WORD, word, strlen(word)), AT_WORD), strlen(word)
 #define OUTPUT(work) (work)->out, (work)->room
 #define COUNT(work) AT_COUNT
 #define LINE(work) AT_LINE

@@ -20,7 +20,7 @@ rm -rf "$place"
 mkdir -p "$place/crates" apps/web/out
 
 # No program, and no library for C.
-lines='^(tcp_[a-z_]+|kit_[a-z_]+|region_heap):'
+lines='^(tcp_[a-z_]+|kit_[a-z_]+|capture_[a-z_]+|region_heap):'
 if [[ ${1-} == --here ]]; then
     [[ ! -e .git ]] || { echo "apps/web/build.sh: with --here it changes crates.txt, and here is no copy"; exit 1; }
     place=.

@@ -8,7 +8,9 @@ function rounded(n) {
     return (n + BLOCK_UNIT - 1n) / BLOCK_UNIT * BLOCK_UNIT;
 }
 
-export const WELL = 0, REFUSED = 1, FAULT = 2, NO_MEMORY = 3, NO_ROOM = 4, NO_SEGMENT = 5;
+export const WELL = 0, REFUSED = 1, FAULT = 2, NO_MEMORY = 3, NO_ROOM = 4, NO_SEGMENT = 5, NO_ADDRESS = 6, NOTHING_JUDGED = 7, BAD_CAPTURE = 8;
+// Those with which a text is written.
+const TOLD = [WELL, REFUSED, FAULT, NOTHING_JUDGED, BAD_CAPTURE];
 
 // The module's bytes without the most that its memory may have (WebAssembly's specification, 5.5.8): it is built with as much as it
 // begins with, and a long script needs more.
@@ -93,8 +95,7 @@ export async function calls(module) {
                 const part = (end() - out) / PARTS / BLOCK_UNIT * BLOCK_UNIT, room = wanted > part ? wanted : part;
                 const { answer, told } = tried(run, bytes, out, room);
                 if (answer !== NO_MEMORY && answer !== NO_ROOM) {
-                    const is_told = answer === WELL || answer === REFUSED || answer === FAULT;
-                    const text = is_told ? new Uint8Array(exports.memory.buffer, Number(out), Number(told)) : new Uint8Array(0);
+                    const text = TOLD.includes(answer) ? new Uint8Array(exports.memory.buffer, Number(out), Number(told)) : new Uint8Array(0);
                     return { answer, text: decoder.decode(text) };
                 }
                 if (answer === NO_ROOM && rounded(told) > room && out + rounded(told) + BLOCK_UNIT < end()) {
@@ -123,6 +124,15 @@ export async function calls(module) {
             const found = call((record, at, length, out, room, count) =>
                 exports.tcp_web_judge(record, at, length, is_complete ? 1 : 0, 0, out, room, count, count + 8n), log);
             return { ...found, line: Number(new DataView(exports.memory.buffer).getBigUint64(Number(count) + 8, true)) };
+        },
+        // The report of a capture that was taken at this address, or elsewhere where it is empty, in words or as lines of JSON. The address
+        // lies behind the file.
+        capture(file, place, is_json) {
+            const word = encoder.encode(place), bytes = new Uint8Array(file.length + word.length);
+            bytes.set(file);
+            bytes.set(word, file.length);
+            return call((record, at, length, out, room, count) => exports.tcp_web_capture(record, at, length - BigInt(word.length),
+                at + length - BigInt(word.length), BigInt(word.length), is_json ? 1 : 0, 0, out, room, count), bytes);
         },
         // By which rule the segment is judged that an event delivers, counted from 0.
         rule: (script, number) => call(

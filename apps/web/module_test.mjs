@@ -3,7 +3,7 @@
 import fs from "node:fs";
 import path from "node:path";
 import { fileURLToPath } from "node:url";
-import { calls, compiled_of, WELL, REFUSED, FAULT, NO_SEGMENT } from "./module.mjs";
+import { calls, compiled_of, WELL, REFUSED, FAULT, NO_SEGMENT, NO_ADDRESS, NOTHING_JUDGED, BAD_CAPTURE } from "./module.mjs";
 import { capture_lines } from "./captures.mjs";
 import { connections_of, findings_of, log_of } from "./connections.mjs";
 import { long_script } from "./cases.mjs";
@@ -13,7 +13,7 @@ const at = (...parts) => path.join(here, "..", "..", ...parts);
 const module = await compiled_of(fs.readFileSync(process.argv[2] ?? at("apps/web/out/tcp_web.wasm")));
 let passed = 0, failed = 0;
 // Asking for the rule of each event, or the numbers after it, replays the script each time: of long ones they aren't asked for.
-const LONG = 20000, LEAST_MET = 8, MOST_SHOWN = 200;
+const LONG = 20000, LEAST_MET = 8, LEAST_CAPTURES = 8, MOST_SHOWN = 200;
 
 function expect(name, found, wanted) {
     if (found === wanted) {
@@ -210,6 +210,27 @@ function expect_clean(module_calls) {
     }
 }
 
+// Captures are judged as the program judges them: the report of docs/JUDGE.md, and the stored statuses.
+function expect_captures(module_calls) {
+    const report = /```text\n(packets 23, connections 1\n.*?)```/s.exec(fs.readFileSync(at("docs/JUDGE.md"), "utf8"))[1];
+    const { answer, text } = module_calls.capture(fs.readFileSync(at("checks/judge/data/kernel-A.pcap")), "10.7.0.1", false);
+    expect("a capture's report", [answer, text].join(), [WELL, report].join());
+    const answers = new Map([["0", WELL], ["1", REFUSED], ["2 tcpjudge: 46", BAD_CAPTURE], ["2 tcpjudge: 45", NOTHING_JUDGED], ["2 tcpjudge: 40", NO_ADDRESS]]);
+    let count = 0;
+    for (const line of fs.readFileSync(at("checks/program/capture_statuses.txt"), "utf8").trim().split("\n")) {
+        const [, name, status] = /^(\S+) (\d(?: tcpjudge: \d+)?)/.exec(line), file = fs.readFileSync(at("checks/program/capture_statuses", name));
+        const words = fs.readFileSync(at("checks/program/capture_statuses", `${name}.args`), "utf8").split("\n");
+        if (words.includes("--complete") || name.endsWith("of-a-log")) {
+            continue;
+        }
+        count += 1;
+        const place = words.includes("--at") ? words[words.indexOf("--at") + 1] : "", found = module_calls.capture(file, place, words.includes("--json"));
+        expect(`the capture ${name}`, found.answer, answers.get(status));
+    }
+    expect("captures with a status", count >= LEAST_CAPTURES, true);
+    expect("a log is no capture", module_calls.capture(fs.readFileSync(at("crates/tcpjudge/data/faults.log")), "", false).answer, FAULT);
+}
+
 // A script that needs more memory than the module begins with is replayed in more.
 function expect_long(module_calls) {
     const count = 200000, { answer, text } = module_calls.steps(long_script(count));
@@ -248,6 +269,7 @@ const first = module_calls.replay(fs.readFileSync(at("crates/tcpkit/data/first-r
 expect("the first run", first.text, fs.readFileSync(at("crates/tcpkit/stdout"), "utf8"));
 expect_judged(module_calls);
 expect_clean(module_calls);
+expect_captures(module_calls);
 expect_long(module_calls);
 expect("what is imported", WebAssembly.Module.imports(module).length, 0);
 console.log(`${scripts} scripts: ${passed} comparisons passed, ${failed} failed`);

@@ -1,12 +1,19 @@
 //! A capture read to its end.
+ghost use Rattle.std.specs.Prelude.{◌≡◌, ◌↔◌, ◌++◌, [], IfOk, IfSome, IsSome, None, length, false};
+ghost use Rattle.capture_form.specs.Pcap.{form_of};
+ghost use Rattle.capture_form.specs.Sections.{start};
+ghost use Rattle.capture_window.specs.Windows.{Holds, HoldsBehind, wires, section_wires};
+ghost use Rattle.capture_ends.specs.Captures.{frames_behind, pcap_form};
+
 use crate::connections::Connections;
 use crate::error::CaptureError;
 use crate::judged_end::Packet;
-use capture_form::pcapng::{Section, Step, is_section};
-use capture_form::{Form, Found, Frame, packet_of, read_record, tcp_of};
-use capture_window::{Window, fill, fill_block, open, pass_record};
-use kit_io::Input;
+use capture_form::pcapng::{Section, is_section};
+use capture_form::{Form, Found, Frame, packet_of, tcp_of};
+use capture_window::{Taker, Window, open, take_frames, take_sections};
+use kit_io::{Input, ReadError};
 use std::alloc::{AllocError, Allocator, Global};
+use std::marker::Model;
 
 /// Who is told how far a capture is read.
 pub trait Watcher {
@@ -23,7 +30,7 @@ pub enum CaptureForm {
     Sections,
 }
 
-/// What a capture has.
+/// What a capture has. A clause sees it as how many frames it has, and whether it is cut short or damaged.
 #[derive(Drop)]
 pub struct Capture<A: Allocator = Global> {
     /// The link of its frames, of the first where they may differ.
@@ -35,6 +42,14 @@ pub struct Capture<A: Allocator = Global> {
     pub is_cut: bool,
     /// Whether packets are missing: dropped when it was taken, or in obsolete packet blocks.
     pub(crate) is_lossy: bool,
+}
+
+impl<A: Allocator> Model for Capture<A> {
+    ghost use Rattle.capture_ends.specs.Captures.{CaptureContent};
+
+    ghost Value = { CaptureContent };
+
+    ghost view = { λ c. record { packets = c.packets; is_cut = c.is_cut } };
 }
 
 /// The most bytes of a segment that is judged: what a packet of IPv4 carries.
@@ -94,7 +109,11 @@ fn take_frame<A: Allocator + Copy>(
 pub fn open_capture<I: Input, A: Allocator>(
     input: &mut I,
     window: &mut Window<A>,
-) -> Result<Option<CaptureForm>, CaptureError> {
+) -> Result<Option<CaptureForm>, CaptureError>
+    ensures pcap { IfOk result (λ form. IfSome (I.remaining input.old) (λ bytes. pcap_form form ≡ form_of (window.old ++ bytes))) }
+    ensures behind { IfOk result (λ form. IsSome (pcap_form form) → HoldsBehind (I.remaining input.old) window.old (I.remaining input.new) window.new) }
+    ensures held { IfOk result (λ form. pcap_form form ≡ None → Holds (I.remaining input.old) window.old (I.remaining input.new) window.new) }
+{
     if let Some(form) = open(input, window)? {
         return Ok(Some(CaptureForm::Pcap(form)));
     }
@@ -104,43 +123,24 @@ pub fn open_capture<I: Input, A: Allocator>(
     Ok(None)
 }
 
-/// Takes the frame whose record begins these bytes.
-fn take_first<A: Allocator + Copy>(
-    connections: &mut Connections<A>,
+/// The frames of a capture go to its connections.
+#[derive(Drop)]
+struct Frames<'a, W: Watcher, A: Allocator> {
+    connections: &'a mut Connections<A>,
     alloc: A,
-    number: usize,
-    form: Form,
-    bytes: &[u8],
-) -> Result<(), AllocError> {
-    match read_record(form, bytes) {
-        Some((frame, _)) => take_frame(connections, alloc, number, &frame),
-        None => Ok(()),
-    }
+    /// The link of the first frame.
+    link: Option<u16>,
+    watcher: &'a W,
 }
 
-/// Takes the frames behind a capture's form, and answers how many there are.
-fn take_records<I: Input, W: Watcher, A: Allocator + Copy>(
-    connections: &mut Connections<A>,
-    alloc: A,
-    form: Form,
-    input: &mut I,
-    window: &mut Window<A>,
-    watcher: &W,
-) -> Result<usize, CaptureError> {
-    let mut packets = 0usize;
-    loop {
-        if !fill(form, input, window)? {
-            return Ok(packets);
+impl<'a, W: Watcher, A: Allocator + Copy> Taker for Frames<'a, W, A> {
+    fn take(&mut self, number: usize, frame: &Frame<'_>) -> Result<(), ReadError> {
+        self.link = self.link.or(Some(frame.link));
+        self.watcher.tell(number);
+        match take_frame(self.connections, self.alloc, number, frame) {
+            Ok(()) => Ok(()),
+            Err(_) => Err(ReadError::NoMemory),
         }
-        let Some(number) = packets.checked_add(1) else {
-            return Err(CaptureError::TooLong);
-        };
-        take_first(connections, alloc, number, form, window.bytes())?;
-        if pass_record(form, window).is_none() {
-            return Ok(packets);
-        }
-        packets = number;
-        watcher.tell(packets);
     }
 }
 
@@ -151,9 +151,18 @@ fn read_records<I: Input, W: Watcher, A: Allocator + Copy>(
     input: &mut I,
     window: &mut Window<A>,
     watcher: &W,
-) -> Result<Capture<A>, CaptureError> {
+) -> Result<Capture<A>, CaptureError>
+    ensures packets { IfOk result (λ c. IfSome (I.remaining input.old) (λ bytes. c.packets ≡ length (wires form (window.old ++ bytes)))) }
+    ensures cut { IfOk result (λ c. (c.is_cut ≡ false) ↔ (window.new ≡ [])) }
+{
     let mut connections = Connections::new(alloc);
-    let packets = take_records(&mut connections, alloc, form, input, window, watcher)?;
+    let mut frames = Frames {
+        connections: &mut connections,
+        alloc,
+        link: None,
+        watcher,
+    };
+    let packets = take_frames(form, input, window, &mut frames)?;
     Ok(Capture {
         link: Some(form.link),
         connections,
@@ -163,40 +172,6 @@ fn read_records<I: Input, W: Watcher, A: Allocator + Copy>(
     })
 }
 
-/// What was taken of a capture in the pcapng form.
-#[derive(Clone, Copy)]
-struct Taken {
-    /// The link of the first frame.
-    link: Option<u16>,
-    packets: usize,
-}
-
-/// Takes the block that begins what the window holds, and answers whether one does.
-fn take_block<A: Allocator + Copy>(
-    connections: &mut Connections<A>,
-    alloc: A,
-    section: &mut Section<A>,
-    window: &mut Window<A>,
-    taken: &mut Taken,
-) -> Result<bool, CaptureError> {
-    let left = match section.step(window.bytes())? {
-        Step::NoBlock => return Ok(false),
-        Step::Passed(rest) => rest.len(),
-        Step::Packet(frame, rest) => {
-            let Some(number) = taken.packets.checked_add(1) else {
-                return Err(CaptureError::TooLong);
-            };
-            take_frame(connections, alloc, number, &frame)?;
-            taken.packets = number;
-            taken.link = taken.link.or(Some(frame.link));
-            rest.len()
-        }
-    };
-    let behind = window.bytes().len().saturating_sub(left);
-    window.pass(behind);
-    Ok(true)
-}
-
 /// Reads the sections of a capture in the pcapng form. What is held is the state of each connection, the interfaces of a
 /// section, and the block that is read.
 fn read_sections<I: Input, W: Watcher, A: Allocator + Copy>(
@@ -204,28 +179,27 @@ fn read_sections<I: Input, W: Watcher, A: Allocator + Copy>(
     input: &mut I,
     window: &mut Window<A>,
     watcher: &W,
-) -> Result<Capture<A>, CaptureError> {
+) -> Result<Capture<A>, CaptureError>
+    ensures packets { IfOk result (λ c. IfSome (I.remaining input.old) (λ bytes. c.packets ≡ length (section_wires start (window.old ++ bytes)))) }
+    ensures cut { IfOk result (λ c. (c.is_cut ≡ false) ↔ (window.new ≡ [])) }
+{
     let mut connections = Connections::new(alloc);
     let mut section = Section::new(alloc);
-    let mut taken = Taken {
+    let mut frames = Frames {
+        connections: &mut connections,
+        alloc,
         link: None,
-        packets: 0,
+        watcher,
     };
-    for _block in 0..usize::MAX {
-        if !fill_block(&section, input, window)?
-            || !take_block(&mut connections, alloc, &mut section, window, &mut taken)?
-        {
-            return Ok(Capture {
-                link: taken.link,
-                connections,
-                packets: taken.packets,
-                is_cut: !window.bytes().is_empty(),
-                is_lossy: section.is_lossy(),
-            });
-        }
-        watcher.tell(taken.packets);
-    }
-    Err(CaptureError::TooLong)
+    let packets = take_sections(&mut section, input, window, &mut frames)?;
+    let link = frames.link;
+    Ok(Capture {
+        link,
+        connections,
+        packets,
+        is_cut: !window.bytes().is_empty(),
+        is_lossy: section.is_lossy(),
+    })
 }
 
 /// Reads what is behind the form of a capture to its end, and judges both ends of each of its connections.
@@ -235,7 +209,10 @@ pub fn judge_capture<I: Input, W: Watcher, A: Allocator + Copy>(
     input: &mut I,
     window: &mut Window<A>,
     watcher: &W,
-) -> Result<Capture<A>, CaptureError> {
+) -> Result<Capture<A>, CaptureError>
+    ensures packets { IfOk result (λ c. IfSome (I.remaining input.old) (λ bytes. c.packets ≡ frames_behind form (window.old ++ bytes))) }
+    ensures cut { IfOk result (λ c. (c.is_cut ≡ false) ↔ (window.new ≡ [])) }
+{
     match form {
         CaptureForm::Pcap(form) => read_records(alloc, form, input, window, watcher),
         CaptureForm::Sections => read_sections(alloc, input, window, watcher),

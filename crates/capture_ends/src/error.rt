@@ -12,9 +12,6 @@ pub enum CaptureError {
     /// There is no memory for it.
     #[error("no memory for the capture")]
     NoMemory,
-    /// It has 2^64 packets or blocks, or more.
-    #[error("the capture is too long")]
-    TooLong,
 }
 
 impl From<ReadError> for CaptureError {

@@ -1,5 +1,10 @@
 //! One side of a connection.
+ghost use Rattle.std.specs.Prelude.{◌≡◌, option_map};
+ghost use Rattle.kit_text.specs.Words.{addr_of, octets};
+ghost use Rattle.capture_ends.specs.Hosts.{v4_of};
+
 use capture_form::stand_in;
+use kit_text::read_addr;
 use std::alloc::{AllocError, Allocator, Global};
 use std::collections::BTreeMap;
 use std::fmt;
@@ -14,6 +19,19 @@ pub enum Host {
 }
 
 impl Host {
+    /// The address that a text names, of IPv4 in dotted decimals, or of IPv6 (RFC 4291, 2.2).
+    pub fn read(text: &[u8]) -> Option<Host>
+        ensures { option_map octets (v4_of result) ≡ addr_of text.now }
+    {
+        if let Some(addr) = read_addr(text) {
+            return Some(Host::V4(addr));
+        }
+        match Ipv6Addr::parse_ascii(text) {
+            Ok(addr) => Some(Host::V6(addr.octets())),
+            Err(_) => None,
+        }
+    }
+
     /// The address of IPv4 with which a checksum is right: where this is one of IPv6, one that stands in for it.
     pub(crate) fn in_sums(self) -> Addr {
         match self {

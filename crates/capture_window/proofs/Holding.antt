@@ -30,7 +30,7 @@ tells_frame form (Some r) (Some t) window found held rest f is h =
     append_assoc found (f.wire ∷ []) (wires form (rest ++ t)) ∙ ap (λ (xs : List ℕ). found ++ xs) (sym listed) ∙ h
 
 -- where a record is none, and none follows, whatever remains
-none_behind : (form : Form) (held left : List ℕ) → record_at form (held ++ left) ≡ None → wires form (held ++ left) ≡ []
+pub none_behind : (form : Form) (held left : List ℕ) → record_at form (held ++ left) ≡ None → wires form (held ++ left) ≡ []
 none_behind form held left is = ap (λ (found : List FrameContent × List ℕ). map (λ (f : FrameContent). f.wire) found.0) (records_none form (held ++ left) is)
 
 tells_last : (form : Form) (r t window found held : List ℕ) → record_at form (held ++ t) ≡ None → found ++ wires form (held ++ t) ≡ wires form (window ++ r)
@@ -42,7 +42,7 @@ not_true : (b : Bool) → not b ≡ true → b ≡ false
 not_true true is = absurd cc
 not_true false is = refl
 
-none_left : (form : Form) (held t : List ℕ) (damaged : Bool) → is_damaged form held ≡ damaged → record_at form held ≡ None → (damaged ≡ false → t ≡ [])
+pub none_left : (form : Form) (held t : List ℕ) (damaged : Bool) → is_damaged form held ≡ damaged → record_at form held ≡ None → (damaged ≡ false → t ≡ [])
     → record_at form (held ++ t) ≡ None
 none_left form held t true is none end =
     let both = and_parts (not (ltb (length held) 16)) (ltb max_captured (captured_len form held)) is in
@@ -62,7 +62,7 @@ wire_or : Option (ℕ × List ℕ) → ℕ
 wire_or None = 0
 wire_or (Some p) = p.0
 
-rest_or : Option (ℕ × List ℕ) → List ℕ
+unfoldable pub rest_or : Option (ℕ × List ℕ) → List ℕ
 rest_or None = []
 rest_or (Some p) = p.1
 

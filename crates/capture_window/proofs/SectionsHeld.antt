@@ -21,7 +21,7 @@ told_filled first s (Some r) None c window found w held h k = absurd h
 told_filled first s (Some r) (Some b) None window found w held h k = absurd k
 told_filled first s (Some r) (Some b) (Some t) window found w held h k = ap (λ (xs : List ℕ). found ++ section_wires s xs) (sym k) ∙ h
 
-wire_of : Option FrameContent → Option ℕ
+unfoldable pub wire_of : Option FrameContent → Option ℕ
 wire_of f = option_map (λ (f : FrameContent). f.wire) f
 
 wires_found : (f : Option FrameContent) (later : List FrameContent × (SectionContent × List ℕ)) (found : List ℕ)
@@ -41,7 +41,7 @@ told_block first s t (Some r) (Some left) window found held rest f is h =
     ∙ h
 
 -- the same by what a block tells of lengths
-wire_change : Option ((SectionContent × Option FrameContent) × List ℕ) → Option ((SectionContent × Option ℕ) × List ℕ)
+unfoldable pub wire_change : Option ((SectionContent × Option FrameContent) × List ℕ) → Option ((SectionContent × Option ℕ) × List ℕ)
 wire_change found = option_map (λ (r : (SectionContent × Option FrameContent) × List ℕ). ((r.0.0, option_map (λ (f : FrameContent). f.wire) r.0.1), r.1)) found
 
 pub told_passed : (first s t : SectionContent) (a c : Option (List ℕ)) (window found held rest : List ℕ) (wire : Option ℕ) (step : Option ((SectionContent × Option FrameContent) × List ℕ))
@@ -60,7 +60,7 @@ told_passed first s t a c window found held rest wire (Some ((u, f), behind)) is
 
 -- ---- the end
 
-none_behind : (s : SectionContent) (held left : List ℕ) → step_at s (held ++ left) ≡ None → section_wires s (held ++ left) ≡ []
+pub none_behind : (s : SectionContent) (held left : List ℕ) → step_at s (held ++ left) ≡ None → section_wires s (held ++ left) ≡ []
 none_behind s held left is = ap (λ (found : List FrameContent × (SectionContent × List ℕ)). map (λ (f : FrameContent). f.wire) found.0) (blocks_none s (held ++ left) is)
 
 told_last : (first s : SectionContent) (r t window found held : List ℕ) → step_at s (held ++ t) ≡ None → found ++ section_wires s (held ++ t) ≡ section_wires first (window ++ r)
@@ -68,7 +68,7 @@ told_last : (first s : SectionContent) (r t window found held : List ℕ) → st
 told_last first s r t window found held is h =
     sym (append-nil found) ∙ ap (λ (xs : List ℕ). found ++ xs) (sym (none_behind s held t is)) ∙ h
 
-none_left : (s : SectionContent) (held t : List ℕ) (broken : Bool) → is_broken (order_at s.order held) held ≡ broken → is_whole (order_at s.order held) held ≡ false
+pub none_left : (s : SectionContent) (held t : List ℕ) (broken : Bool) → is_broken (order_at s.order held) held ≡ broken → is_whole (order_at s.order held) held ≡ false
     → (broken ≡ false → t ≡ []) → step_at s (held ++ t) ≡ None
 none_left s held t true is whole end = broken_more s held t is
 none_left s held t false is whole end =

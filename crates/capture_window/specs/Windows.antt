@@ -1,5 +1,5 @@
 -- A WINDOW on an input.
-use Rattle.std.specs.Prelude.{◌≡◌, ℕ, List, [], ◌∷◌, ◌++◌, drop, map, option_map, Option, Some, None, ⊤}
+use Rattle.std.specs.Prelude.{◌≡◌, ℕ, ◌+◌, length, List, [], ◌∷◌, ◌++◌, drop, map, option_map, Option, Some, None, ⊤}
 use Rattle.capture_form.specs.declared.form.Form.{Form}
 use Rattle.capture_form.specs.Pcap.{FrameContent, record_at, records_of}
 use Rattle.capture_form.specs.Sections.{SectionContent, step_at, blocks_of}
@@ -48,3 +48,19 @@ abbrev pub TellsSections : SectionContent → Option (List ℕ) → List ℕ →
 TellsSections first None window found s new held = ⊤
 TellsSections first (Some bytes) window found s None held = ⊥
 TellsSections first (Some bytes) window found s (Some left) held = found ++ section_wires s (held ++ left) ≡ section_wires first (window ++ bytes)
+
+-- SO MANY FRAMES were taken, and those of what is held and what remains are all others
+abbrev pub Counts : Form → Option (List ℕ) → List ℕ → ℕ → Option (List ℕ) → List ℕ → Type 0
+Counts form None window count new held = ⊤
+Counts form (Some bytes) window count None held = ⊥
+Counts form (Some bytes) window count (Some left) held = count + length (wires form (held ++ left)) ≡ length (wires form (window ++ bytes))
+
+abbrev pub CountsSections : SectionContent → Option (List ℕ) → List ℕ → ℕ → SectionContent → Option (List ℕ) → List ℕ → Type 0
+CountsSections first None window count s new held = ⊤
+CountsSections first (Some bytes) window count s None held = ⊥
+CountsSections first (Some bytes) window count s (Some left) held = count + length (section_wires s (held ++ left)) ≡ length (section_wires first (window ++ bytes))
+
+-- and one more, where a block is a packet
+abbrev pub more_frames : ℕ → Option ℕ → ℕ
+more_frames count None = count
+more_frames count (Some wire) = count + 1

@@ -36,7 +36,7 @@ pub fn fill_block<I: Input, A: Allocator>(
 }
 
 /// Takes all but the last `left` bytes.
-fn pass_to<A: Allocator>(left: usize, window: &mut Window<A>)
+pub(crate) fn pass_to<A: Allocator>(left: usize, window: &mut Window<A>)
     requires { left ≤ length window.old }
     ensures { window.new ≡ drop (length window.old - left) window.old }
 {

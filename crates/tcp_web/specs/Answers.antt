@@ -1,5 +1,5 @@
 -- The answers of the module: a text, or the line of a fault.
-use Rattle.std.specs.Prelude.{◌≡◌, ◌⊎◌, ℕ, Bool, List, [], ◌∷◌, ◌++◌, length, codes, decimal, Option, Some, None, Result, Ok, if◌then◌else◌, ◌==◌, true, false, not}
+use Rattle.std.specs.Prelude.{◌≡◌, ◌≤◌, ◌⊎◌, ℕ, Bool, List, [], ◌∷◌, ◌++◌, length, codes, decimal, Option, Some, None, Result, Ok, if◌then◌else◌, ◌==◌, true, false, not}
 use Rattle.tcp_halves.specs.Config.{config_error_number}
 use Rattle.tcp_replay.specs.declared.event.Side.{Side}
 use Rattle.tcp_replay.specs.declared.event.Side.TheVariants.{A, B}
@@ -35,6 +35,19 @@ no_room = 4
 
 abbrev pub no_segment : ℕ
 no_segment = 5
+
+abbrev pub no_address : ℕ
+no_address = 6
+
+abbrev pub nothing_judged : ℕ
+nothing_judged = 7
+
+abbrev pub bad_capture : ℕ
+bad_capture = 8
+
+-- those with which the report of a capture is written
+abbrev pub IsOfReport : ℕ → Type 0
+IsOfReport answer = (answer ≤ refused) ⊎ ((nothing_judged ≤ answer) × (answer ≤ bad_capture))
 
 -- THE LINE OF A FAULT, as the program writes it
 abbrev pub config_fault_text : Side → ℕ → List ℕ

@@ -21,6 +21,15 @@ pub const NO_ROOM: u32 = 4;
 /// segment.
 pub const NO_SEGMENT: u32 = 5;
 
+/// The address of the machine where a capture was taken is none.
+pub const NO_ADDRESS: u32 = 6;
+
+/// The capture has no end that could be judged: the report says so.
+pub const NOTHING_JUDGED: u32 = 7;
+
+/// The capture is cut short or damaged: the report is of what is before that.
+pub const BAD_CAPTURE: u32 = 8;
+
 /// Writes a text, reports its length, and returns this answer; [`NO_ROOM`] where the text is too long, and then nothing
 /// is written.
 pub(crate) fn put(text: &[u8], out: &mut [u8], count: &mut usize, answer: u32) -> u32

@@ -12,6 +12,7 @@
 //! uint32_t tcp_web_sent(tcp_web_block memory, const uint8_t *script, size_t script_length, uint8_t *out, size_t out_length, size_t *count);
 //! uint32_t tcp_web_list(tcp_web_block memory, const uint8_t *list, size_t list_length, uint8_t *out, size_t out_length, size_t *count, size_t *line);
 //! uint32_t tcp_web_judge(tcp_web_block memory, const uint8_t *log, size_t log_length, uint32_t is_complete, uint32_t is_first, uint8_t *out, size_t out_length, size_t *count, size_t *line);
+//! uint32_t tcp_web_capture(tcp_web_block memory, const uint8_t *file, size_t file_length, const uint8_t *at, size_t at_length, uint32_t is_json, uint32_t is_painted, uint8_t *out, size_t out_length, size_t *count);
 //! ```
 //!
 //! The caller ensures what no code here can test: the block is aligned to 16, its size is a multiple of 16, and no
@@ -19,11 +20,15 @@
 #![tactic(auto)]
 
 mod answers;
+mod captures;
 mod exports;
 mod faults;
 mod texts;
 
-pub use answers::{FAULT, NO_MEMORY, NO_ROOM, NO_SEGMENT, REFUSED, WELL};
+pub use answers::{
+    BAD_CAPTURE, FAULT, NO_ADDRESS, NO_MEMORY, NO_ROOM, NO_SEGMENT, NOTHING_JUDGED, REFUSED, WELL,
+};
+pub use captures::tcp_web_capture;
 pub use exports::{
     tcp_web_judge, tcp_web_list, tcp_web_numbers, tcp_web_replay, tcp_web_rule, tcp_web_sent,
     tcp_web_show, tcp_web_steps,

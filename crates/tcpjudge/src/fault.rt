@@ -51,8 +51,6 @@ impl From<CaptureError> for Fault {
         match error {
             CaptureError::ReadFault => Fault::ReadFault,
             CaptureError::NoMemory => Fault::NoMemory,
-            // No file is.
-            CaptureError::TooLong => Fault::ReadFault,
         }
     }
 }

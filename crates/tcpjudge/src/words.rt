@@ -3,9 +3,7 @@ use crate::fault::Fault;
 use capture_ends::Host;
 use clap::error::ErrorKind;
 use clap::{Arg, ArgAction, ArgMatches, Command, Error as ParseError};
-use kit_text::read_addr;
 use std::alloc::{AllocError, Global};
-use std::net::Ipv6Addr;
 
 /// When the report has colors.
 #[derive(Clone, Copy, Debug, PartialEq, Eq)]
@@ -82,12 +80,9 @@ fn place_of(matches: &ArgMatches) -> Result<Option<Host>, Fault> {
     let Some(word) = matches.get_str(AT) else {
         return Ok(None);
     };
-    if let Some(addr) = read_addr(word.as_bytes()) {
-        return Ok(Some(Host::V4(addr)));
-    }
-    match Ipv6Addr::parse_ascii(word.as_bytes()) {
-        Ok(addr) => Ok(Some(Host::V6(addr.octets()))),
-        Err(_) => Err(Fault::BadWords),
+    match Host::read(word.as_bytes()) {
+        Some(host) => Ok(Some(host)),
+        None => Err(Fault::BadWords),
     }
 }
 
