@@ -16,6 +16,11 @@ def after(make, applies=lambda place: True):
     return lambda place: [place.segment, make(place)] if applies(place) else None
 
 
+def behind(make, applies):
+    """A kind that puts several lines in behind it."""
+    return lambda place: [place.segment, *make(place)] if applies(place) else None
+
+
 def options_with(place, more):
     """The segment with these options before its own, padded by no-operations."""
     area = more + bytes([1]) * (-len(more) % 4) + place.segment.options
@@ -153,10 +158,13 @@ POSITIONS = {
     "a resend one number on": after(lambda p: resent(p, p.again().text[:-1], 1), changes_when_moved),
     "a resend one number back": after(lambda p: resent(p, seq=-1), lambda p: changes_when_moved(p) and (p.again().seq - p.syn) % SPACE > 1),
     "a keep-alive with another byte": after(lambda p: resent(p, flipped(p.again().text)[:1]), can_resend),
-    "text behind the FIN": after(lambda p: p.segment.changed(seq=p.fin + 1, flags=ACK, options=own_times(p), text=b"x"), lambda p: p.is_plain() and p.fin is not None),
+    "text behind the FIN": after(
+        lambda p: p.segment.changed(seq=p.fin + 1, flags=ACK, options=own_times(p), text=b"x"), lambda p: p.is_plain() and p.fin is not None),
     "text across the FIN": after(lambda p: p.segment.changed(seq=p.fin, flags=ACK, text=b"xy"), lambda p: p.is_plain() and p.fin is not None),
-    "a second FIN one number on": after(lambda p: p.segment.changed(seq=p.fin + 1, flags=ACK | FIN, text=b""), lambda p: p.is_plain() and p.fin is not None),
-    "a resend of acknowledged text with another byte": after(lambda p: resent(p, flipped(p.again().text)), lambda p: has_gone(p) and not can_resend(p)),
+    "a second FIN one number on": after(
+        lambda p: p.segment.changed(seq=p.fin + 1, flags=ACK | FIN, text=b""), lambda p: p.is_plain() and p.fin is not None),
+    "a resend of acknowledged text with another byte": after(
+        lambda p: resent(p, flipped(p.again().text)), lambda p: has_gone(p) and not can_resend(p)),
     "a FIN before the end of the text": after(lambda p: resent(p, p.again().text[:-1], flags=ACK | FIN), lambda p: has_gone(p) and p.fin is None),
 }
 ACKNOWLEDGEMENTS = {
@@ -210,64 +218,6 @@ def in_flight(place):
 def end_of(place):
     """SND.NXT behind the segment."""
     return furthest([place.next, place.segment.seq + place.segment.numbers()])
-
-
-ORDER = {
-    "text before the SYN is acknowledged": after(
-        lambda p: p.segment.changed(seq=p.syn + 1, flags=ACK, options=own_times(p), text=b"early"), lambda p: p.segment.has(SYN | ACK) and p.acked is None),
-    "text before the SYN's number": after(lambda p: p.segment.changed(seq=p.syn - 5, flags=ACK, options=own_times(p), text=b"older"), is_open),
-    "text that passes ten numbers over": instead(lambda p: p.segment.changed(seq=p.segment.seq + 10, text=p.segment.text[10:]), lambda p: has_new_text(p) and len(p.segment.text) > 10),
-    "text far behind a gap": after(lambda p: p.segment.changed(seq=end_of(p) + 5000, flags=ACK, options=own_times(p), text=b"ahead"), is_open),
-    "a FIN behind a gap": instead(lambda p: p.segment.changed(seq=p.segment.seq + 1), lambda p: p.is_plain() and p.segment.has(FIN)),
-    "an empty segment one number ahead": after(lambda p: empty(p, end_of(p) + 1), is_open),
-    "an empty segment far ahead": after(lambda p: empty(p, end_of(p) + 100000), is_open),
-    "an empty segment below what is acknowledged": after(lambda p: empty(p, p.acked - 10), lambda p: is_open(p) and (p.acked - p.syn) % SPACE > 10),
-    "an empty segment ten numbers too low, with text in flight": after(lambda p: empty(p, end_of(p) - 10), lambda p: is_open(p) and 20 < in_flight(p) < HALF),
-}
-RESETS = {
-    "a reset far ahead": after(lambda p: reset(p, end_of(p) + 100000), is_open),
-    "a reset one number ahead": after(lambda p: reset(p, end_of(p) + 1), is_open),
-    "a reset before the SYN's number": after(lambda p: reset(p, p.syn - 1), is_open),
-    "a reset at 0, of what didn't come": after(lambda p: reset(p, 0, ack=p.segment.ack + 77777), is_open),
-    "text after the own reset": lambda p: [p.segment, reset(p, end_of(p)), p.segment.changed(seq=end_of(p), flags=ACK, options=own_times(p), text=b"late")]
-    if is_open(p) and p.fin is None else None,
-    "an acknowledgement of text that came with RST": lambda p: [p.segment, came_with(p, flags=RST | ACK), told_again(p, p.segment.ack + 5)] if is_open(p) else None,
-    "an acknowledgement of text from another port": lambda p: [p.segment, from_port(came_with(p, flags=ACK)), told_again(p, p.segment.ack + 5)]
-    if is_open(p) else None,
-}
-WINDOWS = {
-    "text beyond the window": instead(
-        lambda p: p.segment.changed(text=p.segment.text + bytes(window_left(p) + 1 - len(p.segment.text))),
-        lambda p: has_new_text(p) and is_open(p) and window_left(p) < 60000 and len(p.segment.text) <= window_left(p)),
-    "a byte behind the window": after(
-        lambda p: p.segment.changed(seq=p.peer_edge(), flags=ACK, options=own_times(p), text=b"x"), lambda p: is_open(p)),
-    "a window that shrinks by the least that shows": instead(lambda p: p.segment.changed(window=shrunk(p, 1)), lambda p: is_open(p) and shrunk(p, 1) >= 0),
-    "a window that shrinks by half": instead(lambda p: p.segment.changed(window=shrunk(p, 0) // 2), lambda p: is_open(p) and shrunk(p, 1) >= 0),
-    "a window that shrinks to nothing": instead(lambda p: p.segment.changed(window=0), lambda p: is_open(p) and shrunk(p, 1) >= 0),
-}
-SIZES = {
-    "a segment a byte longer than the peer allows": instead(lambda p: p.segment.changed(text=longer(p, 1)), lambda p: has_new_text(p) and longer(p, 1) is not None),
-    "a segment twice as long as the peer allows": instead(
-        lambda p: p.segment.changed(text=longer(p, size_of(p))), lambda p: has_new_text(p) and longer(p, size_of(p)) is not None),
-}
-TIMES = {
-    "a timestamp that is left out": instead(lambda p: p.segment.changed(options=without(p.segment.options, 8)), lambda p: has_times(p)),
-    "a timestamp before the last one": instead(lambda p: with_times(p, last_time(p) - 1, times_of(p.segment)[1]), lambda p: has_times(p)),
-    "a timestamp far before the last one": instead(lambda p: with_times(p, last_time(p) - 100000, times_of(p.segment)[1]), lambda p: has_times(p)),
-    "an echo of a timestamp ahead of those that came": instead(lambda p: with_times(p, times_of(p.segment)[0], times_of(p.segment)[1] + 1000), lambda p: has_times(p)),
-    "an echo of a timestamp before those that came": instead(
-        lambda p: with_times(p, times_of(p.segment)[0], min(times_of(line)[0] for line in p.came if times_of(line)) - 1), lambda p: has_times(p)),
-    "an echo of nothing": instead(lambda p: with_times(p, times_of(p.segment)[0], 0), lambda p: has_times(p)),
-}
-MORE_BLOCKS = {
-    "a first block that isn't the newest": after(lambda p: with_blocks(p, [blocks_of(p)[1], blocks_of(p)[0], *blocks_of(p)[2:]]), lambda p: len(blocks_of(p)) > 1),
-    "two blocks that touch": after(
-        lambda p: with_blocks(p, halves(blocks_of(p)[0])), lambda p: len(blocks_of(p)) > 0 and (blocks_of(p)[0][1] - blocks_of(p)[0][0]) % SPACE > 1),
-    "a block before the acknowledgement": after(
-        lambda p: reported(p, p.segment.ack - 5, p.segment.ack), lambda p: may_report(p) and (p.segment.ack - p.peer) % SPACE > 6),
-    "an old block behind another one": after(
-        lambda p: with_blocks(p, [*blocks_of(p)[:1], (p.segment.ack - 5, p.segment.ack)]), lambda p: len(blocks_of(p)) > 0 and (p.segment.ack - p.peer) % SPACE > 6),
-}
 
 
 def came_with(place, flags):
@@ -344,6 +294,72 @@ def halves(block):
     return [(block[0], middle), (middle, block[1])]
 
 
+ORDER = {
+    "text before the SYN is acknowledged": after(
+        lambda p: p.segment.changed(seq=p.syn + 1, flags=ACK, options=own_times(p), text=b"early"),
+        lambda p: p.segment.has(SYN | ACK) and p.acked is None),
+    "text before the SYN's number": after(lambda p: p.segment.changed(seq=p.syn - 5, flags=ACK, options=own_times(p), text=b"older"), is_open),
+    "text that passes ten numbers over": instead(
+        lambda p: p.segment.changed(seq=p.segment.seq + 10, text=p.segment.text[10:]), lambda p: has_new_text(p) and len(p.segment.text) > 10),
+    "text far behind a gap": after(lambda p: p.segment.changed(seq=end_of(p) + 5000, flags=ACK, options=own_times(p), text=b"ahead"), is_open),
+    "a FIN behind a gap": instead(lambda p: p.segment.changed(seq=p.segment.seq + 1), lambda p: p.is_plain() and p.segment.has(FIN)),
+    "an empty segment one number ahead": after(lambda p: empty(p, end_of(p) + 1), is_open),
+    "an empty segment far ahead": after(lambda p: empty(p, end_of(p) + 100000), is_open),
+    "an empty segment below what is acknowledged": after(lambda p: empty(p, p.acked - 10), lambda p: is_open(p) and (p.acked - p.syn) % SPACE > 10),
+    "an empty segment ten numbers too low, with text in flight": after(
+        lambda p: empty(p, end_of(p) - 10), lambda p: is_open(p) and 20 < in_flight(p) < HALF),
+}
+RESETS = {
+    "a reset far ahead": after(lambda p: reset(p, end_of(p) + 100000), is_open),
+    "a reset one number ahead": after(lambda p: reset(p, end_of(p) + 1), is_open),
+    "a reset before the SYN's number": after(lambda p: reset(p, p.syn - 1), is_open),
+    "a reset at 0, of what didn't come": after(lambda p: reset(p, 0, ack=p.segment.ack + 77777), is_open),
+    "text after the own reset": behind(
+        lambda p: [reset(p, end_of(p)), p.segment.changed(seq=end_of(p), flags=ACK, options=own_times(p), text=b"late")],
+        lambda p: is_open(p) and p.fin is None),
+    "an acknowledgement of text that came with RST": behind(
+        lambda p: [came_with(p, flags=RST | ACK), told_again(p, p.segment.ack + 5)], is_open),
+    "an acknowledgement of text from another port": behind(
+        lambda p: [from_port(came_with(p, flags=ACK)), told_again(p, p.segment.ack + 5)], is_open),
+}
+WINDOWS = {
+    "text beyond the window": instead(
+        lambda p: p.segment.changed(text=p.segment.text + bytes(window_left(p) + 1 - len(p.segment.text))),
+        lambda p: has_new_text(p) and is_open(p) and window_left(p) < 60000 and len(p.segment.text) <= window_left(p)),
+    "a byte behind the window": after(
+        lambda p: p.segment.changed(seq=p.peer_edge(), flags=ACK, options=own_times(p), text=b"x"), is_open),
+    "a window that shrinks by the least that shows": instead(
+        lambda p: p.segment.changed(window=shrunk(p, 1)), lambda p: is_open(p) and shrunk(p, 1) >= 0),
+    "a window that shrinks by half": instead(lambda p: p.segment.changed(window=shrunk(p, 0) // 2), lambda p: is_open(p) and shrunk(p, 1) >= 0),
+    "a window that shrinks to nothing": instead(lambda p: p.segment.changed(window=0), lambda p: is_open(p) and shrunk(p, 1) >= 0),
+}
+SIZES = {
+    "a segment a byte longer than the peer allows": instead(
+        lambda p: p.segment.changed(text=longer(p, 1)), lambda p: has_new_text(p) and longer(p, 1) is not None),
+    "a segment twice as long as the peer allows": instead(
+        lambda p: p.segment.changed(text=longer(p, size_of(p))), lambda p: has_new_text(p) and longer(p, size_of(p)) is not None),
+}
+TIMES = {
+    "a timestamp that is left out": instead(lambda p: p.segment.changed(options=without(p.segment.options, 8)), has_times),
+    "a timestamp before the last one": instead(lambda p: with_times(p, last_time(p) - 1, times_of(p.segment)[1]), has_times),
+    "a timestamp far before the last one": instead(lambda p: with_times(p, last_time(p) - 100000, times_of(p.segment)[1]), has_times),
+    "an echo of a timestamp ahead of those that came": instead(
+        lambda p: with_times(p, times_of(p.segment)[0], times_of(p.segment)[1] + 1000), has_times),
+    "an echo of a timestamp before those that came": instead(
+        lambda p: with_times(p, times_of(p.segment)[0], min(times_of(line)[0] for line in p.came if times_of(line)) - 1), has_times),
+    "an echo of nothing": instead(lambda p: with_times(p, times_of(p.segment)[0], 0), has_times),
+}
+MORE_BLOCKS = {
+    "a first block that isn't the newest": after(
+        lambda p: with_blocks(p, [blocks_of(p)[1], blocks_of(p)[0], *blocks_of(p)[2:]]), lambda p: len(blocks_of(p)) > 1),
+    "two blocks that touch": after(
+        lambda p: with_blocks(p, halves(blocks_of(p)[0])), lambda p: len(blocks_of(p)) > 0 and (blocks_of(p)[0][1] - blocks_of(p)[0][0]) % SPACE > 1),
+    "a block before the acknowledgement": after(
+        lambda p: reported(p, p.segment.ack - 5, p.segment.ack), lambda p: may_report(p) and (p.segment.ack - p.peer) % SPACE > 6),
+    "an old block behind another one": after(
+        lambda p: with_blocks(p, [*blocks_of(p)[:1], (p.segment.ack - 5, p.segment.ack)]),
+        lambda p: len(blocks_of(p)) > 0 and (p.segment.ack - p.peer) % SPACE > 6),
+}
 BLOCKS |= MORE_BLOCKS
 GROUPS = {"form": FORM, "positions": POSITIONS, "order": ORDER, "resets and ports": RESETS, "acknowledgements": ACKNOWLEDGEMENTS, "windows": WINDOWS,
           "sizes": SIZES, "timestamps": TIMES, "blocks": BLOCKS}

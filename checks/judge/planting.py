@@ -6,10 +6,10 @@
 The captures are data/NAME-SIDE.pcap. Each kind of fault of checks/differential/faults.py is planted in each capture at three places where
 it can be, or as many as there are, spread over it; each counts as one. `tcpjudge` judges the log by --complete, and the capture by --at.
 In a capture a fault counts as found by a finding; and as noted by a note whose first packet is the one that is planted, and that the
-capture without the fault hasn't, but for notes of what each correct end does. tshark finds one where it has an expert line that it hasn't for the capture without the fault, and tcptrace where it has
-another line of warning. Prints the table of docs/JUDGE.md, and with --kinds a row for each kind; what is missed is named. It wants tshark
-and tcptrace (Debian's); with --short it runs neither. With --everywhere each kind is planted at each place, the second program alone
-judges, and there is a line for each kind that it misses somewhere.
+capture without the fault hasn't, but for notes of what each correct end does. tshark finds one where it has an expert line that it hasn't
+for the capture without the fault, and tcptrace where it has another line of warning. Prints the table of docs/JUDGE.md, and with --kinds a
+row for each kind; what is missed is named. It wants tshark and tcptrace (Debian's); with --short it runs neither. With --everywhere each
+kind is planted at each place, the second program alone judges, and there is a line for each kind that it misses somewhere.
 """
 
 import collections
