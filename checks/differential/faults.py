@@ -1,133 +1,9 @@
-"""Faults of one end, planted into a log of a correct one: each kind changes a segment that went, or puts one in after it."""
+"""Faults of one end, planted into a log of a correct one: each kind changes a segment that went, or puts some in after it."""
 
 import struct
 
 from end import ACK, FIN, HALF, PSH, RST, SPACE, SYN
-from program import hexadecimal, with_checksum
-
-
-class Line:
-    """A segment that came or went, its fields and its log's line."""
-
-    def __init__(self, word, source, target, data):
-        self.word, self.source, self.target, self.data = word, source, target, data
-        self.seq, self.ack = struct.unpack(">II", data[4:12])
-        (self.window,) = struct.unpack(">H", data[14:16])
-        self.flags, end = data[13], 4 * (data[12] >> 4)
-        self.options, self.text = data[20:end], data[end:]
-
-    def has(self, flags):
-        return self.flags & flags == flags
-
-    def numbers(self):
-        return len(self.text) + self.has(SYN) + self.has(FIN)
-
-    def with_data(self, data, mends=True):
-        """The same with other bytes, which check or needn't."""
-        return Line(self.word, self.source, self.target, with_checksum(self.source, self.target, data) if mends else data)
-
-    def changed(self, **fields):
-        """The same with other fields."""
-        fields = {"seq": self.seq, "ack": self.ack, "flags": self.flags, "window": self.window, "options": self.options, "text": self.text} | fields
-        options = fields["options"] + bytes(-len(fields["options"]) % 4)
-        front = struct.pack(">II", fields["seq"] % SPACE, fields["ack"] % SPACE)
-        offset = bytes([(5 + len(options) // 4) << 4 | self.data[12] & 15, fields["flags"]])
-        window = struct.pack(">H", fields["window"])
-        return self.with_data(self.data[:4] + front + offset + window + self.data[16:20] + options + fields["text"])
-
-    def __str__(self):
-        addresses = [".".join(map(str, address)) for address in (self.source, self.target)]
-        return f"{self.word} {addresses[0]} {addresses[1]} {hexadecimal(self.data)}"
-
-
-def read_line(line):
-    word, source, target, digits = line.split(" ")
-    return Line(word, *(bytes(map(int, address.split("."))) for address in (source, target)), bytes.fromhex(digits))
-
-
-class Place:
-    """Where a fault is planted: the segment that went, the lines before it, and those behind it."""
-
-    def __init__(self, before, segment, behind):
-        self.before, self.segment, self.behind = before, segment, behind
-        self.syn = next((line.seq for line in [*before, segment] if line.word == "went" and line.has(SYN)), None)
-        self.peer = next((line.seq for line in before if line.word == "came" and line.has(SYN)), None)
-        went = [line for line in before if line.word == "went"]
-        self.told = next((line.ack for line in reversed(went) if line.has(ACK) and not line.has(RST)), None)
-        self.fin = next((line.seq + len(line.text) for line in [*went, segment] if line.has(FIN)), None)
-        # The numbers of text that went.
-        self.gone = {(line.seq + i) % SPACE for line in went for i in range(len(line.text))}
-        self.came = [line for line in before if line.word == "came"]
-        # How far the end had sent before this segment, and how far that was acknowledged.
-        self.next = furthest(line.seq + line.numbers() for line in went if not line.has(RST))
-        self.acked = furthest(line.ack for line in self.came if line.has(ACK) and not line.has(RST))
-
-    def syns(self):
-        """Its SYN and the peer's, or None."""
-        lines = [*self.before, self.segment]
-        found = [next((line for line in lines if line.word == word and line.has(SYN)), None) for word in ("went", "came")]
-        return found if None not in found else None
-
-    def shift(self):
-        """How far its window is shifted (RFC 7323, 2.2)."""
-        own, peer = (body_of(line.options, 3) for line in self.syns())
-        return own[0] if own and peer else 0
-
-    def edge(self):
-        """Behind the window that it told last."""
-        last = next(line for line in reversed(self.before) if line.word == "went" and line.has(ACK) and not line.has(RST))
-        return last.ack + (last.window << (0 if last.has(SYN) else self.shift()))
-
-    def peer_edge(self):
-        """Behind the greatest window that came, from the furthest acknowledgement."""
-        own, peer = (body_of(line.options, 3) for line in self.syns())
-        shift = peer[0] if own and peer else 0
-        return self.acked + max(line.window << (0 if line.has(SYN) else shift) for line in self.came if line.has(ACK))
-
-    def stream(self, begin, count):
-        """The text from a number on, by all segments that went, or None."""
-        bytes_by_number = {(line.seq + i) % SPACE: byte for line in [*self.before, self.segment, *self.behind] if line.word == "went"
-                           for i, byte in enumerate(line.text)}
-        numbers = [(begin + i) % SPACE for i in range(count)]
-        return bytes(bytes_by_number[number] for number in numbers) if all(number in bytes_by_number for number in numbers) else None
-
-    def is_plain(self):
-        """Neither a SYN nor a reset."""
-        return not self.segment.flags & (SYN | RST)
-
-    def again(self):
-        """The last text before it that went whole, or None."""
-        went = [line for line in self.before if line.word == "went" and len(line.text) > 1 and not line.flags & (SYN | RST)]
-        return next((line for line in reversed(went) if all((line.seq + i) % SPACE in self.gone for i in range(len(line.text)))), None)
-
-
-def furthest(numbers):
-    """The furthest of some numbers, or None."""
-    found = None
-    for number in numbers:
-        if found is None or 0 < (number - found) % SPACE < HALF:
-            found = number % SPACE
-    return found
-
-
-def body_of(area, kind):
-    """The body of the first option of a kind, or None."""
-    at = 0
-    while at < len(area) and area[at]:
-        if area[at] == kind:
-            return area[at + 2 : at + area[at + 1]]
-        at += 1 if area[at] == 1 else area[at + 1]
-    return None
-
-
-def without(area, kind):
-    """Options but for those of a kind, and no-operations."""
-    made, at = b"", 0
-    while at < len(area) and area[at]:
-        size = 1 if area[at] == 1 else area[at + 1]
-        made += b"" if area[at] in (1, kind) else area[at : at + size]
-        at += size
-    return made
+from places import Cut, Place, body_of, furthest, without
 
 
 def instead(change, applies=lambda place: True):
@@ -138,6 +14,11 @@ def instead(change, applies=lambda place: True):
 def after(make, applies=lambda place: True):
     """A kind that puts a segment in behind it."""
     return lambda place: [place.segment, make(place)] if applies(place) else None
+
+
+def behind(make, applies):
+    """A kind that puts several lines in behind it."""
+    return lambda place: [place.segment, *make(place)] if applies(place) else None
 
 
 def options_with(place, more):
@@ -231,11 +112,17 @@ def held_block(place):
 def resent(place, text=None, seq=0, flags=ACK):
     """The last text again, with another one, or at another number."""
     line = place.again()
-    return line.changed(seq=line.seq + seq, ack=place.segment.ack, flags=flags, options=own_times(place), text=line.text if text is None else text)
+    fields = {"ack": place.segment.ack, "window": place.segment.window, "options": own_times(place)}
+    return line.changed(seq=line.seq + seq, flags=flags, text=line.text if text is None else text, **fields)
+
+
+def has_gone(place):
+    return place.again() is not None
 
 
 def can_resend(place):
-    return place.again() is not None
+    """Whether the last text isn't acknowledged."""
+    return has_gone(place) and (place.acked is None or (place.again().seq - place.acked) % SPACE < HALF)
 
 
 def changes_when_moved(place):
@@ -271,10 +158,14 @@ POSITIONS = {
     "a resend one number on": after(lambda p: resent(p, p.again().text[:-1], 1), changes_when_moved),
     "a resend one number back": after(lambda p: resent(p, seq=-1), lambda p: changes_when_moved(p) and (p.again().seq - p.syn) % SPACE > 1),
     "a keep-alive with another byte": after(lambda p: resent(p, flipped(p.again().text)[:1]), can_resend),
-    "text behind the FIN": after(lambda p: p.segment.changed(seq=p.fin + 1, flags=ACK, options=own_times(p), text=b"x"), lambda p: p.is_plain() and p.fin is not None),
+    "text behind the FIN": after(
+        lambda p: p.segment.changed(seq=p.fin + 1, flags=ACK, options=own_times(p), text=b"x"), lambda p: p.is_plain() and p.fin is not None),
     "text across the FIN": after(lambda p: p.segment.changed(seq=p.fin, flags=ACK, text=b"xy"), lambda p: p.is_plain() and p.fin is not None),
-    "a second FIN one number on": after(lambda p: p.segment.changed(seq=p.fin + 1, flags=ACK | FIN, text=b""), lambda p: p.is_plain() and p.fin is not None),
-    "a FIN before the end of the text": after(lambda p: resent(p, p.again().text[:-1], flags=ACK | FIN), lambda p: can_resend(p) and p.fin is None),
+    "a second FIN one number on": after(
+        lambda p: p.segment.changed(seq=p.fin + 1, flags=ACK | FIN, text=b""), lambda p: p.is_plain() and p.fin is not None),
+    "a resend of acknowledged text with another byte": after(
+        lambda p: resent(p, flipped(p.again().text)), lambda p: has_gone(p) and not can_resend(p)),
+    "a FIN before the end of the text": after(lambda p: resent(p, p.again().text[:-1], flags=ACK | FIN), lambda p: has_gone(p) and p.fin is None),
 }
 ACKNOWLEDGEMENTS = {
     "one number more than came": instead(lambda p: p.segment.changed(ack=p.segment.ack + 1), is_told),
@@ -327,64 +218,6 @@ def in_flight(place):
 def end_of(place):
     """SND.NXT behind the segment."""
     return furthest([place.next, place.segment.seq + place.segment.numbers()])
-
-
-ORDER = {
-    "text before the SYN is acknowledged": after(
-        lambda p: p.segment.changed(seq=p.syn + 1, flags=ACK, options=own_times(p), text=b"early"), lambda p: p.segment.has(SYN | ACK) and p.acked is None),
-    "text before the SYN's number": after(lambda p: p.segment.changed(seq=p.syn - 5, flags=ACK, options=own_times(p), text=b"older"), is_open),
-    "text that passes ten numbers over": instead(lambda p: p.segment.changed(seq=p.segment.seq + 10, text=p.segment.text[10:]), lambda p: has_new_text(p) and len(p.segment.text) > 10),
-    "text far behind a gap": after(lambda p: p.segment.changed(seq=end_of(p) + 5000, flags=ACK, options=own_times(p), text=b"ahead"), is_open),
-    "a FIN behind a gap": instead(lambda p: p.segment.changed(seq=p.segment.seq + 1), lambda p: p.is_plain() and p.segment.has(FIN)),
-    "an empty segment one number ahead": after(lambda p: empty(p, end_of(p) + 1), is_open),
-    "an empty segment far ahead": after(lambda p: empty(p, end_of(p) + 100000), is_open),
-    "an empty segment below what is acknowledged": after(lambda p: empty(p, p.acked - 10), lambda p: is_open(p) and (p.acked - p.syn) % SPACE > 10),
-    "an empty segment ten numbers too low, with text in flight": after(lambda p: empty(p, end_of(p) - 10), lambda p: is_open(p) and 20 < in_flight(p) < HALF),
-}
-RESETS = {
-    "a reset far ahead": after(lambda p: reset(p, end_of(p) + 100000), is_open),
-    "a reset one number ahead": after(lambda p: reset(p, end_of(p) + 1), is_open),
-    "a reset before the SYN's number": after(lambda p: reset(p, p.syn - 1), is_open),
-    "a reset at 0, of what didn't come": after(lambda p: reset(p, 0, ack=p.segment.ack + 77777), is_open),
-    "text after the own reset": lambda p: [p.segment, reset(p, end_of(p)), p.segment.changed(seq=end_of(p), flags=ACK, options=own_times(p), text=b"late")]
-    if is_open(p) and p.fin is None else None,
-    "an acknowledgement of text that came with RST": lambda p: [p.segment, came_with(p, flags=RST | ACK), told_again(p, p.segment.ack + 5)] if is_open(p) else None,
-    "an acknowledgement of text from another port": lambda p: [p.segment, from_port(came_with(p, flags=ACK)), told_again(p, p.segment.ack + 5)]
-    if is_open(p) else None,
-}
-WINDOWS = {
-    "text beyond the window": instead(
-        lambda p: p.segment.changed(text=p.segment.text + bytes(window_left(p) + 1 - len(p.segment.text))),
-        lambda p: has_new_text(p) and is_open(p) and window_left(p) < 60000 and len(p.segment.text) <= window_left(p)),
-    "a byte behind the window": after(
-        lambda p: p.segment.changed(seq=p.peer_edge(), flags=ACK, options=own_times(p), text=b"x"), lambda p: is_open(p)),
-    "a window that shrinks by the least that shows": instead(lambda p: p.segment.changed(window=shrunk(p, 1)), lambda p: is_open(p) and shrunk(p, 1) >= 0),
-    "a window that shrinks by half": instead(lambda p: p.segment.changed(window=shrunk(p, 0) // 2), lambda p: is_open(p) and shrunk(p, 1) >= 0),
-    "a window that shrinks to nothing": instead(lambda p: p.segment.changed(window=0), lambda p: is_open(p) and shrunk(p, 1) >= 0),
-}
-SIZES = {
-    "a segment a byte longer than the peer allows": instead(lambda p: p.segment.changed(text=longer(p, 1)), lambda p: has_new_text(p) and longer(p, 1) is not None),
-    "a segment twice as long as the peer allows": instead(
-        lambda p: p.segment.changed(text=longer(p, size_of(p))), lambda p: has_new_text(p) and longer(p, size_of(p)) is not None),
-}
-TIMES = {
-    "a timestamp that is left out": instead(lambda p: p.segment.changed(options=without(p.segment.options, 8)), lambda p: has_times(p)),
-    "a timestamp before the last one": instead(lambda p: with_times(p, last_time(p) - 1, times_of(p.segment)[1]), lambda p: has_times(p)),
-    "a timestamp far before the last one": instead(lambda p: with_times(p, last_time(p) - 100000, times_of(p.segment)[1]), lambda p: has_times(p)),
-    "an echo of a timestamp ahead of those that came": instead(lambda p: with_times(p, times_of(p.segment)[0], times_of(p.segment)[1] + 1000), lambda p: has_times(p)),
-    "an echo of a timestamp before those that came": instead(
-        lambda p: with_times(p, times_of(p.segment)[0], min(times_of(line)[0] for line in p.came if times_of(line)) - 1), lambda p: has_times(p)),
-    "an echo of nothing": instead(lambda p: with_times(p, times_of(p.segment)[0], 0), lambda p: has_times(p)),
-}
-MORE_BLOCKS = {
-    "a first block that isn't the newest": after(lambda p: with_blocks(p, [blocks_of(p)[1], blocks_of(p)[0], *blocks_of(p)[2:]]), lambda p: len(blocks_of(p)) > 1),
-    "two blocks that touch": after(
-        lambda p: with_blocks(p, halves(blocks_of(p)[0])), lambda p: len(blocks_of(p)) > 0 and (blocks_of(p)[0][1] - blocks_of(p)[0][0]) % SPACE > 1),
-    "a block before the acknowledgement": after(
-        lambda p: reported(p, p.segment.ack - 5, p.segment.ack), lambda p: may_report(p) and (p.segment.ack - p.peer) % SPACE > 6),
-    "an old block behind another one": after(
-        lambda p: with_blocks(p, [*blocks_of(p)[:1], (p.segment.ack - 5, p.segment.ack)]), lambda p: len(blocks_of(p)) > 0 and (p.segment.ack - p.peer) % SPACE > 6),
-}
 
 
 def came_with(place, flags):
@@ -461,25 +294,76 @@ def halves(block):
     return [(block[0], middle), (middle, block[1])]
 
 
+ORDER = {
+    "text before the SYN is acknowledged": after(
+        lambda p: p.segment.changed(seq=p.syn + 1, flags=ACK, options=own_times(p), text=b"early"),
+        lambda p: p.segment.has(SYN | ACK) and p.acked is None),
+    "text before the SYN's number": after(lambda p: p.segment.changed(seq=p.syn - 5, flags=ACK, options=own_times(p), text=b"older"), is_open),
+    "text that passes ten numbers over": instead(
+        lambda p: p.segment.changed(seq=p.segment.seq + 10, text=p.segment.text[10:]), lambda p: has_new_text(p) and len(p.segment.text) > 10),
+    "text far behind a gap": after(lambda p: p.segment.changed(seq=end_of(p) + 5000, flags=ACK, options=own_times(p), text=b"ahead"), is_open),
+    "a FIN behind a gap": instead(lambda p: p.segment.changed(seq=p.segment.seq + 1), lambda p: p.is_plain() and p.segment.has(FIN)),
+    "an empty segment one number ahead": after(lambda p: empty(p, end_of(p) + 1), is_open),
+    "an empty segment far ahead": after(lambda p: empty(p, end_of(p) + 100000), is_open),
+    "an empty segment below what is acknowledged": after(lambda p: empty(p, p.acked - 10), lambda p: is_open(p) and (p.acked - p.syn) % SPACE > 10),
+    "an empty segment ten numbers too low, with text in flight": after(
+        lambda p: empty(p, end_of(p) - 10), lambda p: is_open(p) and 20 < in_flight(p) < HALF),
+}
+RESETS = {
+    "a reset far ahead": after(lambda p: reset(p, end_of(p) + 100000), is_open),
+    "a reset one number ahead": after(lambda p: reset(p, end_of(p) + 1), is_open),
+    "a reset before the SYN's number": after(lambda p: reset(p, p.syn - 1), is_open),
+    "a reset at 0, of what didn't come": after(lambda p: reset(p, 0, ack=p.segment.ack + 77777), is_open),
+    "text after the own reset": behind(
+        lambda p: [reset(p, end_of(p)), p.segment.changed(seq=end_of(p), flags=ACK, options=own_times(p), text=b"late")],
+        lambda p: is_open(p) and p.fin is None),
+    "an acknowledgement of text that came with RST": behind(
+        lambda p: [came_with(p, flags=RST | ACK), told_again(p, p.segment.ack + 5)], is_open),
+    "an acknowledgement of text from another port": behind(
+        lambda p: [from_port(came_with(p, flags=ACK)), told_again(p, p.segment.ack + 5)], is_open),
+}
+WINDOWS = {
+    "text beyond the window": instead(
+        lambda p: p.segment.changed(text=p.segment.text + bytes(window_left(p) + 1 - len(p.segment.text))),
+        lambda p: has_new_text(p) and is_open(p) and window_left(p) < 60000 and len(p.segment.text) <= window_left(p)),
+    "a byte behind the window": after(
+        lambda p: p.segment.changed(seq=p.peer_edge(), flags=ACK, options=own_times(p), text=b"x"), is_open),
+    "a window that shrinks by the least that shows": instead(
+        lambda p: p.segment.changed(window=shrunk(p, 1)), lambda p: is_open(p) and shrunk(p, 1) >= 0),
+    "a window that shrinks by half": instead(lambda p: p.segment.changed(window=shrunk(p, 0) // 2), lambda p: is_open(p) and shrunk(p, 1) >= 0),
+    "a window that shrinks to nothing": instead(lambda p: p.segment.changed(window=0), lambda p: is_open(p) and shrunk(p, 1) >= 0),
+}
+SIZES = {
+    "a segment a byte longer than the peer allows": instead(
+        lambda p: p.segment.changed(text=longer(p, 1)), lambda p: has_new_text(p) and longer(p, 1) is not None),
+    "a segment twice as long as the peer allows": instead(
+        lambda p: p.segment.changed(text=longer(p, size_of(p))), lambda p: has_new_text(p) and longer(p, size_of(p)) is not None),
+}
+TIMES = {
+    "a timestamp that is left out": instead(lambda p: p.segment.changed(options=without(p.segment.options, 8)), has_times),
+    "a timestamp before the last one": instead(lambda p: with_times(p, last_time(p) - 1, times_of(p.segment)[1]), has_times),
+    "a timestamp far before the last one": instead(lambda p: with_times(p, last_time(p) - 100000, times_of(p.segment)[1]), has_times),
+    "an echo of a timestamp ahead of those that came": instead(
+        lambda p: with_times(p, times_of(p.segment)[0], times_of(p.segment)[1] + 1000), has_times),
+    "an echo of a timestamp before those that came": instead(
+        lambda p: with_times(p, times_of(p.segment)[0], min(times_of(line)[0] for line in p.came if times_of(line)) - 1), has_times),
+    "an echo of nothing": instead(lambda p: with_times(p, times_of(p.segment)[0], 0), has_times),
+}
+MORE_BLOCKS = {
+    "a first block that isn't the newest": after(
+        lambda p: with_blocks(p, [blocks_of(p)[1], blocks_of(p)[0], *blocks_of(p)[2:]]), lambda p: len(blocks_of(p)) > 1),
+    "two blocks that touch": after(
+        lambda p: with_blocks(p, halves(blocks_of(p)[0])), lambda p: len(blocks_of(p)) > 0 and (blocks_of(p)[0][1] - blocks_of(p)[0][0]) % SPACE > 1),
+    "a block before the acknowledgement": after(
+        lambda p: reported(p, p.segment.ack - 5, p.segment.ack), lambda p: may_report(p) and (p.segment.ack - p.peer) % SPACE > 6),
+    "an old block behind another one": after(
+        lambda p: with_blocks(p, [*blocks_of(p)[:1], (p.segment.ack - 5, p.segment.ack)]),
+        lambda p: len(blocks_of(p)) > 0 and (p.segment.ack - p.peer) % SPACE > 6),
+}
 BLOCKS |= MORE_BLOCKS
 GROUPS = {"form": FORM, "positions": POSITIONS, "order": ORDER, "resets and ports": RESETS, "acknowledgements": ACKNOWLEDGEMENTS, "windows": WINDOWS,
           "sizes": SIZES, "timestamps": TIMES, "blocks": BLOCKS}
 KINDS = {kind: make for kinds in GROUPS.values() for kind, make in kinds.items()}
-
-
-class Cut:
-    """A segment of fewer bytes than a header has."""
-
-    def __init__(self, line, data):
-        self.words, self.data = str(line).split(" ")[:3], data
-
-    def __str__(self):
-        return " ".join([*self.words, hexadecimal(self.data)])
-
-
-def places_of(log):
-    """Each place of a log where a segment went."""
-    return [Place(log[:at], line, log[at + 1 :]) for at, line in enumerate(log) if line.word == "went"]
 
 
 def planted(places, kind, most):

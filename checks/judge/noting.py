@@ -327,7 +327,8 @@ def random_options(chance, flags, bases, way):
     if flags & SYN and chance.random() < 0.5:
         made += struct.pack(">BBH", SIZE, 4, chance.choice((60, 66, 70, 536, 1460)))
     if chance.random() < (0.9 if flags & SYN else 0.8):
-        made += struct.pack(">BBBBII", 1, 1, TIMES, 10, *(chance.randrange(6) if chance.random() < 0.9 else chance.randrange(SPACE) for _ in range(2)))
+        numbers = [chance.randrange(6) if chance.random() < 0.9 else chance.randrange(SPACE) for _ in range(2)]
+        made += struct.pack(">BBBBII", 1, 1, TIMES, 10, *numbers)
     if not flags & SYN and chance.random() < 0.6:
         count = chance.randrange(1, 4)
         edges = [(left, left + chance.randrange(1, 4)) for left in (chance.choice((1, 2, 4, 5, 7, 9, 12)) for _ in range(count))]
