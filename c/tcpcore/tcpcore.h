@@ -130,7 +130,7 @@ extern "C" {
 #endif
 
 /* The version of this header: it grows with each change of a struct, a call or an answer. */
-#define TCPCORE_VERSION 15
+#define TCPCORE_VERSION 16
 
 /* The answers; tcpcore_strerror has a text for each. */
 enum {
