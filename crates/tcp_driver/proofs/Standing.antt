@@ -2,6 +2,7 @@
 use Rattle.std.proofs.Common.{◌≡◌, ℕ, ◌+◌, ◌==◌, Bool, true, false, not, Option, Some, None, is_some, refl, sym, ap, ◌∙◌, arith}
 use Rattle.std.specs.Prelude.{◌&&◌, ◌||◌, if◌then◌else◌, min}
 use Rattle.tcp_driver.specs.declared.machine.Wants.{Wants}
+use Rattle.tcp_driver.specs.Codes.{code_of, wanted_by}
 use Rattle.tcp_driver.specs.Deadlines.{is_kept, kept, last}
 use Rattle.tcp_driver.specs.Times.{Times, deadlines_after, followed, rests, span_after, stands, still, waits_on}
 
@@ -16,16 +17,32 @@ second false b e = absurd (cc)
 wanted : (a b c d : Bool) → Wants
 wanted a b c d = record { retransmit = a; reorder = b; time_wait = c; fin_wait_2 = d }
 
--- what agrees in each timer is the same
-pub agree_in_all : (one other : Wants) (r o t f : Bool) → (r ≡ true → one.retransmit ≡ other.retransmit) → (o ≡ true → one.reorder ≡ other.reorder) → (t ≡ true → one.time_wait ≡ other.time_wait) → (f ≡ true → one.fin_wait_2 ≡ other.fin_wait_2) → ((r && o) && (t && f)) ≡ true → one ≡ other
+-- a code says what is wanted
+back-of : (a b c d : Bool) → wanted_by (code_of (wanted a b c d)) ≡ wanted a b c d
 unfolding wanted
-agree_in_all one other r o t f a b c d e =
-    let front = first (r && o) (t && f) e in
-    let back = second (r && o) (t && f) e in
-    ap (λ x. wanted x one.reorder one.time_wait one.fin_wait_2) (a (first r o front))
-    ∙ (ap (λ x. wanted other.retransmit x one.time_wait one.fin_wait_2) (b (second r o front))
-    ∙ (ap (λ x. wanted other.retransmit other.reorder x one.fin_wait_2) (c (first t f back))
-    ∙ ap (λ x. wanted other.retransmit other.reorder other.time_wait x) (d (second t f back))))
+back-of true true true true = refl
+back-of true true true false = refl
+back-of true true false true = refl
+back-of true true false false = refl
+back-of true false true true = refl
+back-of true false true false = refl
+back-of true false false true = refl
+back-of true false false false = refl
+back-of false true true true = refl
+back-of false true true false = refl
+back-of false true false true = refl
+back-of false true false false = refl
+back-of false false true true = refl
+back-of false false true false = refl
+back-of false false false true = refl
+back-of false false false false = refl
+
+back : (w : Wants) → wanted_by (code_of w) ≡ w
+unfolding wanted
+back w = back-of w.retransmit w.reorder w.time_wait w.fin_wait_2
+
+not-zero : (w : Wants) → (code_of w == 0) ≡ false
+not-zero w = grind arith
 
 kept-same : (runs : Bool) (before : Option ℕ) (new : ℕ) → is_kept runs before ≡ true → kept runs true before new ≡ before
 kept-same true (Some t) new e = refl
@@ -157,11 +174,14 @@ stands_behind t w r s x o tw l =
     (both (waits_on t w.retransmit) (is_kept w.reorder t.deadlines.reorder && (is_kept w.time_wait t.deadlines.time_wait && is_kept w.fin_wait_2 t.left)) waits
     (both (is_kept w.reorder t.deadlines.reorder) (is_kept w.time_wait t.deadlines.time_wait && is_kept w.fin_wait_2 t.left) (kept-as-wanted w.reorder t.deadlines.reorder o) last))
 
+pub stands_coded : (t : Times) (w : Wants) (code : ℕ) → code ≡ code_of w → is_some t.deadlines.retransmit ≡ w.retransmit → is_some t.since ≡ w.retransmit → rests w.retransmit t ≡ true → is_some t.deadlines.reorder ≡ w.reorder → is_some t.deadlines.time_wait ≡ w.time_wait → is_some t.left ≡ w.fin_wait_2 → stands t (wanted_by code) t.una ≡ true
+stands_coded t w code e r s x o tw l =
+    ap (λ c. stands t (wanted_by c) t.una) e ∙ (ap (λ v. stands t v t.una) (back w) ∙ stands_behind t w r s x o tw l)
+
 -- WHAT STOOD BEFORE, and is wanted again where nothing was acknowledged, stands
-pub stands_as_before : (t : Times) (known : Bool) (stood w : Wants) (una : ℕ) (same : Bool) → (known ≡ true → stands t stood t.una ≡ true) → (same ≡ true → w ≡ stood) → (known && (una == t.una && same)) ≡ true → stands t w una ≡ true
-stands_as_before t known stood w una same was agrees e =
-    let k = first known (una == t.una && same) e in
-    let rest = second known (una == t.una && same) e in
-    let u = same-una una t.una (first (una == t.una) same rest) in
-    let ww = agrees (second (una == t.una) same rest) in
-    ap (λ x. stands t x una) ww ∙ (ap (λ x. stands t stood x) u ∙ was k)
+pub stands_as_before : (t : Times) (stood : ℕ) (w : Wants) (una : ℕ) → ((stood == 0) ≡ false → stands t (wanted_by stood) t.una ≡ true) → (una == t.una && code_of w == stood) ≡ true → stands t w una ≡ true
+stands_as_before t stood w una was e =
+    let u = same-una una t.una (first (una == t.una) (code_of w == stood) e) in
+    let c = same-una (code_of w) stood (second (una == t.una) (code_of w == stood) e) in
+    let v = back w in
+    sym (ap (λ x. stands t x una) v) ∙ (ap (λ x. stands t (wanted_by x) una) c ∙ (ap (λ x. stands t (wanted_by stood) x) u ∙ was (ap (λ x. x == 0) (sym c) ∙ not-zero w)))

@@ -6,3 +6,4 @@ pub mod Driver
 pub mod Rows
 pub mod Calls
 pub mod Trains
+pub mod Codes

@@ -16,7 +16,7 @@
 //! 5. calls [`Driver::timeout`], and emits again where a timer has expired.
 #![tactic(auto)]
 
-mod agreement;
+mod codes;
 mod conditions;
 mod deadlines;
 mod driver;

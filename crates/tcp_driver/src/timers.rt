@@ -4,7 +4,7 @@ ghost use Rattle.std.specs.Prelude.{IfSome, None, Some, is_some, max, min, false
 ghost use Rattle.tcp_driver.specs.Deadlines.{kept, last};
 ghost use Rattle.tcp_driver.specs.Times.{restarts, round_trip};
 
-use crate::agreement::agree;
+use crate::codes::code_of;
 use crate::conditions::{goes_again, is_shut, opens, runs_none, shut_after, still};
 use crate::deadlines::{Deadlines, LAST, kept};
 use crate::limits::Limits;
@@ -37,21 +37,21 @@ pub struct Timers {
     bursting: bool,
     /// The time of the last call.
     clock: u64,
-    /// What the timers were last set to run as, and whether nothing has stopped or started one since: so one comparison says at
-    /// most calls that they stand.
-    stood: Wants,
-    is_standing: bool,
+    /// The code of what the timers were set to run as, or 0 where one may have been stopped or started since: so one comparison
+    /// says at most calls that they stand.
+    stood: u8,
 }
 
 impl Model for Timers {
-    ghost use Rattle.std.specs.Prelude.{true, ◌≡◌};
+    ghost use Rattle.std.specs.Prelude.{false, true, ◌≡◌, ◌==◌};
+    ghost use Rattle.tcp_driver.specs.Codes.{wanted_by};
     ghost use Rattle.tcp_driver.specs.Times.{IsSoon, Times, stands};
 
     ghost Value = { Times };
 
     ghost view = { λ t. record { limits = t.limits; estimate = t.estimator; watch = t.watch; deadlines = t.deadlines; una = t.una; since = t.since; resent = t.resent; restarted = t.restarted; span = t.span; shut = t.shut; left = t.left; bursting = t.bursting; clock = t.clock } };
 
-    ghost invariant = { λ t. IsSoon (record { limits = t.limits; estimate = t.estimator; watch = t.watch; deadlines = t.deadlines; una = t.una; since = t.since; resent = t.resent; restarted = t.restarted; span = t.span; shut = t.shut; left = t.left; bursting = t.bursting; clock = t.clock }) × (t.is_standing ≡ true → stands (record { limits = t.limits; estimate = t.estimator; watch = t.watch; deadlines = t.deadlines; una = t.una; since = t.since; resent = t.resent; restarted = t.restarted; span = t.span; shut = t.shut; left = t.left; bursting = t.bursting; clock = t.clock }) t.stood t.una ≡ true) };
+    ghost invariant = { λ t. IsSoon (record { limits = t.limits; estimate = t.estimator; watch = t.watch; deadlines = t.deadlines; una = t.una; since = t.since; resent = t.resent; restarted = t.restarted; span = t.span; shut = t.shut; left = t.left; bursting = t.bursting; clock = t.clock }) × ((t.stood == 0) ≡ false → stands (record { limits = t.limits; estimate = t.estimator; watch = t.watch; deadlines = t.deadlines; una = t.una; since = t.since; resent = t.resent; restarted = t.restarted; span = t.span; shut = t.shut; left = t.left; bursting = t.bursting; clock = t.clock }) (wanted_by t.stood) t.una ≡ true) };
 }
 
 impl Timers {
@@ -80,13 +80,7 @@ impl Timers {
             left: None,
             bursting: false,
             clock: now,
-            stood: Wants {
-                retransmit: false,
-                reorder: false,
-                time_wait: false,
-                fin_wait_2: false,
-            },
-            is_standing: false,
+            stood: 0,
         }
     }
 
@@ -136,7 +130,7 @@ impl Timers {
     fn stands(&self, wants: Wants, una: u64) -> bool
         ensures { result ≡ true → stands self.now wants una ≡ true }
     {
-        self.is_standing && (una == self.una && agree(wants, self.stood))
+        una == self.una && code_of(wants) == self.stood
     }
 
     /// The timers run as the end wants them, and start anew where something was acknowledged. Mostly they do already, and
@@ -171,7 +165,6 @@ impl Timers {
 
     /// As `follow` now, whether they do already or not. What the end wants comes as words, which stay in registers.
     #[inline(always)]
-    #[tactic(auto, using(crate::proofs::Standing::stands_behind))]
     fn start(
         &mut self,
         una: u64,
@@ -195,13 +188,26 @@ impl Timers {
         } else {
             self.start_anew(una, retransmit, reorder, time_wait, fin_wait_2);
         }
-        self.stood = Wants {
+        self.note(Wants {
             retransmit,
             reorder,
             time_wait,
             fin_wait_2,
-        };
-        self.is_standing = true;
+        });
+    }
+
+    /// They run as the end wants them, and this is kept in mind.
+    #[inline(always)]
+    fn note(&mut self, wants: Wants)
+        requires retransmit { is_some self.old.deadlines.retransmit ≡ wants.retransmit }
+        requires since { is_some self.old.since ≡ wants.retransmit }
+        requires rests { rests wants.retransmit self.old ≡ true }
+        requires reorder { is_some self.old.deadlines.reorder ≡ wants.reorder }
+        requires time_wait { is_some self.old.deadlines.time_wait ≡ wants.time_wait }
+        requires left { is_some self.old.left ≡ wants.fin_wait_2 }
+        ensures { self.new ≡ self.old }
+    {
+        self.stood = code_of(wants);
     }
 
     /// Those that don't run and have to start, where nothing was acknowledged.
@@ -217,7 +223,7 @@ impl Timers {
         ensures time_wait { is_some self.new.deadlines.time_wait ≡ time_wait }
         ensures rests { rests retransmit self.new ≡ true }
     {
-        self.is_standing = false;
+        self.stood = 0;
         let now = self.clock;
         let rto = self.estimator.rto();
         self.deadlines.retransmit = kept(retransmit, true, self.deadlines.retransmit, now + rto);
@@ -248,7 +254,7 @@ impl Timers {
         ensures time_wait { is_some self.new.deadlines.time_wait ≡ time_wait }
         ensures rests { rests retransmit self.new ≡ true }
     {
-        self.is_standing = false;
+        self.stood = 0;
         let now = self.clock;
         let rto = self.estimator.rto();
         self.deadlines.retransmit = if retransmit { Some(now + rto) } else { None };
@@ -281,7 +287,7 @@ impl Timers {
         ensures state { self.new ≡ record self.old { deadlines = record self.old.deadlines { reorder = kept reorder same self.old.deadlines.reorder (self.old.clock + min self.old.estimate.rto self.old.span); time_wait = kept time_wait true self.old.deadlines.time_wait (self.old.clock + min last self.old.limits.time_wait) }; left = kept fin_wait_2 true self.old.left self.old.clock } }
         ensures soon { IsSoon self.new }
     {
-        self.is_standing = false;
+        self.stood = 0;
         let now = self.clock;
         let late = now + self.estimator.rto().min(self.span);
         let longest = LAST.min(self.limits.time_wait);
@@ -319,7 +325,7 @@ impl Timers {
     fn turn_window(&mut self, una: u64, window: Option<u64>)
         ensures { self.new ≡ after_window self.old una window }
     {
-        self.is_standing = false;
+        self.stood = 0;
         if opens(self.shut, window) {
             self.estimator.forget_back_off();
             self.deadlines.retransmit = None;
@@ -339,12 +345,12 @@ impl Timers {
         self.measure(una, now);
         self.take_window(una, report.window);
         if report.repeats_fin {
-            self.is_standing = false;
+            self.stood = 0;
             self.deadlines.time_wait = None;
         }
         // Mostly it isn't in FIN-WAIT-2.
         if self.left.is_some() && report.from_peer {
-            self.is_standing = false;
+            self.stood = 0;
             self.left = None;
         }
     }
@@ -377,7 +383,7 @@ impl Timers {
         requires fits { sent.start + sent.count < 2 ^ 64 }
         ensures { self.new ≡ after_segment (Some sent) self.old now }
     {
-        self.is_standing = false;
+        self.stood = 0;
         if self.restarts(sent) {
             self.deadlines.retransmit = None;
             self.restarted = true;
@@ -411,7 +417,7 @@ impl Timers {
         ensures state { self.new ≡ after_expiry self.old timer }
         ensures clock { self.new.clock ≡ self.old.clock }
     {
-        self.is_standing = false;
+        self.stood = 0;
         match timer {
             Timer::Retransmit => {
                 self.estimator.back_off();
