@@ -109,7 +109,7 @@ function option_told({ ends, count, counts }) {
     return `${ends.A} > ${ends.B}, ${counted(count, "segment")}${sum === 0 ? "" : `, ${counted(sum, "finding")}`}`;
 }
 
-export function captured({ part, choice, complete, told, box, canvas, picture, heads, listed, verdict, verdict_told }, judge_one, say) {
+export function captured({ part, choice, complete, told, box, canvas, picture, heads, listed, report, verdict, verdict_told }, judge_one, say) {
     let shown = null, drawn = [0, -1], frame = 0, is_fine = false, known = [], added = 0, name = "", total = 0, broken = 0, whole = "";
 
     // What is seen at the top of the window is what is said.
@@ -173,6 +173,8 @@ export function captured({ part, choice, complete, told, box, canvas, picture, h
             return name;
         }));
         list_findings(found);
+        report.hidden = found.report === "";
+        report.querySelector("pre").textContent = found.report;
         part.hidden = false;
         fit();
     }

@@ -35,7 +35,7 @@ const buttons = acts({
 }, lines => change(with_lines(field.value, lines), true));
 const judged = captured({ part: at("judged"), choice: at("connection"), complete: { A: at("complete-A"), B: at("complete-B") },
     told: at("judged-told"), box: at("captured"), canvas: at("captured-canvas"), picture: at("captured-picture"),
-    heads: at("captured-heads"), listed: at("findings"), verdict: at("verdict"), verdict_told: at("verdict-told") },
+    heads: at("captured-heads"), listed: at("findings"), report: at("capture-report"), verdict: at("verdict"), verdict_told: at("verdict-told") },
 (...words) => captures.judge(...words), say);
 const segments = listing({ part: at("listing-part"), list: at("segments"), told: at("segments-told"),
     shown: at("segments-listing") }, () => core, close_capture);

@@ -207,6 +207,20 @@ async function seen_at_once(tab, expect, open) {
     expect("no verdict on a list that is typed", await tab.run(() => document.getElementById("verdict").hidden), true);
 }
 
+// What tcpjudge writes of a capture that was taken at A stands in docs/JUDGE.md, and the page shows it to the letter.
+async function reported(tab, expect, open) {
+    const told = /```text\n(packets 23, connections 1\n.*?)```/s.exec(fs.readFileSync(at("docs/JUDGE.md"), "utf8"))[1];
+    const report = () => tab.run(() => document.querySelector("#capture-report pre").textContent);
+    await open("kernel.pcap", fs.readFileSync(at("checks/judge/data/kernel-A.pcap")));
+    expect("a capture's report, taken nowhere", (await report()).includes("--at ADDRESS names the end"), true);
+    await tab.run(() => {
+        document.getElementById("complete-A").checked = true;
+        document.getElementById("complete-A").dispatchEvent(new Event("change"));
+    });
+    await tab.until(rested);
+    expect("a capture's report", await report(), told);
+}
+
 // So many connections, of so many such segments each.
 function many(connections, segments) {
     return capture_of(Array.from({ length: connections * segments }, (_, turn) => ({
@@ -308,6 +322,7 @@ export async function captures(tab, expect) {
     await judged(tab, expect, open);
     await simulated(tab, expect, open);
     await seen_at_once(tab, expect, open);
+    await reported(tab, expect, open);
     await mended(tab, expect, open);
     await times(tab, expect, open);
     await cut(tab, expect, open);

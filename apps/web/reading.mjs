@@ -1,14 +1,32 @@
 // What runs in the worker: reads a capture in pieces, groups its segments by connection, and judges each connection by a module of
 // its own, so that the page's thread is free. It answers `judge` about one connection between the others.
-import { calls } from "./module.mjs";
+import { calls, NO_MEMORY } from "./module.mjs";
 import { capture_reader, line_of } from "./captures.mjs";
 import { as_sent, grouping, header_of, verdict_of } from "./connections.mjs";
 
 const PIECE = 1 << 22, TURN_MS = 50, TOLD_MS = 100, SIDES_JUDGED = ["A", "B"];
 // What the page gets of a large capture: so many letters of the list, segments of a ladder, and findings.
 const MOST_LETTERS = 100000, MOST_DRAWN = 200000, MOST_FOUND = 10000;
+// Of a capture of at most so many bytes there is a report, for which the module has all of it in its memory.
+const MOST_WHOLE = 1 << 26;
 
-let core = null, connections = [], is_resting = false;
+let core = null, connections = [], is_resting = false, whole = null;
+const reports = new Map();
+
+// What tcpjudge writes of the capture, taken at this address, or elsewhere where it is empty.
+function report_at(place) {
+    if (whole !== null && !reports.has(place)) {
+        const { answer, text } = core.capture(whole, place, false);
+        reports.set(place, answer === NO_MEMORY ? "" : text);
+    }
+    return reports.get(place) ?? "";
+}
+
+// The address of the one end at which no segment is missing.
+function place_of(ends, complete) {
+    const here = SIDES_JUDGED.filter(side => complete[side]);
+    return here.length === 1 ? ends[here[0]].split(":")[0] : "";
+}
 
 // A verdict is kept, because the page may ask for it again.
 function judged_end(connection, side, is_complete) {
@@ -39,7 +57,7 @@ function judge({ number, complete, ticket }) {
     const found = verdicts.flatMap(({ findings }) => findings ?? []).sort(([one], [two]) => one - two);
     const columns = columns_of(segments);
     postMessage({
-        kind: "judged", ticket, ends, complete, count: segments.length, columns, left: verdicts[0].left,
+        kind: "judged", ticket, ends, complete, report: report_at(place_of(ends, complete)), count: segments.length, columns, left: verdicts[0].left,
         counts: verdicts.map(({ findings }) => findings?.length ?? null),
         findings: found.slice(0, MOST_FOUND).map(([at, rule]) => ({ at, rule, number: segments[at].number, side: segments[at].side,
             time: segments[at].time ?? NaN })),
@@ -94,6 +112,7 @@ async function read({ module, file, most_connections }) {
             is_left && mended.push(lines.length);
         }
     });
+    whole = file.size > MOST_WHOLE ? null : new Uint8Array(await file.arrayBuffer());
     for (let at = 0; at < file.size; at += PIECE) {
         reader.take(new Uint8Array(await file.slice(at, at + PIECE).arrayBuffer()));
         postMessage({ kind: "read", done: Math.min(file.size, at + PIECE), total: file.size });
