@@ -3,11 +3,12 @@
 
 /* crates/tcp_c: the mark of a handle that holds a connection, and how many bytes of the block it takes from its address on. */
 #define MARK_OF_CONNECTION UINT64_C(0x764350526174746c)
-#define CONNECTION_SIZE 720
+#define CONNECTION_SIZE 880
 #define CONNECTION_MARK UINT32_C(0x70636f6e)
 
 static const u8 OF_CONNECTION_RULES[] = {8, 8, 8, 8, 8, 8, 8, 8, 8, 4, 4, 0};
 static const u8 OF_CONNECTION_SEGMENT[] = {8, 8, 8, 1, 1, 1, 1, 0};
+static const u8 OF_CONGESTION[] = {8, 8, 8, 4, 4, 0};
 
 #define WITH_CONNECTION(handle) \
     struct call call; \
@@ -235,4 +236,20 @@ static uint32_t tcp_c_connection_resend_first(struct handle *handle, uint64_t no
 {
     WITH_CONNECTION(handle);
     ANSWER_OF_CONNECTION(handle, w2c_tcp_c_connection_resend_first(M, AT_HANDLE, now));
+}
+
+static uint32_t tcp_c_connection_set_congestion(struct handle *handle, uint32_t congestion)
+{
+    WITH_CONNECTION(handle);
+    ANSWER_OF_CONNECTION(handle, w2c_tcp_c_connection_set_congestion(M, AT_HANDLE, congestion));
+}
+
+static uint32_t tcp_c_connection_congestion(struct handle *handle, struct tcpcore_congestion *congestion)
+{
+    WITH_CONNECTION(handle);
+    carry_record(call.frame + AT_RECORD, congestion, OF_CONGESTION);
+    uint32_t answer = w2c_tcp_c_connection_congestion(M, AT_HANDLE, AT_RECORD);
+    carry_record(congestion, call.frame + AT_RECORD, OF_CONGESTION);
+    END_OF_CONNECTION(handle);
+    return answer;
 }

@@ -8,10 +8,12 @@ from typing import Optional
 
 from tcpcore._ends import Held, config_struct
 from tcpcore._library import (
-    EMIT_FIRST, REFUSALS, Answer, ArriveReportStruct, ConnectionRulesStruct, ConnectionSegmentStruct, EndStruct, Refused, TrainStruct, address,
-    arrive_report_of, library, microseconds, number, octets, reach, train_of,
+    EMIT_FIRST, REFUSALS, Answer, ArriveReportStruct, CongestionStruct, ConnectionRulesStruct, ConnectionSegmentStruct, EndStruct, Refused,
+    TrainStruct, address, arrive_report_of, library, microseconds, number, octets, reach, train_of,
 )
-from tcpcore._records import EMIT_ROOM, NEVER, TRAIN_ROOM, Address, ArriveReport, Buffer, Config, Emission, Rules, Timer, Train
+from tcpcore._records import (
+    EMIT_ROOM, NEVER, TRAIN_ROOM, Address, ArriveReport, Buffer, Config, Congestion, CongestionWindow, Emission, Rules, Timer, Train,
+)
 
 
 def limit(time: Optional[float]) -> int:
@@ -53,8 +55,9 @@ class Connection(Held):
     It is freed once its phase is CLOSED and nothing is due. A call that is refused is raised as `Refused`, so also each that follows `free`.
     Threads, `room` and freeing are as of an End.
 
-    It has no congestion control (RFC 5681): a program whose path may be congested sets `window`, and `emit` then holds back what ends more than
-    so many numbers past SND.UNA, unless nothing before it is in flight. None, the default, leaves the peer's window alone in force."""
+    Where the path may be congested `connection.set_congestion(Congestion.CUBIC)` behind its making has it hold back by itself what that lets
+    no further (RFC 9438). A program with congestion control of its own sets `window`: `emit` holds back what ends more than so many numbers
+    past SND.UNA, unless nothing before it is in flight. None, the default, holds nothing back."""
 
     noun = "a connection"
     window: Optional[int] = None
@@ -197,6 +200,17 @@ class Connection(Held):
         """Sets the user timeout in the place of `user` of the rules (RFC 9293, 3.8.3), in seconds; None is no limit. The time that has passed
         already counts, so that `poll_at` may be another then."""
         self.ask("set_user_timeout", limit(time))
+
+    def set_congestion(self, rule: Congestion) -> None:
+        """Chooses the congestion window (RFC 5681, 3; RFC 9438), any time before text is sent: from then on what is emitted ends within it,
+        beside `window`. Refused where text was sent already."""
+        self.ask("set_congestion", number("the rule of congestion", rule, 32))
+
+    def congestion(self) -> CongestionWindow:
+        """The congestion window as it is."""
+        told = CongestionStruct()
+        self.ask("congestion", told)
+        return CongestionWindow(Congestion(told.congestion), told.cwnd, told.ssthresh, told.smss, told.is_recovering == 1)
 
     def resend_first(self, now: float) -> bool:
         """Whether anything is in flight: then the first segment of it must be sent again at once, for a program that finds losses before the

@@ -178,6 +178,17 @@ class ConnectionSegmentStruct(ctypes.Structure):
     ]
 
 
+class CongestionStruct(ctypes.Structure):
+    _fields_ = [
+        ("cwnd", ctypes.c_uint64),
+        ("ssthresh", ctypes.c_uint64),
+        ("smss", ctypes.c_uint64),
+        ("congestion", ctypes.c_uint32),
+        ("is_recovering", ctypes.c_uint32),
+        ("reserved", ctypes.c_uint32 * 8),
+    ]
+
+
 class PieceStruct(ctypes.Structure):
     _fields_ = [("at", ctypes.c_void_p), ("length", ctypes.c_size_t)]
 
@@ -274,6 +285,8 @@ CALLS = {
     "connection_peer": [END, ctypes.POINTER(AddrStruct), ctypes.POINTER(ctypes.c_uint16)],
     "connection_set_user_timeout": [END, TIME],
     "connection_resend_first": [END, TIME],
+    "connection_set_congestion": [END, ctypes.c_uint32],
+    "connection_congestion": [END, ctypes.POINTER(CongestionStruct)],
     "strerror": [ctypes.c_uint32],
     "version": [],
     "build": [],

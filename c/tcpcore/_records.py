@@ -100,6 +100,25 @@ class Kind(enum.IntEnum):
 
 
 PHASES, ENDINGS = tuple(Phase), tuple(Ending)
+class Congestion(enum.IntEnum):
+    """The congestion window of a connection: none, that of RFC 5681, or that of RFC 9438."""
+
+    NONE = 0
+    RENO = 1
+    CUBIC = 2
+
+
+class CongestionWindow(NamedTuple):
+    """A congestion window, in bytes (RFC 5681, 3): whose it is, and whether a loss was found that isn't repaired yet. Without one cwnd and
+    ssthresh are 2^40, more than is ever in flight, and smss is 0."""
+
+    rule: Congestion
+    cwnd: int
+    ssthresh: int
+    smss: int
+    is_recovering: bool
+
+
 RETRANSMIT, REORDER, TIME_WAIT = Timer.RETRANSMIT, Timer.REORDER, Timer.TIME_WAIT
 
 

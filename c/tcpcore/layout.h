@@ -154,6 +154,14 @@ FIELD(struct tcpcore_connection_rules, guard, 76, 4);
 /* The library writes nothing behind these. */
 FIELD(struct tcpcore_connection_rules, reserved, 80, 48);
 _Static_assert(sizeof(struct tcpcore_connection_rules) == 128, "the size of struct tcpcore_connection_rules");
+FIELD(struct tcpcore_congestion, cwnd, 0, 8);
+FIELD(struct tcpcore_congestion, ssthresh, 8, 8);
+FIELD(struct tcpcore_congestion, smss, 16, 8);
+FIELD(struct tcpcore_congestion, congestion, 24, 4);
+FIELD(struct tcpcore_congestion, is_recovering, 28, 4);
+/* The library writes nothing behind these. */
+FIELD(struct tcpcore_congestion, reserved, 32, 32);
+_Static_assert(sizeof(struct tcpcore_congestion) == 64, "the size of struct tcpcore_congestion");
 FIELD(struct tcpcore_connection_segment, length, 0, 8);
 FIELD(struct tcpcore_connection_segment, position, 8, 8);
 FIELD(struct tcpcore_connection_segment, count, 16, 8);

@@ -5,11 +5,18 @@
  * or two, none fits, and the answer is TCPCORE_NO_MEMORY. A block of as many bytes as tcpcore_room tells takes all. Configs of version 10 and
  * before have padding where `runs` is, which may hold anything: an end had 16 then, and has 11. Programs that are built now call what
  * tcpcore.map has in the node of version 14.
+ *
+ * Since version 16 a connection has a congestion window, which takes 160 bytes whether one is chosen or not: a connection of an older version
+ * that doesn't fit keeps 7 runs fewer, and one for which as few were asked doesn't fit at all. Programs that are built now call what is in
+ * the node of version 16.
  */
 #include "tcpcore.h"
 
 /* What an end takes beside its buffers and tables, with the bytes for a block of any alignment. */
 enum { BESIDE = 416 + 15 };
+
+/* What a connection's congestion window takes. */
+enum { WINDOW = 160 };
 
 /* What the tables of such an end take, and what they took in version 10, and up to version 13 with so many runs. */
 #define TABLES(runs) (TCPCORE_MEMORY_RUNS(0, 0, runs) - BESIDE)
@@ -35,15 +42,37 @@ static const tcpcore_config *of_10(const tcpcore_config *config, tcpcore_config 
     return found;
 }
 
-/* The config of a program of the versions 11 to 13 whose end didn't fit with all its runs: with those that fit, or as it is where none
-   does. */
-static const tcpcore_config *of_11(const tcpcore_config *config, tcpcore_config *found)
+/* A config whose end didn't fit with all its runs, where its tables may take so many bytes, and so many of them are another's now: with
+   those that fit, or as it is where none does. */
+static const tcpcore_config *with_fewer(const tcpcore_config *config, size_t tables, size_t less, tcpcore_config *found)
 {
-    uint16_t fit = fitting(TABLES_OF_11(config->runs == 0 ? TCPCORE_RUNS : config->runs));
+    uint16_t fit = tables > less ? fitting(tables - less) : 0;
     *found = *config;
     if (fit > 0)
         found->runs = fit;
     return found;
+}
+
+/* As many as the config asks for. */
+static uint16_t runs_of(const tcpcore_config *config)
+{
+    return config->runs == 0 ? TCPCORE_RUNS : config->runs;
+}
+
+/* The config of a program of the versions 11 to 13, for an end and for a connection; and of the versions 14 and 15, for a connection. */
+static const tcpcore_config *of_11(const tcpcore_config *config, tcpcore_config *found)
+{
+    return with_fewer(config, TABLES_OF_11(runs_of(config)), 0, found);
+}
+
+static const tcpcore_config *connection_of_11(const tcpcore_config *config, tcpcore_config *found)
+{
+    return with_fewer(config, TABLES_OF_11(runs_of(config)), WINDOW, found);
+}
+
+static const tcpcore_config *connection_of_14(const tcpcore_config *config, tcpcore_config *found)
+{
+    return with_fewer(config, TABLES(runs_of(config)), WINDOW, found);
 }
 
 uint32_t new_of_10(tcpcore_end *end, const tcpcore_config *config, void *block, size_t length);
@@ -54,6 +83,10 @@ uint32_t new_at_of_11(tcpcore_end **end, const tcpcore_config *config, void *blo
 uint32_t connect_of_11(tcpcore_connection *connection, const tcpcore_config *config, const struct tcpcore_connection_rules *rules,
                        tcpcore_addr addr, uint16_t port, uint64_t now, void *block, size_t length);
 uint32_t listen_of_11(tcpcore_connection *connection, const tcpcore_config *config, const struct tcpcore_connection_rules *rules,
+                      uint64_t now, void *block, size_t length);
+uint32_t connect_of_14(tcpcore_connection *connection, const tcpcore_config *config, const struct tcpcore_connection_rules *rules,
+                       tcpcore_addr addr, uint16_t port, uint64_t now, void *block, size_t length);
+uint32_t listen_of_14(tcpcore_connection *connection, const tcpcore_config *config, const struct tcpcore_connection_rules *rules,
                       uint64_t now, void *block, size_t length);
 
 __asm__(".symver new_of_10, tcpcore_new@TCPCORE_4");
@@ -99,7 +132,7 @@ uint32_t connect_of_11(tcpcore_connection *connection, const tcpcore_config *con
 {
     tcpcore_config found;
     uint32_t answer = tcpcore_connection_connect(connection, config, rules, addr, port, now, block, length);
-    return answer == TCPCORE_NO_MEMORY ? tcpcore_connection_connect(connection, of_11(config, &found), rules, addr, port, now, block, length) : answer;
+    return answer == TCPCORE_NO_MEMORY ? tcpcore_connection_connect(connection, connection_of_11(config, &found), rules, addr, port, now, block, length) : answer;
 }
 
 __asm__(".symver listen_of_11, tcpcore_connection_listen@TCPCORE_11");
@@ -108,5 +141,23 @@ uint32_t listen_of_11(tcpcore_connection *connection, const tcpcore_config *conf
 {
     tcpcore_config found;
     uint32_t answer = tcpcore_connection_listen(connection, config, rules, now, block, length);
-    return answer == TCPCORE_NO_MEMORY ? tcpcore_connection_listen(connection, of_11(config, &found), rules, now, block, length) : answer;
+    return answer == TCPCORE_NO_MEMORY ? tcpcore_connection_listen(connection, connection_of_11(config, &found), rules, now, block, length) : answer;
+}
+
+__asm__(".symver connect_of_14, tcpcore_connection_connect@TCPCORE_14");
+uint32_t connect_of_14(tcpcore_connection *connection, const tcpcore_config *config, const struct tcpcore_connection_rules *rules,
+                       tcpcore_addr addr, uint16_t port, uint64_t now, void *block, size_t length)
+{
+    tcpcore_config found;
+    uint32_t answer = tcpcore_connection_connect(connection, config, rules, addr, port, now, block, length);
+    return answer == TCPCORE_NO_MEMORY ? tcpcore_connection_connect(connection, connection_of_14(config, &found), rules, addr, port, now, block, length) : answer;
+}
+
+__asm__(".symver listen_of_14, tcpcore_connection_listen@TCPCORE_14");
+uint32_t listen_of_14(tcpcore_connection *connection, const tcpcore_config *config, const struct tcpcore_connection_rules *rules,
+                      uint64_t now, void *block, size_t length)
+{
+    tcpcore_config found;
+    uint32_t answer = tcpcore_connection_listen(connection, config, rules, now, block, length);
+    return answer == TCPCORE_NO_MEMORY ? tcpcore_connection_listen(connection, connection_of_14(config, &found), rules, now, block, length) : answer;
 }

@@ -107,6 +107,8 @@ uint32_t tcp_c_connection_status(struct handle *, struct tcpcore_status *);
 uint32_t tcp_c_connection_peer(struct handle *, tcpcore_addr *, uint16_t *);
 uint32_t tcp_c_connection_set_user_timeout(struct handle *, uint64_t);
 uint32_t tcp_c_connection_resend_first(struct handle *, uint64_t);
+uint32_t tcp_c_connection_set_congestion(struct handle *, uint32_t);
+uint32_t tcp_c_connection_congestion(struct handle *, struct tcpcore_congestion *);
 
 STEP struct handle *handle(tcpcore_end *end) { return (struct handle *)end->opaque; }
 
@@ -993,6 +995,25 @@ uint32_t tcpcore_connection_resend_first(tcpcore_connection *connection, uint64_
 {
     uint32_t answer = connection_refusal(connection);
     return answer != TCPCORE_DONE ? answer : tcp_c_connection_resend_first(handle_in(connection), now);
+}
+
+uint32_t tcpcore_connection_set_congestion(tcpcore_connection *connection, uint32_t congestion)
+{
+    uint32_t answer = connection_refusal(connection);
+    return answer != TCPCORE_DONE ? answer : tcp_c_connection_set_congestion(handle_in(connection), congestion);
+}
+
+uint32_t tcpcore_connection_congestion(const tcpcore_connection *connection, struct tcpcore_congestion *congestion)
+{
+    struct tcpcore_congestion found = {0};
+    struct place place = {congestion, sizeof *congestion};
+    uint32_t refused = connection_refusal_with(connection, NULL, 0, place), answer = refused;
+    if (refused == TCPCORE_DONE) {
+        struct handle copy = copy_in(connection->opaque);
+        answer = tcp_c_connection_congestion(&copy, &found);
+    }
+    put(refused, place, connection_at(connection), NULL, 0, &found);
+    return answer;
 }
 
 /* The texts, by their answers. */

@@ -29,8 +29,8 @@ class Flow:
         self.driver.new(now, first, *STANDARD)
         self.path, self.is_shut, self.sent_at = path_of(rule, 1, limit), False, now
 
-    def choose(self, now, rule, smss, limit):
-        self.path, self.is_shut, self.sent_at = path_of(rule, int(smss), int(limit)), False, now
+    def choose(self, rule, smss, limit):
+        self.path, self.is_shut = path_of(rule, int(smss), int(limit)), False
         self.settle()
         return "chosen"
 
@@ -108,7 +108,7 @@ class Flow:
         if word in RULES:
             answer = self.begin(word, *map(int, words)) or ""
         elif word == "choose":
-            answer = self.choose(int(words[0]), *words[1:])
+            answer = self.choose(*words)
         elif word == "user-timeout":
             self.driver.user, answer = None if words[0] == "-" else int(words[0]), "set"
         elif word == "tick":
@@ -193,7 +193,7 @@ def chosen(rule):
     waits for it without a limit."""
     turns = Turns("none", 0, 1, lost=(0, 30, *range(60, 75)), window=12)
     turns.emits_by, turns.expires_by = "train", "tick"
-    turns.call(f"choose 0 {rule} 2 1")
+    turns.call(f"choose {rule} 2 1")
     turns.call("user-timeout -")
     turns.turn("send 1")
     turns.runs(3)
@@ -220,7 +220,7 @@ def random_calls(draw, count):
         elif kind < 48:
             yield f"{draw.choice(('timeout', 'tick'))} {at}"
         elif kind == 48:
-            yield draw.choice((f"user-timeout {draw.choice(('-', 60 * SECOND))}", f"choose {at} {draw.choice(tuple(RULES))} {draw.choice((1, 2, 9))} 1"))
+            yield draw.choice((f"user-timeout {draw.choice(('-', 60 * SECOND))}", f"choose {draw.choice(tuple(RULES))} {draw.choice((1, 2, 9))} 1"))
         elif kind < 56:
             yield f"send {at} {draw.randrange(30)}"
         else:

@@ -114,6 +114,8 @@ struct hostile {
             if (any(2))
                 it.resend_first(now());
             else if (any(2))
+                it.set_congestion(static_cast<std::uint32_t>(any(3))), check(it.congestion().cwnd >= it.congestion().smss, "a window has a segment");
+            else if (any(2))
                 it.set_user_timeout(std::nullopt);
             else
                 it.set_user_timeout(std::chrono::microseconds(static_cast<std::int64_t>(drawn())));

@@ -345,6 +345,13 @@ public:
         std::uint64_t wanted = !limit ? TCPCORE_NEVER : limit->count() < 0 ? 0 : static_cast<std::uint64_t>(limit->count());
         detail::done(tcpcore_connection_set_user_timeout(raw(), wanted));
     }
+    // Chooses the congestion window, TCPCORE_CONGESTION_NONE to TCPCORE_CONGESTION_CUBIC; false where text was sent already.
+    bool set_congestion(std::uint32_t congestion) { return detail::found(tcpcore_connection_set_congestion(raw(), congestion)); }
+    struct tcpcore_congestion congestion() const
+    {
+        struct tcpcore_congestion reported;
+        return detail::done(tcpcore_connection_congestion(raw(), &reported)), reported;
+    }
     // The peer's address and port, once they are known.
     std::optional<std::pair<tcpcore_addr, std::uint16_t>> peer() const
     {

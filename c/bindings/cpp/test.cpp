@@ -487,6 +487,42 @@ static void a_user_timeout_is_set()
     CHECK(!a.timeout(now + 9s - 1us) && a.timeout(now + 9s) == TCPCORE_TIMER_USER && a.status().ending == TCPCORE_ENDING_ABORTED);
 }
 
+// RFC 6928, 2: of segments of 1,000 bytes ten go out at first, of 536 before both SYNs have agreed on them (RFC 9293, 3.7.1). RFC 9438, 4.8,
+// and RFC 5681, 3.1: after a timeout ssthresh is 0.7 of the 4,000 bytes in flight, and half of them, and the window a segment.
+static void a_congestion_window()
+{
+    using namespace std::chrono_literals;
+    constexpr std::uint64_t greatest = std::uint64_t(1) << 40;
+    for (std::uint32_t which : {TCPCORE_CONGESTION_RENO, TCPCORE_CONGESTION_CUBIC}) {
+        tcpcore::connection::time now(5s);
+        tcpcore::connection a = tcpcore::connection::connect(config(A, 7), tcpcore::default_rules(), B, 7, now);
+        tcpcore::connection b = tcpcore::connection::listen(config(B, 7), tcpcore::default_rules(), now);
+        struct tcpcore_congestion it = a.congestion();
+        CHECK(it.congestion == TCPCORE_CONGESTION_NONE && it.cwnd == greatest && it.ssthresh == greatest && it.smss == 0);
+        CHECK(a.set_congestion(which) && a.congestion().cwnd == 5360 && a.congestion().smss == 536);
+        unsigned char out[TCPCORE_EMIT_ROOM];
+        for (int turn = 0; turn < 2; turn++) {
+            while (std::size_t length = a.emit(now, out).length) CHECK(b.arrive(now, A, B, out, length).first == TCPCORE_DONE);
+            while (std::size_t length = b.emit(now, out).length) CHECK(a.arrive(now, B, A, out, length).first == TCPCORE_DONE);
+        }
+        it = a.congestion();
+        CHECK(it.congestion == which && it.cwnd == 10000 && it.ssthresh == greatest && it.smss == 1000 && it.is_recovering == 0);
+        CHECK(a.send(now, std::string(4000, 'x').data(), 4000) == 4000);
+        for (int i = 0; i < 4; i++) CHECK(a.emit(now, out).length == 1020);
+        CHECK(!a.set_congestion(TCPCORE_CONGESTION_NONE) && a.congestion().congestion == which);
+        try {
+            a.set_congestion(3);
+            CHECK(false);
+        } catch (const tcpcore::refused &found) {
+            CHECK(found.answer == TCPCORE_BAD_RULES);
+        }
+        CHECK(a.timeout(now + 1s) == TCPCORE_TIMER_RETRANSMIT);
+        it = a.congestion();
+        CHECK(it.cwnd == 1000 && it.ssthresh == (which == TCPCORE_CONGESTION_RENO ? 2000 : 2800));
+        CHECK(a.emit(now + 1s, out).length == 1020 && a.emit(now + 1s, out).length == 0);
+    }
+}
+
 int main()
 {
     std::vector<tcpcore::end> ends;
@@ -544,6 +580,7 @@ int main()
     over_a_lossy_link();
     a_connection_refuses();
     a_connection_s_train();
+    a_congestion_window();
     a_user_timeout_is_set();
     a_guard_keeps_out_what_is_blind();
     CHECK(tcpcore::build().find("machine code") != std::string_view::npos || tcpcore::build().find("portable C") == 0);

@@ -275,6 +275,36 @@ func (connection *Connection) ResendFirst(now time.Time) bool {
 	return found(C.tcpcore_connection_resend_first(connection.raw, connection.since(now)))
 }
 
+// The congestion windows of SetCongestion: none, that of RFC 5681, and that of RFC 9438.
+const (
+	NoCongestion uint32 = C.TCPCORE_CONGESTION_NONE
+	Reno         uint32 = C.TCPCORE_CONGESTION_RENO
+	Cubic        uint32 = C.TCPCORE_CONGESTION_CUBIC
+)
+
+// Congestion is the congestion window of a connection, in bytes (RFC 5681, 3): which was chosen, cwnd, ssthresh and SMSS, and whether a loss
+// was found that isn't repaired yet. Without a window cwnd and ssthresh are 1 << 40, more than is ever in flight.
+type Congestion struct {
+	Kind           uint32
+	Cwnd, Ssthresh uint64
+	Smss           int
+	Recovering     bool
+}
+
+// SetCongestion chooses the congestion window, NoCongestion, Reno or Cubic (RFC 5681, 3; RFC 9438), any time before text is sent: from then
+// on what is emitted ends within it, beside the Window. Refused(54) where text was sent already.
+func (connection *Connection) SetCongestion(kind uint32) error {
+	return done(C.tcpcore_connection_set_congestion(connection.raw, C.uint32_t(kind)))
+}
+
+// Congestion tells the congestion window as it is.
+func (connection *Connection) Congestion() Congestion {
+	told := C.connection_congestion(connection.raw)
+	found(told.answer)
+	it := &told.congestion
+	return Congestion{uint32(it.congestion), uint64(it.cwnd), uint64(it.ssthresh), int(it.smss), it.is_recovering == 1}
+}
+
 // Peer is the peer's address and port (RFC 9293, 3.10.6); ErrNotConnected before they are known.
 func (connection *Connection) Peer() (Addr, uint16, error) {
 	told := C.connection_peer(connection.raw)

@@ -46,6 +46,18 @@ static inline struct connection_arrived connection_arrive_vouched(tcpcore_connec
     return told;
 }
 
+struct connection_congested {
+    struct tcpcore_congestion congestion;
+    uint32_t answer;
+};
+
+static inline struct connection_congested connection_congestion(const tcpcore_connection *connection)
+{
+    struct connection_congested told;
+    told.answer = tcpcore_connection_congestion(connection, &told.congestion);
+    return told;
+}
+
 struct connection_peered {
     tcpcore_addr addr;
     uint16_t port;

@@ -45,6 +45,12 @@ func established(t *testing.T) [2]*Connection { return establishedBy(t, DefaultR
 // establishedBy is the same with these rules.
 func establishedBy(t *testing.T, rules Rules) [2]*Connection {
 	both := opened(t, rules)
+	handshake(t, both)
+	return both
+}
+
+// handshake has both come to ESTABLISHED.
+func handshake(t *testing.T, both [2]*Connection) {
 	for turn := 0; turn < 3; turn++ {
 		for _, it := range emittedBy(both[turn%2], began) {
 			if _, err := both[1-turn%2].Arrive(began, [2]Addr{a, b}[turn%2], it.to, []byte(it.segment)); err != nil {
@@ -55,7 +61,6 @@ func establishedBy(t *testing.T, rules Rules) [2]*Connection {
 	if !Established(both[0].Status()) || !Established(both[1].Status()) {
 		t.Fatal(both[0].Status(), both[1].Status())
 	}
-	return both
 }
 
 var addrs = [2]Addr{a, b}

@@ -223,6 +223,7 @@ func (it *hostile) use(end *Connection, side int, now time.Time) {
 		it.may(side, "SetUserTimeout", end.SetUserTimeout(time.Duration(it.random.Int63()-1<<40)))
 	case 7, 8:
 		it.panics(side, func() { end.ResendFirst(now) })
+		it.may(side, "SetCongestion", end.SetCongestion(uint32(it.random.Intn(4))), Refused(54), Refused(29))
 	case 9, 10:
 		_, _, err := end.Peer()
 		it.may(side, "Peer", err, ErrNotConnected)

@@ -18,6 +18,8 @@ static void every_call(tcpcore_connection *connection, uint32_t wanted)
     struct tcpcore_connection_segment segment;
     struct tcpcore_train train;
     struct tcpcore_lent lent;
+    struct tcpcore_congestion congestion;
+    memset(&congestion, 7, sizeof congestion);
     memset(buffer, 0xee, sizeof buffer);
     memset(&status, 7, sizeof status);
     memset(&report, 7, sizeof report);
@@ -56,6 +58,9 @@ static void every_call(tcpcore_connection *connection, uint32_t wanted)
     CHECK(tcpcore_connection_abort(connection, 0), wanted);
     CHECK(tcpcore_connection_set_user_timeout(connection, 0), wanted);
     CHECK(tcpcore_connection_resend_first(connection, 0), wanted);
+    CHECK(tcpcore_connection_set_congestion(connection, TCPCORE_CONGESTION_CUBIC), wanted);
+    CHECK(tcpcore_connection_congestion(connection, &congestion), wanted);
+    CHECK(are_all(&congestion, sizeof congestion, 0), 1);
     CHECK(tcpcore_connection_status(connection, &status), wanted);
     CHECK(are_all(&status, sizeof status, 0), 1);
     CHECK(tcpcore_connection_peer(connection, &addr, &port), wanted);

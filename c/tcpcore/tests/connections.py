@@ -10,7 +10,10 @@ import sys
 
 sys.path.insert(0, os.path.dirname(os.path.dirname(os.path.realpath(__file__))))
 import tcpcore  # noqa: E402
-from tcpcore import Answer, Brought, Config, Connection, Emission, End, Ending, Kind, Lent, Phase, Refused, Rule, Rules, Timer, Train, Transmit  # noqa: E402
+from tcpcore import (  # noqa: E402
+    Answer, Brought, Config, Congestion, CongestionWindow, Connection, Emission, End, Ending, Kind, Lent, Phase, Refused, Rule, Rules, Timer,
+    Train, Transmit,
+)
 
 A, B = bytes([10, 0, 0, 1]), bytes([10, 0, 0, 2])
 CONFIGS = Config(A, 1, 1000, mss=1000), Config(B, 2, 5000, mss=1000)
@@ -150,6 +153,23 @@ def first_again():
     check((again, a.poll_at()), (sent[:1], 6.5))
     check([b.arrive(6.0, A, to, segment) for to, segment in again + sent[1:]], [Answer.DONE] * 3)
     check((carry(6.0, b, B, a), a.resend_first(6.0), b.receive(6.0)), ([Answer.DONE], False, bytes(2500)))
+
+
+def congestion_windows():
+    """RFC 6928, 2: of segments of 1,000 bytes ten go out at first, of 536 before both SYNs have agreed on them (RFC 9293, 3.7.1). RFC 5681, 3.1,
+    and RFC 9438, 4.8: after a timeout ssthresh is half of the 4,000 bytes in flight, and 0.7 of them, and the window a segment."""
+    for rule, ssthresh in ((Congestion.RENO, 2000), (Congestion.CUBIC, 2800)):
+        a, b = Connection.connect(0.0, Config(A, 1, 5000, mss=1000), B, 2), Connection.listen(0.0, CONFIGS[1])
+        check(a.congestion(), CongestionWindow(Congestion.NONE, 1 << 40, 1 << 40, 0, False))
+        a.set_congestion(rule)
+        check(a.congestion(), CongestionWindow(rule, 5360, 1 << 40, 536, False))
+        check(carry(0.0, a, A, b) + carry(0.0, b, B, a) + carry(0.0, a, A, b), [Answer.DONE] * 3)
+        check(a.congestion(), CongestionWindow(rule, 10000, 1 << 40, 1000, False))
+        check((a.send(5.0, bytes(4000)), len(a.emit_all(5.0))), (4000, 4))
+        check(raised(Refused, a.set_congestion, Congestion.NONE), str(Refused(54)))
+        check((a.timeout(6.0), a.congestion()), (Timer.RETRANSMIT, CongestionWindow(rule, 1000, ssthresh, 1000, False)))
+        check(len(a.emit_all(6.0)), 1)
+    check(raised(ValueError, a.set_congestion, -1) != "nothing", True)
 
 
 def peers():
@@ -377,6 +397,7 @@ def main():
     timeouts()
     later_limits()
     first_again()
+    congestion_windows()
     peers()
     guards()
     time_wait()

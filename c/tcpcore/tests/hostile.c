@@ -374,8 +374,13 @@ static void change_timers(size_t side)
     if (any(2) == 0)
         ANSWERS("set_user_timeout", tcpcore_connection_set_user_timeout(end, any(2) == 0 ? TCPCORE_NEVER : any(UINT64_C(1) << (1 + any(62)))),
                 TCPCORE_DONE);
-    else
+    else if (any(2) == 0)
         ANSWERS("resend_first", tcpcore_connection_resend_first(end, now), TCPCORE_DONE, TCPCORE_NO_RULE);
+    else
+        ANSWERS("set_congestion", tcpcore_connection_set_congestion(end, (uint32_t)any(4)), TCPCORE_DONE, TCPCORE_NO_RULE, TCPCORE_BAD_RULES);
+    struct tcpcore_congestion congestion, *place = any_place(&congestion, end);
+    if (tcpcore_connection_congestion(end, place) == TCPCORE_DONE)
+        CHECK(congestion.cwnd > 0 && congestion.cwnd >= congestion.smss && congestion.congestion <= TCPCORE_CONGESTION_CUBIC, 1);
 }
 
 /* A call of the user's without a length. */

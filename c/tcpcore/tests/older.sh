@@ -51,7 +51,7 @@ for folder in older/*/; do
 done
 ((passed > 0)) || fail "no program is of the soname $soname"
 # What was padding in the configs of older programs isn't a number of runs, and their blocks are large enough.
-for program in padding runs; do
+for program in padding runs connections; do
     cc -std=c11 -Wall -Wextra -Werror -I.. "older/$program.c" "$there/today/$soname" -o "$there/program"
     runs_with "$there/today" || fail "$(<"$there/told")"
     pass

@@ -1,14 +1,14 @@
 -- What a connection reports of segments that it emitted as one, for a device that cuts them (RFC 9293, 3.7 and 3.8), into a buffer of
 -- any length.
 use Rattle.std.specs.Prelude.{ℕ, nat_lt, if◌then◌else◌, List, length, Option, Some, None}
-use Rattle.tcp_driver.specs.Driver.{at}
-use Rattle.tcp_driver.specs.Rows.{after_emissions, emissions_of}
+use Rattle.tcp_congestion.specs.AnyWindow.{any_control}
+use Rattle.tcp_flow.specs.Flow.{emitted_as_one}
 use Rattle.tcp_conn.specs.declared.emit.train.Train.{Train}
 use Rattle.tcp_conn.specs.declared.emit.transmit.TheConstants.{EMIT_ROOM}
 use Rattle.tcp_conn.specs.TrainWithin.{train_buffer_within, train_within}
 use Rattle.tcp_end.specs.Wired.{machine}
 use Rattle.tcp_c.specs.Answers.{done, little_room, nothing_due}
-use Rattle.tcp_c.specs.Connections.{end_of}
+use Rattle.tcp_c.specs.Connections.{end_of, reach, rested_at}
 use Rattle.tcp_c.specs.Trains.{no_train, record_of}
 use Rattle.tcp_c.specs.declared.records.CTrain.{CTrain}
 use Rattle.tcp_c.specs.declared.connection.driven.Driven.{Driven}
@@ -22,20 +22,23 @@ abbrev pub train_found : Option Train → CTrain
 train_found None = no_train
 train_found (Some train) = record_of train
 
-abbrev pub train_number : ℕ → ℕ → ℕ → Driven → ℕ
-train_number window most room d = if nat_lt room EMIT_ROOM then little_room else train_answer (train_within (end_of d) window most room)
+abbrev pub train_within_reach : ℕ → ℕ → ℕ → ℕ → Driven → Option Train
+train_within_reach now window most room d = train_within (end_of d) (reach now window d) most room
 
-abbrev pub train_reported : ℕ → ℕ → ℕ → Option Driven → CTrain
-train_reported window most room None = no_train
-train_reported window most room (Some d) = if nat_lt room EMIT_ROOM then no_train else train_found (train_within (end_of d) window most room)
+abbrev pub train_number : ℕ → ℕ → ℕ → ℕ → Driven → ℕ
+train_number now window most room d = if nat_lt room EMIT_ROOM then little_room else train_answer (train_within_reach now window most room d)
+
+abbrev pub train_reported : ℕ → ℕ → ℕ → ℕ → Option Driven → CTrain
+train_reported now window most room None = no_train
+train_reported now window most room (Some d) = if nat_lt room EMIT_ROOM then no_train else train_found (train_within_reach now window most room d)
 
 -- the content of the buffer afterwards
-abbrev pub train_written : ℕ → ℕ → List ℕ → Option Driven → List ℕ
-train_written window most out None = out
-train_written window most out (Some d) = if nat_lt (length out) EMIT_ROOM then out else train_buffer_within (end_of d) window most out
+abbrev pub train_written : ℕ → ℕ → ℕ → List ℕ → Option Driven → List ℕ
+train_written now window most out None = out
+train_written now window most out (Some d) =
+    if nat_lt (length out) EMIT_ROOM then out else train_buffer_within (end_of d) (reach now window d) most out
 
 -- the connection afterwards: so many emissions later, each at this time
 abbrev pub after_train : ℕ → ℕ → ℕ → ℕ → Driven → Driven
 after_train now window most room d =
-    if nat_lt room EMIT_ROOM then d
-    else record { end = after_emissions machine (emissions_of (machine.row d.end.core window most room)) d.end (at d.end now) window }
+    if nat_lt room EMIT_ROOM then d else record { flow = emitted_as_one machine any_control (rested_at now d) now window most room }

@@ -9,7 +9,7 @@ use Rattle.tcp_driver.specs.declared.limits.Limits.{Limits}
 use Rattle.tcp_driver.specs.declared.machine.Sent.{Sent}
 use Rattle.tcp_driver.specs.declared.machine.Timer.{Timer}
 use Rattle.tcp_driver.specs.declared.machine.Timer.TheVariants.{Retransmit, Reorder, TimeWait, User}
-use Rattle.tcp_driver.specs.Driver.{Driving, after_emission, after_user, arrival_answer, at, sent_of, way_of, written_of}
+use Rattle.tcp_driver.specs.Driver.{Driving, arrival_answer, sent_of, way_of, written_of}
 use Rattle.tcp_halves.specs.Config.{config_error_number, HasBadCapacity, HasBadMss, HasBadShift, HasBadLimit, IsGoodConfig}
 use Rattle.tcp_halves.specs.declared.config.ConfigError.TheVariants as faults
 use Rattle.tcp_halves.specs.declared.link.Peer.{Peer}
@@ -21,6 +21,11 @@ use Rattle.tcp_conn.specs.NewEnd.{end_with_runs}
 use Rattle.tcp_conn.specs.State.{State}
 use Rattle.tcp_end.specs.declared.wired.Wired.{Wired}
 use Rattle.tcp_end.specs.Wired.{connected, driven, intake_of, listening, machine, taken_of}
+use Rattle.tcp_congestion.specs.AnyWindow.{any_control}
+use Rattle.tcp_congestion.specs.declared.any_window.AnyWindow.{AnyWindow}
+use Rattle.tcp_congestion.specs.declared.any_window.AnyWindow.TheVariants.{Unlimited}
+use Rattle.tcp_flow.specs.Flow.{Flowing, after_segment, after_timeout, after_use, allowed, emitted, new_flowing, rested}
+use Rattle.tcp_flow.specs.Wired.{smss_of}
 use Rattle.tcp_c.specs.Answers.{done, bad_rules, bad_runs, emit_first, in_use, little_room, nothing_due, withheld, arrival_number}
 use Rattle.tcp_c.specs.Configs.{config_of, runs_of, HasBadRuns, HasGoodRuns}
 use Rattle.tcp_c.specs.Reports.{brought_number, no_arrive_report, rule_told}
@@ -71,7 +76,7 @@ after_opening s (Some peer) = after_connect s (record { addr = peer.addr; port =
 after_opening s None = after_listen s
 
 abbrev pub opens : State → Opening → Driven
-opens s o = record { end = driven (after_opening s o.peer) o.rules o.limits o.now }
+opens s o = record { flow = new_flowing (driven (after_opening s o.peer) o.rules o.limits o.now) Unlimited o.now }
 
 abbrev pub made_of : CConfig → CConnectionRules → Option Peer → ℕ → Driven
 made_of c r peer now =
@@ -96,10 +101,10 @@ pub record Makes (old after : Option Driven) (c : CConfig) (r : CConnectionRules
 
 -- ---- THE END of a connection, and a call of its user's, after which it is this
 abbrev pub end_of : Driven → State
-end_of d = d.end.core.end
+end_of d = d.flow.driving.core.end
 
 abbrev pub used : Driven → ℕ → State → Driven
-used d now s = record { end = after_user machine d.end (at d.end now) (record { end = s }) }
+used d now s = record { flow = after_use machine d.flow now (record { end = s }) }
 
 -- ---- TIMERS
 abbrev pub time_number : Option ℕ → ℕ
@@ -116,10 +121,18 @@ abbrev pub timer_told : Option Timer → ℕ
 timer_told None = 0
 timer_told (Some timer) = timer_number timer
 
+-- IT IS NOW: a timer that has expired
+abbrev pub timed_out : ℕ → Driven → Driven
+timed_out now d = record { flow = after_timeout machine any_control d.flow now }
+
 -- ---- AN ARRIVAL, summed or vouched for: what the driver makes of it, with the end's own answer
 abbrev pub taken_by : Bool → Driven → List ℕ → List ℕ → List ℕ → Taken reports.Taken
 taken_by vouched d src dst bytes =
-    arrival_answer machine (λ w src dst bytes way. taken_of (intake_of way) w.end src dst bytes) d.end src dst bytes (way_of d.end vouched)
+    arrival_answer machine (λ w src dst bytes way. taken_of (intake_of way) w.end src dst bytes) d.flow.driving src dst bytes (way_of d.flow.driving vouched)
+
+-- the connection afterwards
+abbrev pub arrived_by : Bool → ℕ → List ℕ → List ℕ → List ℕ → Driven → Driven
+arrived_by vouched now src dst bytes d = record { flow = after_segment machine (λ w. smss_of w.end) any_control d.flow now src dst bytes vouched }
 
 abbrev pub arrival_told : Taken reports.Taken → ℕ
 arrival_told (Done report found) = arrival_number found.arrival
@@ -142,7 +155,14 @@ abbrev pub report_told : Bool → List ℕ → List ℕ → List ℕ → Option 
 report_told vouched src dst bytes None = no_arrive_report
 report_told vouched src dst bytes (Some d) = taken_report (taken_by vouched d src dst bytes)
 
--- ---- AN EMISSION into a buffer of any length
+-- ---- AN EMISSION into a buffer of any length. HOW FAR it may reach, in numbers from SND.UNA: as the caller's window has it, and the
+-- congestion window where one was chosen, which is told of an idle time first
+abbrev pub rested_at : ℕ → Driven → Flowing (Wired Region) AnyWindow
+rested_at now d = rested machine any_control d.flow now
+
+abbrev pub reach : ℕ → ℕ → Driven → ℕ
+reach now window d = allowed any_control (rested_at now d) window
+
 abbrev pub no_segment : CConnectionSegment
 no_segment = record { to = record { byte = nowhere }; length = 0; position = 0; count = 0 }
 
@@ -154,17 +174,20 @@ abbrev pub segment_told : Option Sent → CConnectionSegment
 segment_told None = no_segment
 segment_told (Some sent) = record { to = record { byte = sent.to }; length = sent.len; position = sent.start; count = sent.count }
 
-abbrev pub sent_number : ℕ → ℕ → Driven → ℕ
-sent_number window room d = if nat_lt room EMIT_ROOM then little_room else emission_told (sent_of machine d.end.core window)
+abbrev pub sent_number : ℕ → ℕ → ℕ → Driven → ℕ
+sent_number now window room d =
+    if nat_lt room EMIT_ROOM then little_room else emission_told (sent_of machine d.flow.driving.core (reach now window d))
 
-abbrev pub written_within : ℕ → List ℕ → Option Driven → List ℕ
-written_within window out None = out
-written_within window out (Some d) = if nat_lt (length out) EMIT_ROOM then out else written_of machine d.end.core window out
+abbrev pub written_within : ℕ → ℕ → List ℕ → Option Driven → List ℕ
+written_within now window out None = out
+written_within now window out (Some d) =
+    if nat_lt (length out) EMIT_ROOM then out else written_of machine d.flow.driving.core (reach now window d) out
 
-abbrev pub segment_reported : ℕ → ℕ → Option Driven → CConnectionSegment
-segment_reported window room None = no_segment
-segment_reported window room (Some d) = if nat_lt room EMIT_ROOM then no_segment else segment_told (sent_of machine d.end.core window)
+abbrev pub segment_reported : ℕ → ℕ → ℕ → Option Driven → CConnectionSegment
+segment_reported now window room None = no_segment
+segment_reported now window room (Some d) =
+    if nat_lt room EMIT_ROOM then no_segment else segment_told (sent_of machine d.flow.driving.core (reach now window d))
 
 abbrev pub emitted_within : ℕ → ℕ → ℕ → Driven → Driven
 emitted_within now window room d =
-    if nat_lt room EMIT_ROOM then d else record { end = after_emission machine d.end (at d.end now) window }
+    if nat_lt room EMIT_ROOM then d else record { flow = emitted machine any_control (rested_at now d) now window }

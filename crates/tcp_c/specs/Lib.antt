@@ -13,3 +13,4 @@ pub mod Segments
 pub mod Status
 pub mod Trains
 pub mod ConnectionTrains
+pub mod Congestions

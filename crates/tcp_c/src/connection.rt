@@ -1,5 +1,6 @@
-//! An end with its timers, for C: each exported function is a call of [`tcp_end::End`] and nothing more. Times are counts of
+//! An end with its timers and its congestion window, for C: each exported function is a call of [`tcp_flow::Flow`] and nothing more. Times are counts of
 //! microseconds from any beginning; they never go back.
+pub(crate) mod congestion;
 pub(crate) mod driven;
 pub(crate) mod driven_handle;
 pub(crate) mod driven_held;

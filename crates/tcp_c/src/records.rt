@@ -267,6 +267,22 @@ pub struct CConnectionRules {
     pub guard: u32,
 }
 
+/// The congestion window of a connection (RFC 5681, 3; RFC 9438), in bytes.
+#[repr(C)]
+#[derive(Clone, Copy)]
+pub struct CCongestion {
+    /// The congestion window; 2^40 where none was chosen, more than is ever in flight.
+    pub cwnd: u64,
+    /// The slow start threshold; 2^40 before a loss.
+    pub ssthresh: u64,
+    /// SMSS: 536 until the SYNs have agreed on it; 0 where no window was chosen.
+    pub smss: u64,
+    /// Which was chosen: TCPCORE_CONGESTION_NONE, 0, to TCPCORE_CONGESTION_CUBIC, 2.
+    pub congestion: u32,
+    /// Whether a loss was found that isn't repaired yet: 1, or 0.
+    pub is_recovering: u32,
+}
+
 /// A segment that a connection wrote.
 #[repr(C)]
 #[derive(Clone, Copy)]

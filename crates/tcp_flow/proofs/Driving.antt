@@ -98,4 +98,4 @@ driven_lem m smss_of c trains f (GoesAsOne now window most room) = record {
 driven_lem m smss_of c trains f (Passes now) = record { resends = false; same = refl }
 driven_lem m smss_of c trains f (Asks now does) = record { resends = false; same = refl }
 driven_lem m smss_of c trains f (Limits limit) = record { resends = false; same = refl }
-driven_lem m smss_of c trains f (Chooses now window) = record { resends = false; same = chosen-by _ _ (c.limits window) refl }
+driven_lem m smss_of c trains f (Chooses window) = record { resends = false; same = chosen-by _ _ (c.limits window) refl }

@@ -164,6 +164,6 @@ abbrev pub after_user_limit : {S W : Type 0} → Flowing S W → Option ℕ → 
 after_user_limit f limit = record f { driving = after_user_timeout f.driving limit }
 
 -- ANOTHER WINDOW, of an end that has sent no text
-abbrev pub with_window : {S W : Type 0} → (S → Option ℕ) → Control W → Flowing S W → W → ℕ → Flowing S W
-with_window smss_of c f window now =
-    let new = new_flowing f.driving window now in if c.limits window then settled smss_of c new else new
+abbrev pub with_window : {S W : Type 0} → (S → Option ℕ) → Control W → Flowing S W → W → Flowing S W
+with_window smss_of c f window =
+    let new = record f { window = window; shut = false } in if c.limits window then settled smss_of c new else new

@@ -1,2 +1,3 @@
 pub mod Flow
+pub mod Wired
 pub mod Calls

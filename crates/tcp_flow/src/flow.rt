@@ -50,13 +50,12 @@ impl<C: Paced + Drop, W: Congestion + Drop> Flow<C, W> {
         self.driver.poll_at()
     }
 
-    /// Chooses another window for an end that has sent no text yet. The idle time counts from now on.
-    pub fn set_window(&mut self, window: W, now: u64)
-        ensures { self.new ≡ with_window C.smss_of W.control self.old window now }
+    /// Chooses another window for an end that has sent no text yet.
+    pub fn set_window(&mut self, window: W)
+        ensures { self.new ≡ with_window C.smss_of W.control self.old window }
     {
         self.window = window;
         self.is_shut = false;
-        self.sent_at = now;
         if self.window.limits() {
             self.settle();
         }

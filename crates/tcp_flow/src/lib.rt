@@ -8,6 +8,7 @@
 mod flow;
 pub mod laws;
 mod paced;
+mod wired;
 
 pub use flow::Flow;
 pub use paced::Paced;

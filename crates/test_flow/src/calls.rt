@@ -97,11 +97,15 @@ pub(crate) fn answer_call(
     rest: &[u8],
     answers: &mut String,
 ) -> Result<(), LineError> {
-    if let b"user-timeout" = word {
-        let (limit, _) = first_limit(rest)?;
-        flow.set_user_timeout(limit);
-        answers.push_str("set")?;
-        return Ok(());
+    match word {
+        b"user-timeout" => {
+            let (limit, _) = first_limit(rest)?;
+            flow.set_user_timeout(limit);
+            answers.push_str("set")?;
+            return Ok(());
+        }
+        b"choose" => return chooses(flow, rest, answers),
+        _ => {}
     }
     let (now, rest) = first_number(rest)?;
     match word {
@@ -109,7 +113,6 @@ pub(crate) fn answer_call(
         b"vouched" => arrives(flow, now, true, rest, answers),
         b"emit" => emits(flow, now, rest, answers),
         b"train" => emits_as_one(flow, now, rest, answers),
-        b"choose" => chooses(flow, now, rest, answers),
         b"send" => {
             let (count, _) = first_number(rest)?;
             let text = [0; 100];
@@ -155,7 +158,6 @@ fn answer_plain(
 /// Another window is chosen, of full segments of so many numbers.
 fn chooses(
     flow: &mut Flow<Small, AnyWindow>,
-    now: u64,
     rest: &[u8],
     answers: &mut String,
 ) -> Result<(), LineError> {
@@ -165,7 +167,7 @@ fn chooses(
     };
     let (smss, rest) = first_number(rest.unwrap_or(b""))?;
     let (limit, _) = first_number(rest)?;
-    flow.set_window(new_window(rule, smss, limit), now);
+    flow.set_window(new_window(rule, smss, limit));
     answers.push_str("chosen")?;
     Ok(())
 }

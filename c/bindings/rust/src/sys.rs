@@ -4,7 +4,7 @@ use core::ptr;
 
 pub(crate) const VERSION: u32 = 15;
 pub(crate) const END_SIZE: usize = 416;
-pub(crate) const CONNECTION_SIZE: usize = 720;
+pub(crate) const CONNECTION_SIZE: usize = 880;
 pub(crate) const MARK_SIZE: usize = 8;
 pub(crate) const HELD_SIZE: usize = 16;
 pub(crate) const UNIT: usize = 16;
@@ -191,6 +191,17 @@ pub struct ConnectionSegment {
     pub reserved: [u32; 9],
 }
 
+#[derive(Clone, Copy, Default)]
+#[repr(C)]
+pub struct Congestion {
+    pub cwnd: u64,
+    pub ssthresh: u64,
+    pub smss: u64,
+    pub congestion: u32,
+    pub is_recovering: u32,
+    pub reserved: [u32; 8],
+}
+
 extern "C" {
     pub fn tcpcore_new_at(end: *mut *mut End, config: *const Config, block: *mut c_void, length: usize) -> u32;
     pub fn tcpcore_room(config: *const Config) -> usize;
@@ -328,6 +339,8 @@ extern "C" {
     pub fn tcpcore_connection_peer(connection: *const Connection, addr: *mut Addr, port: *mut u16) -> u32;
     pub fn tcpcore_connection_set_user_timeout(connection: *mut Connection, limit: u64) -> u32;
     pub fn tcpcore_connection_resend_first(connection: *mut Connection, now: u64) -> u32;
+    pub fn tcpcore_connection_set_congestion(connection: *mut Connection, congestion: u32) -> u32;
+    pub fn tcpcore_connection_congestion(connection: *const Connection, congestion: *mut Congestion) -> u32;
     pub fn tcpcore_strerror(answer: u32) -> *const u8;
     pub fn tcpcore_version() -> u32;
     pub fn tcpcore_build() -> *const u8;
@@ -470,6 +483,7 @@ mod tests {
                 reserved
             ),
             places!(ConnectionSegment, "struct tcpcore_connection_segment", length, position, count, to, reserved),
+            places!(Congestion, "struct tcpcore_congestion", cwnd, ssthresh, smss, congestion, is_recovering, reserved),
         ];
         let (expressions, found): (Vec<_>, Vec<_>) = all.into_iter().unzip();
         let (expressions, found) = (expressions.concat(), found.concat());

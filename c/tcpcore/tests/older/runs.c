@@ -13,6 +13,9 @@ __asm__(".symver tcpcore_connection_connect, tcpcore_connection_connect@TCPCORE_
 __asm__(".symver tcpcore_connection_listen, tcpcore_connection_listen@TCPCORE_11");
 __asm__(".symver tcpcore_connection_room, tcpcore_connection_room@TCPCORE_11");
 
+/* Below as many runs the tables of version 13 have no place for the window and a run. */
+enum { FEWEST = 13 };
+
 /* TCPCORE_MEMORY_RUNS and TCPCORE_CONNECTION_MEMORY_RUNS of version 13. */
 #define MEMORY_OF_13(send, receive, runs) \
     (TCPCORE_UNITS(send) + TCPCORE_UNITS(receive) + 2 * TCPCORE_UNITS(8 * (size_t)(runs)) + 416 + 15)
@@ -52,9 +55,13 @@ static int makes(uint16_t runs, size_t offset)
     tcpcore_connection connection = TCPCORE_CONNECTION_INIT;
     size_t room = MEMORY_OF_13(1000, 1000, asked), connections = CONNECTION_MEMORY_OF_13(1000, 1000, asked);
     unsigned char *from = block + offset;
-    return tcpcore_new(&end, &config, from, room) == TCPCORE_DONE && tcpcore_free(&end) == TCPCORE_DONE &&
-        tcpcore_new_at(&at, &config, from, room + TCPCORE_STRUCT_ROOM) == TCPCORE_DONE && tcpcore_free(at) == TCPCORE_DONE &&
-        tcpcore_connection_listen(&connection, &config, &rules, 0, from, connections) == TCPCORE_DONE &&
+    if (tcpcore_new(&end, &config, from, room) != TCPCORE_DONE || tcpcore_free(&end) != TCPCORE_DONE ||
+        tcpcore_new_at(&at, &config, from, room + TCPCORE_STRUCT_ROOM) != TCPCORE_DONE || tcpcore_free(at) != TCPCORE_DONE)
+        return 0;
+    /* A connection has a congestion window, too, for which the tables of the fewest runs have no place. */
+    if (asked < FEWEST)
+        return tcpcore_connection_listen(&connection, &config, &rules, 0, from, connections) == TCPCORE_NO_MEMORY;
+    return tcpcore_connection_listen(&connection, &config, &rules, 0, from, connections) == TCPCORE_DONE &&
         tcpcore_connection_free(&connection) == TCPCORE_DONE &&
         tcpcore_connection_connect(&connection, &config, &rules, config.addr, 9, 0, from, connections) == TCPCORE_DONE &&
         tcpcore_connection_free(&connection) == TCPCORE_DONE && config.runs == runs;

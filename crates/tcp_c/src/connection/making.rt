@@ -19,9 +19,11 @@ use crate::records::{CAddr, CConfig, CConnectionRules};
 use crate::room::room_beside;
 use crate::runs::{are_too_many, runs_within};
 use region_heap::{Block, Region, Still};
+use tcp_congestion::AnyWindow;
 use tcp_conn::{CallError, Config, ConfigError, Endpoint, Peer};
 use tcp_driver::Limits;
 use tcp_end::{End, connect, listen};
+use tcp_flow::Flow;
 use tcp_timing::Rules;
 use tcp_wire::Addr;
 
@@ -89,7 +91,8 @@ fn boxed(
     let Ok(end) = opened(end, opening) else {
         return Err(ConfigError::NoMemory);
     };
-    match Box::new(Region::new(rest), Driven { end }) {
+    let flow = Flow::new(end, AnyWindow::Unlimited, opening.now);
+    match Box::new(Region::new(rest), Driven { flow }) {
         Ok(driven) => Ok(settled(driven)),
         Err(_) => Err(ConfigError::NoMemory),
     }
@@ -185,8 +188,8 @@ pub extern "C" fn tcp_c_connection_listen(
     make(handle, block, config, rules, None, now)
 }
 
-/// The size of an end with its timers without its buffers and tables, in bytes. It is measured, by tests of the C library.
-const CONNECTION_SIZE: usize = 720;
+/// The size of an end with its timers and its window without its buffers and tables, in bytes. It is measured, by tests of the C library.
+const CONNECTION_SIZE: usize = 880;
 
 /// The least size of a block for a connection with this config, in bytes; 0 where a capacity isn't from 1 to 1,048,576, or
 /// the number of runs is above 4,096.

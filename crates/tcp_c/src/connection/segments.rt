@@ -1,11 +1,9 @@
 //! Segments that come in and go out, each at its time.
 ghost use Rattle.std.specs.Prelude.{◌≡◌, false, length, option_map, true};
 ghost use Rattle.tcp_conn.specs.Timers.{after_resend_first};
-ghost use Rattle.tcp_driver.specs.Driver.{after_arrival, at, way_of};
-ghost use Rattle.tcp_end.specs.Wired.{machine};
 ghost use Rattle.tcp_c.specs.Answers.{answer_of};
 ghost use Rattle.tcp_c.specs.ConnectionTrains.{after_train, train_number, train_reported, train_written};
-ghost use Rattle.tcp_c.specs.Connections.{arrival_told, emission_told, emitted_within, end_of, no_segment, report_told, segment_reported, segment_told, sent_number, taken_by, taken_report, used, written_within};
+ghost use Rattle.tcp_c.specs.Connections.{arrival_told, arrived_by, emission_told, emitted_within, end_of, no_segment, report_told, segment_reported, segment_told, sent_number, taken_by, taken_report, used, written_within};
 ghost use Rattle.tcp_c.specs.Pacing.{resend_number};
 
 use crate::answers::{
@@ -45,13 +43,13 @@ pub extern "C" fn tcp_c_connection_arrive(
 ) -> u32
     ensures answer { result ≡ answer_of (λ d. arrival_told (taken_by false d src.now.byte dst.now.byte bytes.now)) handle.old.held.end }
     ensures report { report.new ≡ report_told false src.now.byte dst.now.byte bytes.now handle.old.held.end }
-    ensures state { handle.new.held.end ≡ option_map (λ d. record { end = after_arrival machine d.end (at d.end now) src.now.byte dst.now.byte bytes.now (way_of d.end false) }) handle.old.held.end }
+    ensures state { handle.new.held.end ≡ option_map (arrived_by false now src.now.byte dst.now.byte bytes.now) handle.old.held.end }
 {
     let Some(mut driven) = handle.take() else {
         *report = no_arrive_report();
         return NO_END;
     };
-    let (answer, found) = arrival_told(driven.end.arrive(now, src.byte, dst.byte, bytes));
+    let (answer, found) = arrival_told(driven.flow.arrive(now, src.byte, dst.byte, bytes));
     handle.put(driven);
     *report = found;
     answer
@@ -70,13 +68,13 @@ pub extern "C" fn tcp_c_connection_arrive_vouched(
 ) -> u32
     ensures answer { result ≡ answer_of (λ d. arrival_told (taken_by true d src.now.byte dst.now.byte bytes.now)) handle.old.held.end }
     ensures report { report.new ≡ report_told true src.now.byte dst.now.byte bytes.now handle.old.held.end }
-    ensures state { handle.new.held.end ≡ option_map (λ d. record { end = after_arrival machine d.end (at d.end now) src.now.byte dst.now.byte bytes.now (way_of d.end true) }) handle.old.held.end }
+    ensures state { handle.new.held.end ≡ option_map (arrived_by true now src.now.byte dst.now.byte bytes.now) handle.old.held.end }
 {
     let Some(mut driven) = handle.take() else {
         *report = no_arrive_report();
         return NO_END;
     };
-    let (answer, found) = arrival_told(driven.end.arrive_vouched(now, src.byte, dst.byte, bytes));
+    let (answer, found) = arrival_told(driven.flow.arrive_vouched(now, src.byte, dst.byte, bytes));
     handle.put(driven);
     *report = found;
     answer
@@ -126,9 +124,9 @@ pub extern "C" fn tcp_c_connection_emit(
     out: &mut [u8],
     segment: &mut CConnectionSegment,
 ) -> u32
-    ensures answer { result ≡ answer_of (sent_number window (length out.old)) handle.old.held.end }
-    ensures bytes { out.new ≡ written_within window out.old handle.old.held.end }
-    ensures segment { segment.new ≡ segment_reported window (length out.old) handle.old.held.end }
+    ensures answer { result ≡ answer_of (sent_number now window (length out.old)) handle.old.held.end }
+    ensures bytes { out.new ≡ written_within now window out.old handle.old.held.end }
+    ensures segment { segment.new ≡ segment_reported now window (length out.old) handle.old.held.end }
     ensures state { handle.new.held.end ≡ option_map (emitted_within now window (length out.old)) handle.old.held.end }
 {
     *segment = no_segment();
@@ -139,7 +137,7 @@ pub extern "C" fn tcp_c_connection_emit(
         handle.put(driven);
         return LITTLE_ROOM;
     }
-    let sent = driven.end.emit(now, window, out);
+    let sent = driven.flow.emit(now, window, out);
     handle.put(driven);
     let (answer, found) = emission_told(sent);
     *segment = found;
@@ -160,9 +158,9 @@ pub extern "C" fn tcp_c_connection_emit_train(
     most: usize,
     train: &mut CTrain,
 ) -> u32
-    ensures answer { result ≡ answer_of (train_number window most (length out.old)) handle.old.held.end }
-    ensures bytes { out.new ≡ train_written window most out.old handle.old.held.end }
-    ensures train { train.new ≡ train_reported window most (length out.old) handle.old.held.end }
+    ensures answer { result ≡ answer_of (train_number now window most (length out.old)) handle.old.held.end }
+    ensures bytes { out.new ≡ train_written now window most out.old handle.old.held.end }
+    ensures train { train.new ≡ train_reported now window most (length out.old) handle.old.held.end }
     ensures state { handle.new.held.end ≡ option_map (after_train now window most (length out.old)) handle.old.held.end }
 {
     *train = no_train();
@@ -173,7 +171,7 @@ pub extern "C" fn tcp_c_connection_emit_train(
         handle.put(driven);
         return LITTLE_ROOM;
     }
-    let sent = driven.end.emit_train(now, window, out, most);
+    let sent = driven.flow.emit_train(now, window, out, most);
     handle.put(driven);
     let Some(sent) = sent else {
         return NOTHING_DUE;
@@ -193,7 +191,7 @@ pub extern "C" fn tcp_c_connection_resend_first(handle: &mut DrivenHandle, now: 
     let Some(mut driven) = handle.take() else {
         return NO_END;
     };
-    let again = driven.end.resend_first(now);
+    let again = driven.flow.resend_first(now);
     handle.put(driven);
     if again { DONE } else { NO_RULE }
 }

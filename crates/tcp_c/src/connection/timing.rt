@@ -1,10 +1,10 @@
 //! When a timer expires, and what then happens (RFC 9293, 3.10.8).
 ghost use Rattle.std.specs.Prelude.{◌≡◌, option_map};
-ghost use Rattle.tcp_driver.specs.Driver.{after_time, after_user_timeout, at};
+ghost use Rattle.tcp_driver.specs.Driver.{at};
 ghost use Rattle.tcp_driver.specs.Times.{expiry, next_expiry};
-ghost use Rattle.tcp_end.specs.Wired.{machine};
+ghost use Rattle.tcp_flow.specs.Flow.{after_user_limit};
 ghost use Rattle.tcp_c.specs.Answers.{done, due_number, answer_of, number_written};
-ghost use Rattle.tcp_c.specs.Connections.{limit_of, time_number, timer_number, timer_told};
+ghost use Rattle.tcp_c.specs.Connections.{limit_of, time_number, timed_out, timer_number, timer_told};
 
 use crate::answers::{DONE, NO_END, NOTHING_DUE};
 use crate::connection::driven_handle::DrivenHandle;
@@ -26,14 +26,14 @@ fn time_number(time: Option<u64>) -> u64
 #[unsafe(no_mangle)]
 pub extern "C" fn tcp_c_connection_poll_at(handle: &mut DrivenHandle, at: &mut u64) -> u32
     ensures answer { result ≡ answer_of (λ _. done) handle.old.held.end }
-    ensures at { at.new ≡ number_written (λ d. time_number (next_expiry d.end.times)) handle.old.held.end }
+    ensures at { at.new ≡ number_written (λ d. time_number (next_expiry d.flow.driving.times)) handle.old.held.end }
     ensures state { handle.new.held.end ≡ handle.old.held.end }
 {
     *at = 0;
     let Some(driven) = handle.take() else {
         return NO_END;
     };
-    let poll_at = driven.end.poll_at();
+    let poll_at = driven.flow.poll_at();
     handle.put(driven);
     *at = time_number(poll_at);
     DONE
@@ -59,15 +59,15 @@ pub extern "C" fn tcp_c_connection_timeout(
     now: u64,
     timer: &mut u32,
 ) -> u32
-    ensures answer { result ≡ answer_of (λ d. due_number (expiry d.end.times (at d.end now))) handle.old.held.end }
-    ensures timer { timer.new ≡ number_written (λ d. timer_told (expiry d.end.times (at d.end now))) handle.old.held.end }
-    ensures state { handle.new.held.end ≡ option_map (λ d. record { end = after_time machine d.end (at d.end now) }) handle.old.held.end }
+    ensures answer { result ≡ answer_of (λ d. due_number (expiry d.flow.driving.times (at d.flow.driving now))) handle.old.held.end }
+    ensures timer { timer.new ≡ number_written (λ d. timer_told (expiry d.flow.driving.times (at d.flow.driving now))) handle.old.held.end }
+    ensures state { handle.new.held.end ≡ option_map (timed_out now) handle.old.held.end }
 {
     *timer = 0;
     let Some(mut driven) = handle.take() else {
         return NO_END;
     };
-    let expired = driven.end.timeout(now);
+    let expired = driven.flow.timeout(now);
     handle.put(driven);
     let Some(expired) = expired else {
         return NOTHING_DUE;
@@ -85,17 +85,17 @@ pub extern "C" fn tcp_c_connection_tick(
     timer: &mut u32,
     next: &mut u64,
 ) -> u32
-    ensures answer { result ≡ answer_of (λ d. due_number (expiry d.end.times (at d.end now))) handle.old.held.end }
-    ensures timer { timer.new ≡ number_written (λ d. timer_told (expiry d.end.times (at d.end now))) handle.old.held.end }
-    ensures next { next.new ≡ number_written (λ d. time_number (next_expiry (after_time machine d.end (at d.end now)).times)) handle.old.held.end }
-    ensures state { handle.new.held.end ≡ option_map (λ d. record { end = after_time machine d.end (at d.end now) }) handle.old.held.end }
+    ensures answer { result ≡ answer_of (λ d. due_number (expiry d.flow.driving.times (at d.flow.driving now))) handle.old.held.end }
+    ensures timer { timer.new ≡ number_written (λ d. timer_told (expiry d.flow.driving.times (at d.flow.driving now))) handle.old.held.end }
+    ensures next { next.new ≡ number_written (λ d. time_number (next_expiry (timed_out now d).flow.driving.times)) handle.old.held.end }
+    ensures state { handle.new.held.end ≡ option_map (timed_out now) handle.old.held.end }
 {
     *timer = 0;
     *next = 0;
     let Some(mut driven) = handle.take() else {
         return NO_END;
     };
-    let (found, soonest) = driven.end.tick(now);
+    let (found, soonest) = driven.flow.tick(now);
     handle.put(driven);
     *next = time_number(soonest);
     let Some(found) = found else {
@@ -110,12 +110,12 @@ pub extern "C" fn tcp_c_connection_tick(
 #[unsafe(no_mangle)]
 pub extern "C" fn tcp_c_connection_set_user_timeout(handle: &mut DrivenHandle, limit: u64) -> u32
     ensures answer { result ≡ answer_of (λ _. done) handle.old.held.end }
-    ensures state { handle.new.held.end ≡ option_map (λ d. record { end = after_user_timeout d.end (limit_of limit) }) handle.old.held.end }
+    ensures state { handle.new.held.end ≡ option_map (λ d. record { flow = after_user_limit d.flow (limit_of limit) }) handle.old.held.end }
 {
     let Some(mut driven) = handle.take() else {
         return NO_END;
     };
-    driven.end.set_user_timeout(limit_of(limit));
+    driven.flow.set_user_timeout(limit_of(limit));
     handle.put(driven);
     DONE
 }

@@ -1,8 +1,10 @@
 //! An end that keeps its own times.
+mod congestion;
 mod making;
 mod rules;
 mod train;
 
+pub use congestion::{Congestion, CongestionWindow};
 pub use making::{connection_memory, connection_memory_with_runs};
 pub(crate) use rules::reach_of;
 pub use rules::Rules;

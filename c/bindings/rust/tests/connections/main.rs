@@ -156,6 +156,33 @@ fn a_user_timeout_is_set() {
     assert_eq!(end.status().ending, Ending::Aborted);
 }
 
+/// RFC 6928, 2: of segments of 1,000 bytes ten go out at first, of 536 before both SYNs have agreed on them (RFC 9293, 3.7.1). RFC 5681, 3.1,
+/// and RFC 9438, 4.8: after a timeout ssthresh is half of the 4,000 bytes in flight, and 0.7 of them, and the window a segment.
+#[test]
+fn a_congestion_window_is_chosen() {
+    let (now, greatest) = (seconds(10), 1 << 40);
+    let shown = |it: &Connection| {
+        let CongestionWindow { congestion, cwnd, ssthresh, smss, is_recovering } = it.congestion();
+        assert!(!is_recovering);
+        (congestion, cwnd, ssthresh, smss)
+    };
+    for (rule, ssthresh) in [(Congestion::Reno, 2000), (Congestion::Cubic, 2800)] {
+        let mut ends = [config(0).mss(1000), config(1).mss(1000)].map(|it| Connection::listen(&it, &Rules::new(), now).unwrap());
+        ends[0] = Connection::connect(&config(0).mss(1000), &Rules::new(), (ADDRS[1], 2), now).unwrap();
+        assert_eq!(shown(&ends[0]), (Congestion::None, greatest, greatest, 0));
+        assert!(ends[0].set_congestion(rule));
+        assert_eq!(shown(&ends[0]), (rule, 5360, greatest, 536));
+        exchange(&mut ends, now);
+        let end = &mut ends[0];
+        assert_eq!(shown(end), (rule, 10_000, greatest, 1000));
+        assert_eq!((end.send(now, &[7; 4000]), emitted(end, now).len()), (Ok(4000), 4));
+        assert!(!end.set_congestion(Congestion::None));
+        assert_eq!(end.handle_timeout(now + SECOND), Some(Expired::Retransmit));
+        assert_eq!(shown(end), (rule, 1000, ssthresh, 1000));
+        assert_eq!(emitted(end, now + SECOND).len(), 1);
+    }
+}
+
 /// RFC 5681, 3.2: the first segment goes out again at once; RFC 6298, 5.3: the timer starts anew with it, and with no later one.
 #[test]
 fn the_first_goes_out_again() {
@@ -467,7 +494,11 @@ fn any_calls_at_any_times() {
                     assert!(read[side] <= given[1 - side]);
                 }
                 10 if any.below(2) == 0 => ends[side].acknowledge(now),
-                10 => drop(ends[side].resend_first(now)),
+                10 if any.below(2) == 0 => drop(ends[side].resend_first(now)),
+                10 => {
+                    let rule = [Congestion::None, Congestion::Reno, Congestion::Cubic][any.below(3) as usize];
+                    assert!(!ends[side].set_congestion(rule) || ends[side].congestion().congestion == rule);
+                }
                 _ if any.below(200) == 0 => drop(ends[side].close(now)),
                 _ => assert!(ends[side].consume(now, 0).map_or(true, |taken| taken == 0)),
             }
