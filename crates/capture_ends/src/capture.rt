@@ -172,8 +172,38 @@ fn read_records<I: Input, W: Watcher, A: Allocator + Copy>(
     })
 }
 
-/// Reads the sections of a capture in the pcapng form. What is held is the state of each connection, the interfaces of a
-/// section, and the block that is read.
+/// Reads the sections of a capture in the pcapng form, the first of which may have begun. What is held is the state of each
+/// connection, the interfaces of a section, and the block that is read.
+fn read_from<I: Input, W: Watcher, A: Allocator + Copy>(
+    alloc: A,
+    section: &mut Section<A>,
+    input: &mut I,
+    window: &mut Window<A>,
+    watcher: &W,
+) -> Result<Capture<A>, CaptureError>
+    ensures packets { IfOk result (λ c. IfSome (I.remaining input.old) (λ bytes. c.packets ≡ length (section_wires section.old (window.old ++ bytes)))) }
+    ensures cut { IfOk result (λ c. (c.is_cut ≡ false) ↔ (window.new ≡ [])) }
+{
+    let mut connections = Connections::new(alloc);
+    let mut frames = Frames {
+        connections: &mut connections,
+        alloc,
+        link: None,
+        watcher,
+    };
+    let packets = take_sections(section, input, window, &mut frames)?;
+    let link = frames.link;
+    let is_lossy = section.is_lossy();
+    Ok(Capture {
+        link,
+        connections,
+        packets,
+        is_cut: !window.bytes().is_empty(),
+        is_lossy,
+    })
+}
+
+/// Reads the sections of a capture in the pcapng form.
 fn read_sections<I: Input, W: Watcher, A: Allocator + Copy>(
     alloc: A,
     input: &mut I,
@@ -183,23 +213,8 @@ fn read_sections<I: Input, W: Watcher, A: Allocator + Copy>(
     ensures packets { IfOk result (λ c. IfSome (I.remaining input.old) (λ bytes. c.packets ≡ length (section_wires start (window.old ++ bytes)))) }
     ensures cut { IfOk result (λ c. (c.is_cut ≡ false) ↔ (window.new ≡ [])) }
 {
-    let mut connections = Connections::new(alloc);
     let mut section = Section::new(alloc);
-    let mut frames = Frames {
-        connections: &mut connections,
-        alloc,
-        link: None,
-        watcher,
-    };
-    let packets = take_sections(&mut section, input, window, &mut frames)?;
-    let link = frames.link;
-    Ok(Capture {
-        link,
-        connections,
-        packets,
-        is_cut: !window.bytes().is_empty(),
-        is_lossy: section.is_lossy(),
-    })
+    read_from(alloc, &mut section, input, window, watcher)
 }
 
 /// Reads what is behind the form of a capture to its end, and judges both ends of each of its connections.
