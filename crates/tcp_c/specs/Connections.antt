@@ -75,8 +75,12 @@ abbrev pub after_opening : State → Option Peer → State
 after_opening s (Some peer) = after_connect s (record { addr = peer.addr; port = peer.port })
 after_opening s None = after_listen s
 
+-- without a congestion window, as it begins
+unfoldable pub driven_from : Driving (Wired Region) → ℕ → Driven
+driven_from d now = record { flow = new_flowing d Unlimited now }
+
 abbrev pub opens : State → Opening → Driven
-opens s o = record { flow = new_flowing (driven (after_opening s o.peer) o.rules o.limits o.now) Unlimited o.now }
+opens s o = driven_from (driven (after_opening s o.peer) o.rules o.limits o.now) o.now
 
 abbrev pub made_of : CConfig → CConnectionRules → Option Peer → ℕ → Driven
 made_of c r peer now =

@@ -7,7 +7,7 @@ ghost use Rattle.tcp_halves.specs.Config.{config_error_number, HasBadCapacity, H
 ghost use Rattle.tcp_end.specs.Wired.{connected, listening};
 ghost use Rattle.tcp_c.specs.Answers.{done, bad_rules, bad_runs, in_use, answer_of};
 ghost use Rattle.tcp_c.specs.Configs.{config_of, connection_room_of, runs_of, HasBadRuns, HasGoodRuns};
-ghost use Rattle.tcp_c.specs.Connections.{IsFree, Makes, made_of, opened, opens, rules_of};
+ghost use Rattle.tcp_c.specs.Connections.{IsFree, Makes, driven_from, made_of, opened, opens, rules_of};
 
 use crate::answers::{BAD_RULES, BAD_RUNS, DONE, IN_USE, NO_END};
 use crate::connection::driven::Driven;
@@ -57,6 +57,16 @@ fn opened(end: Endpoint<Region>, opening: Opening) -> Result<End<Region>, CallEr
     }
 }
 
+/// A connection without a congestion window, as it begins.
+#[tactic(auto, unfolding(crate::specs::Connections::driven_from))]
+fn driven_from(end: End<Region>, now: u64) -> Driven
+    ensures { result ≡ driven_from end now }
+{
+    Driven {
+        flow: Flow::new(end, AnyWindow::Unlimited, now),
+    }
+}
+
 /// The box with the allocator that needs no memory: its region isn't needed any more.
 fn settled(driven: Box<Driven, Region>) -> Box<Driven, Still>
     ensures { result.value ≡ driven.value }
@@ -91,8 +101,7 @@ fn boxed(
     let Ok(end) = opened(end, opening) else {
         return Err(ConfigError::NoMemory);
     };
-    let flow = Flow::new(end, AnyWindow::Unlimited, opening.now);
-    match Box::new(Region::new(rest), Driven { flow }) {
+    match Box::new(Region::new(rest), driven_from(end, opening.now)) {
         Ok(driven) => Ok(settled(driven)),
         Err(_) => Err(ConfigError::NoMemory),
     }

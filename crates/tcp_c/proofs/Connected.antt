@@ -1,0 +1,54 @@
+-- What a call makes of the connection that a handle holds.
+use Rattle.std.proofs.Common.{◌≡◌, ◌≤◌, ℕ, Bool, false, Option, Some, None, sym, ap, ◌∙◌, rules}
+use Rattle.std.specs.Prelude.{nat_lt, option_map, if◌then◌else◌, Result, Ok, Err}
+use Rattle.region_heap.specs.declared.region.Region.{Region}
+use Rattle.tcp_congestion.specs.AnyWindow.{any_control}
+use Rattle.tcp_congestion.specs.declared.any_window.AnyWindow.{AnyWindow}
+use Rattle.tcp_conn.specs.declared.emit.transmit.TheConstants.{EMIT_ROOM}
+use Rattle.tcp_end.specs.declared.wired.Wired.{Wired}
+use Rattle.tcp_end.specs.Wired.{driven, driven_if, machine}
+use Rattle.tcp_flow.specs.Flow.{Flowing, emitted}
+use Rattle.tcp_timing.specs.declared.rules.Rules.{Rules}
+use Rattle.tcp_driver.specs.declared.limits.Limits.{Limits}
+use Rattle.tcp_driver.specs.Driver.{Driving}
+use Rattle.tcp_halves.specs.declared.link.Peer.{Peer}
+use Rattle.tcp_conn.specs.declared.outcome.CallError.{CallError}
+use Rattle.tcp_conn.specs.Calls.{opening_answer}
+use Rattle.tcp_conn.specs.State.{State}
+use Rattle.tcp_c.specs.Connections.{after_opening, emitted_within, opened_by, rested_at}
+use Rattle.tcp_c.specs.declared.connection.driven.Driven.{Driven}
+
+abbrev Flows : Type 0
+Flows = Flowing (Wired Region) AnyWindow
+
+-- it is put back as the call has left it
+pub moved_by : (does : Driven → Driven) (held new : Option Driven) (d after : Driven) → held ≡ Some d → new ≡ Some after → after ≡ does d
+    → new ≡ option_map does held
+moved_by does held new d after h n e = n ∙ ap (λ (x : Driven). Some x) e ∙ sym (ap (λ (x : Option Driven). option_map does x) h)
+
+abbrev pub of : Flows → Driven
+of f = record { flow = f }
+
+pub with_flow : (f g : Flows) → f ≡ g → of f ≡ of g
+with_flow f g e = ap of e
+
+-- where there is room for a segment
+pub emitted_by : (now window room : ℕ) (d : Driven) (f : Flows) → EMIT_ROOM ≤ room → f ≡ emitted machine any_control (rested_at now d) now window
+    → of f ≡ emitted_within now window room d
+emitted_by now window room d f enough e =
+    let little : nat_lt room EMIT_ROOM ≡ false = search rules in
+    ap of e ∙ sym (ap (λ (b : Bool). if b then d else of (emitted machine any_control (rested_at now d) now window)) little)
+
+-- an opening that wasn't refused is what it makes
+abbrev made-in : Driving (Wired Region) → Result (Driving (Wired Region)) CallError → Driving (Wired Region)
+made-in other (Ok made) = made
+made-in other (Err error) = other
+
+if-made : (answer : Result (Unit {0}) CallError) (made d : Driving (Wired Region)) → driven_if answer made ≡ Ok d → d ≡ made
+if-made (Ok answer) made d e = sym (ap (made-in made) e)
+if-made (Err error) made d e = absurd (cc)
+
+pub opened_as : (s : State) (peer : Option Peer) (timeouts : Rules) (limits : Limits) (now : ℕ) (d : Driving (Wired Region))
+    → opened_by s peer timeouts limits now ≡ Ok d → d ≡ driven (after_opening s peer) timeouts limits now
+opened_as s None timeouts limits now d e = if-made (opening_answer s) _ d e
+opened_as s (Some peer) timeouts limits now d e = if-made (opening_answer s) _ d e
