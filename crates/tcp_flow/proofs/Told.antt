@@ -8,7 +8,12 @@ use Rattle.tcp_driver.specs.declared.machine.Way.{Way}
 use Rattle.tcp_driver.specs.Driver.{Driving, after_arrival, after_taken, arrival_answer, at, is_withheld, way_of}
 use Rattle.tcp_driver.specs.Machine.{Machine}
 use Rattle.tcp_congestion.specs.Control.{Control}
-use Rattle.tcp_flow.specs.Flow.{Flowing, after_segment, heard, told}
+use Rattle.tcp_flow.specs.Flow.{Flowing, after_segment, told}
+
+-- what became of an arrival
+abbrev pub heard : {S W T : Type 0} → Machine S → (S → Option ℕ) → Control W → Flowing S W → ℕ → Taken T → ℕ → Flowing S W
+heard m smss_of c f una (Done report answer) now = told m smss_of c f una report now
+heard m smss_of c f una other now = f
 
 -- what was taken was told, and else nothing has changed
 told-is : {S W T : Type 0} (m : Machine S) (smss_of : S → Option ℕ) (c : Control W) (f : Flowing S W) (una now : ℕ) (after : Driving S) (report : Report) (answer : T) (bursting withheld : Bool)

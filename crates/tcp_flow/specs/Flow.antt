@@ -4,8 +4,6 @@ use Rattle.std.specs.Prelude.{◌≡◌, ℕ, ◌+◌, ◌-◌, ◌*◌, ◌<◌
 use Rattle.tcp_timing.specs.declared.round_trip.RoundTrip.{RoundTrip}
 use Rattle.tcp_congestion.specs.Control.{Control}
 use Rattle.tcp_congestion.specs.Sizes.{latest}
-use Rattle.tcp_driver.specs.declared.driver.Taken.{Taken}
-use Rattle.tcp_driver.specs.declared.driver.Taken.TheVariants.{Done}
 use Rattle.tcp_driver.specs.declared.machine.Report.{Report}
 use Rattle.tcp_driver.specs.declared.machine.Row.{Row}
 use Rattle.tcp_driver.specs.declared.machine.Sent.{Sent}
@@ -84,10 +82,6 @@ settled smss_of c f = record f { window = agreed_by c f.window (smss_of f.drivin
 abbrev pub told : {S W : Type 0} → Machine S → (S → Option ℕ) → Control W → Flowing S W → ℕ → Report → ℕ → Flowing S W
 told m smss_of c f una report now =
     if c.limits f.window then settled smss_of c (after_report m c (record f { shut = shut_by report.window f.shut }) una report now) else f
-
-abbrev pub heard : {S W T : Type 0} → Machine S → (S → Option ℕ) → Control W → Flowing S W → ℕ → Taken T → ℕ → Flowing S W
-heard m smss_of c f una (Done report answer) now = told m smss_of c f una report now
-heard m smss_of c f una other now = f
 
 abbrev pub after_segment : {S W : Type 0} → Machine S → (S → Option ℕ) → Control W → Flowing S W → ℕ → List ℕ → List ℕ → List ℕ → Bool → Flowing S W
 after_segment m smss_of c f now src dst bytes vouched =

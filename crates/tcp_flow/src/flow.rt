@@ -75,7 +75,10 @@ impl<C: Paced + Drop, W: Congestion + Drop> Flow<C, W> {
         let una = self.driver.core().una();
         let taken = self.driver.arrive(now, src, dst, bytes);
         if self.window.limits() {
-            self.hear(una, &taken, now);
+            if let Taken::Done(report, _) = &taken {
+                let report = *report;
+                self.told(una, report, now);
+            }
         }
         taken
     }
@@ -94,26 +97,18 @@ impl<C: Paced + Drop, W: Congestion + Drop> Flow<C, W> {
         let una = self.driver.core().una();
         let taken = self.driver.arrive_vouched(now, src, dst, bytes);
         if self.window.limits() {
-            self.hear(una, &taken, now);
+            if let Taken::Done(report, _) = &taken {
+                let report = *report;
+                self.told(una, report, now);
+            }
         }
         taken
     }
 
-    /// What became of a segment is told to the window.
-    #[inline(never)]
-    fn hear(&mut self, una: u64, taken: &Taken<C::Arriving>, now: u64)
-        requires { W.control.limits self.old.window ≡ true }
-        ensures { self.new ≡ heard C.machine C.smss_of W.control self.old una taken.now now }
-    {
-        if let Taken::Done(report, _) = taken {
-            let report = *report;
-            self.told(una, report, now);
-        }
-    }
-
-    ghost use Rattle.tcp_flow.specs.Flow.{after_duplicate, after_progress, after_report, heard, settled, srtt_of, told, with_first};
+    ghost use Rattle.tcp_flow.specs.Flow.{after_duplicate, after_progress, after_report, settled, srtt_of, told, with_first};
 
     /// What came is told to the window.
+    #[inline(never)]
     fn told(&mut self, una: u64, report: Report, now: u64)
         requires { W.control.limits self.old.window ≡ true }
         ensures { self.new ≡ told C.machine C.smss_of W.control self.old una report now }
@@ -210,29 +205,13 @@ impl<C: Paced + Drop, W: Congestion + Drop> Flow<C, W> {
         ensures stays_own { StaysInOwn C.machine W.control (rested C.machine W.control self.old now) window result }
         ensures state { self.new ≡ emitted C.machine W.control (rested C.machine W.control self.old now) now window }
     {
-        if !self.window.limits() {
-            return self.driver.emit(now, window, out);
-        }
-        self.emit_limited(now, window, out)
-    }
-
-    /// The same under a window that is one.
-    fn emit_limited(&mut self, now: u64, window: u64, out: &mut [u8]) -> Option<Sent>
-        requires room { C.machine.room ≤ length out.old }
-        requires limits { W.control.limits self.old.window ≡ true }
-        ensures sent { result ≡ sent_of C.machine self.old.driving.core (allowed W.control (rested C.machine W.control self.old now) window) }
-        ensures most { IfSome result (λ sent. sent.len ≤ C.machine.room) }
-        ensures written { out.new ≡ written_of C.machine self.old.driving.core (allowed W.control (rested C.machine W.control self.old now) window) out.old }
-        ensures stays { StaysInWindow C.machine W.control (rested C.machine W.control self.old now) window result }
-        ensures stays_own { StaysInOwn C.machine W.control (rested C.machine W.control self.old now) window result }
-        ensures state { self.new ≡ emitted C.machine W.control (rested C.machine W.control self.old now) now window }
-    {
-        self.rest(now);
-        let window = self.allowed(window);
+        let window = self.reach(now, window);
         let sent = self.driver.emit(now, window, out);
-        if let Some(sent) = &sent {
-            if sent.count > 0 {
-                self.sent_at = now;
+        if self.window.limits() {
+            if let Some(sent) = &sent {
+                if sent.count > 0 {
+                    self.sent_at = now;
+                }
             }
         }
         sent
@@ -252,38 +231,36 @@ impl<C: Paced + Drop, W: Congestion + Drop> Flow<C, W> {
         ensures written { out.new ≡ C.machine.written_row self.old.driving.core (allowed W.control (rested C.machine W.control self.old now) window) most out.old }
         ensures state { self.new ≡ emitted_as_one C.machine W.control (rested C.machine W.control self.old now) now window most (length out.old) }
     {
-        if !self.window.limits() {
-            return self.driver.emit_train(now, window, out, most);
-        }
-        self.emit_train_limited(now, window, out, most)
-    }
-
-    /// The same under a window that is one.
-    fn emit_train_limited(
-        &mut self,
-        now: u64,
-        window: u64,
-        out: &mut [u8],
-        most: usize,
-    ) -> Option<C::Train>
-        requires room { C.machine.room ≤ length out.old }
-        requires limits { W.control.limits self.old.window ≡ true }
-        ensures train { result ≡ C.train_answer self.old.driving.core (allowed W.control (rested C.machine W.control self.old now) window) most (length out.old) }
-        ensures written { out.new ≡ C.machine.written_row self.old.driving.core (allowed W.control (rested C.machine W.control self.old now) window) most out.old }
-        ensures state { self.new ≡ emitted_as_one C.machine W.control (rested C.machine W.control self.old now) now window most (length out.old) }
-    {
-        self.rest(now);
-        let window = self.allowed(window);
+        let window = self.reach(now, window);
         let train = self.driver.emit_train(now, window, out, most);
-        if let Some(train) = &train {
-            if C::numbers(train) > 0 {
-                self.sent_at = now;
+        if self.window.limits() {
+            if let Some(train) = &train {
+                if C::numbers(train) > 0 {
+                    self.sent_at = now;
+                }
             }
         }
         train
     }
 
+    /// How far what goes out may reach past SND.UNA, behind an idle time of which the window is told.
+    #[inline(always)]
+    fn reach(&mut self, now: u64, window: u64) -> u64
+        ensures value { result ≡ allowed W.control (rested C.machine W.control self.old now) window }
+        ensures own { result ≤ window }
+        ensures most { W.control.limits self.new.window ≡ true → result ≤ W.control.cwnd self.new.window + 2 * W.control.smss self.new.window }
+        ensures driving { self.new.driving ≡ self.old.driving }
+        ensures rested { self.new ≡ rested C.machine W.control self.old now }
+    {
+        if !self.window.limits() {
+            return window;
+        }
+        self.rest(now);
+        self.allowed(window)
+    }
+
     /// How far what goes out may reach past SND.UNA.
+    #[inline(never)]
     fn allowed(&self, window: u64) -> u64
         requires { W.control.limits self.now.window ≡ true }
         ensures value { result ≡ allowed W.control self.now window }
@@ -294,8 +271,10 @@ impl<C: Paced + Drop, W: Congestion + Drop> Flow<C, W> {
     }
 
     /// The window is told of an idle time.
+    #[inline(never)]
     fn rest(&mut self, now: u64)
         requires { W.control.limits self.old.window ≡ true }
+        ensures driving { self.new.driving ≡ self.old.driving }
         ensures rested { self.new ≡ rested C.machine W.control self.old now }
         ensures limits { W.control.limits self.new.window ≡ true }
     {
