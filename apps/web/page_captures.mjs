@@ -367,7 +367,7 @@ async function too_large(tab, expect, open) {
         let core`);
     const memory = await open("memory.pcap", stored("plain-B"));
     expect("no memory", [memory.is_shown, memory.verdict], [false, `memory.pcap is open. ${TOLD}`]);
-    await tab.run(changed_program, "MOST_WHOLE = 1 << 30", "MOST_WHOLE = 100");
+    await tab.run(changed_program, "MOST_WHOLE = 1 << 29", "MOST_WHOLE = 100");
     const whole = await open("whole.pcap", stored("plain-B"));
     expect("too large a file", [whole.is_shown, whole.verdict], [false, `whole.pcap is open. ${TOLD}`]);
     await tab.run(changed_program, "MOST_KEPT = 2000000", "MOST_KEPT = 10");

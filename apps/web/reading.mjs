@@ -5,8 +5,8 @@ import { capture_reader, line_of } from "./captures.mjs";
 import { as_sent, grouping } from "./connections.mjs";
 
 const PIECE = 1 << 22;
-// The module has all of a capture in its memory, of which it has at most four times as much.
-const MOST_WHOLE = 1 << 30;
+// The module has all of a capture in its memory, which is of at most 4 GiB.
+const MOST_WHOLE = 1 << 29;
 // What the page gets of a large capture: so many letters of the list, and segments of a ladder; and of how many segments there are ladders.
 const MOST_LETTERS = 100000, MOST_DRAWN = 200000, MOST_KEPT = 2000000;
 
