@@ -1,4 +1,4 @@
-// How the page reads a large capture, in headless Chromium: how long until its first connection is shown and until all are judged, and the
+// How the page reads a large capture, in headless Chromium: how long until its verdict is shown and until a ladder is drawn, and the
 // longest time that the page's thread was blocked meanwhile. The capture is made here: one connection with two fifths of its text, 40 with as
 // much together, and many with 10 kB each, some of which send another byte at a position where one went before; the page has to find
 // each of those.
@@ -111,15 +111,15 @@ async function used(tab, is_over) {
 // In the page: the gaps between turns of its thread, and the time until words are shown.
 function watch() {
     const start = performance.now();
-    globalThis.watched = { blocked: 0, last: start, read: null, shown: null, judged: null, is_over: false };
+    globalThis.watched = { blocked: 0, last: start, read: null, shown: null, drawn: null, is_over: false };
     const { watched } = globalThis;
     const tick = () => {
         const now = performance.now();
         watched.blocked = Math.max(watched.blocked, now - watched.last);
         watched.last = now;
-        watched.read ??= document.getElementById("reading-told").textContent.startsWith("Segments") ? now - start : null;
+        watched.read ??= document.getElementById("reading-told").textContent.endsWith("being judged") ? now - start : null;
         watched.shown ??= document.getElementById("said").textContent.includes(" is open.") ? now - start : null;
-        watched.judged ??= watched.shown !== null && document.getElementById("reading").hidden ? now - start : null;
+        watched.drawn ??= watched.shown !== null && document.getElementById("judged").getAttribute("aria-busy") === "false" ? now - start : null;
         if (!watched.is_over) {
             setTimeout(tick, 0);
         }
@@ -138,18 +138,18 @@ try {
     await tab.run(() => { document.getElementById("listing-part").open = true; });
     const idle = await used(tab, (found, turns) => turns === TURNS);
     await tab.choose_file("#capture", file);
-    const found = await used(tab, ({ judged }) => judged !== null);
+    const found = await used(tab, ({ drawn }) => drawn !== null);
     const shown = await tab.run(() => ({
-        told: document.getElementById("judged-told").textContent.split(". ")[0], listed: document.getElementById("segments-told").textContent,
+        told: document.getElementById("verdict-told").textContent, listed: document.getElementById("segments-told").textContent,
         found: [...document.getElementById("connection").options].filter(option => option.text.endsWith("1 finding")).length,
     }));
     const seconds = time => time === null ? "never" : `${(time / 1000).toFixed(1)} s`;
-    console.log(`${(made.size / 1e6).toFixed(0)} MB, ${made.connections} connections: read after ${seconds(found.read)}, the first shown after ` +
-        `${seconds(found.shown)}, all judged after ${seconds(found.judged)}`);
+    console.log(`${(made.size / 1e6).toFixed(0)} MB, ${made.connections} connections: read after ${seconds(found.read)}, the verdict shown ` +
+        `after ${seconds(found.shown)}, a ladder drawn after ${seconds(found.drawn)}`);
     console.log(`The page's thread was blocked for ${Math.round(found.blocked)} ms at most, and for ${Math.round(idle.blocked)} ms before; ` +
         `the slowest of ${found.turns} steps through a script took ${Math.round(found.slowest)} ms, and ${Math.round(idle.slowest)} ms before`);
-    console.log(`${shown.told}. ${shown.listed}`);
-    is_well = found.judged !== null && shown.found === made.planted && shown.told.startsWith("No finding") && tab.errors.length === 0;
+    console.log(`${shown.told} ${shown.listed}`);
+    is_well = found.drawn !== null && shown.found === made.planted && shown.told.includes(`are broken at ${made.planted} of the `) && tab.errors.length === 0;
     console.log(`${shown.found} of ${made.planted} planted findings are found${tab.errors.length > 0 ? `; errors: ${tab.errors.join()}` : ""}`);
 } finally {
     await tab.close();

@@ -85,8 +85,9 @@ function joined(one, two) {
     return both;
 }
 
-// Reads a capture in pieces, and calls back with each segment { source, target, bytes, time }. The time is in nanoseconds since
-// the first packet of the file, null where the file has none of it. Other packets are left out, and counted.
+// Reads a capture in pieces, and calls back with each segment { source, target, bytes, time, packet }. The time is in nanoseconds since
+// the first packet of the file, null where the file has none of it, and packet its number in the file. Other packets are left out, and
+// counted.
 export function capture_reader(on_segment) {
     let form = null, rest = new Uint8Array(0), place = 0, packets = 0, left_out = 0, first = null, is_damaged = false;
 
@@ -99,7 +100,7 @@ export function capture_reader(on_segment) {
         const before = LINKS.get(link), since = since_first(time);
         const segment = before === undefined ? null : segment_in(bytes.subarray(start + before, Math.max(start + before, start + length)));
         packets += 1;
-        segment === null ? left_out += 1 : on_segment({ ...segment, time: since });
+        segment === null ? left_out += 1 : on_segment({ ...segment, time: since, packet: packets });
     }
 
     // The size of the record here; 0 while it isn't whole, null where it is damaged.

@@ -156,12 +156,16 @@ function damages() {
 function pieces() {
     const whole = Uint8Array.from(one_section(false).flat());
     for (const size of [1, 7, 64]) {
-        const lines = [], reader = capture_reader(segment => lines.push([line_of(segment), segment.time]));
+        const lines = [], numbers_seen = [], reader = capture_reader(segment => {
+            lines.push([line_of(segment), segment.time]);
+            numbers_seen.push(segment.packet);
+        });
         for (let place = 0; place < whole.length; place += size) {
             reader.take(whole.slice(place, place + size));
         }
         const asked = SECTION.lines.map((one, place) => [one, SECTION.times[place]]);
         expect(`in pieces of ${size}`, [lines, reader.end()], [asked, { packets: 7, left_out: 1, fault: null }]);
+        expect(`the packets' numbers, in pieces of ${size}`, numbers_seen, [1, 2, 3, 4, 5, 6]);
     }
 }
 

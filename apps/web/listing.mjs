@@ -12,7 +12,7 @@ function with_addresses(text) {
 
 const MENDED = "  (its checksum was left to a device, and is made right)";
 
-export function listing({ part, list, told, shown }, core_of, on_typing) {
+export function listing({ list, told, shown }, core_of, on_typing) {
     // With a word at the lines, by their numbers, whose checksum is made right.
     function show(mended = []) {
         if (list.value.trim() === "") {
@@ -32,16 +32,14 @@ export function listing({ part, list, told, shown }, core_of, on_typing) {
     });
     return {
         // The segments of a capture, or the first of them where it has many.
-        show_capture({ name, lines, mended, count, left_out, fault, connections, total }) {
+        show_capture({ name, lines, mended, count, left_out, fault }) {
             list.value = lines.map(line => `${line}\n`).join("");
-            part.open = true;
             show(mended);
             told.textContent = [
                 `${name}: ${count} segments${left_out === 0 ? "" : `, ${left_out} packets without a whole IPv4 TCP segment left out`}.`,
                 fault === null ? "" : `The file is ${fault}.`,
                 mended.length === 0 ? "" : `${mended.length} of the list's checksums ${mended.length === 1 ? "was" : "were"} left to a device, and made right.`,
                 lines.length === count ? "" : `The list has the first ${lines.length}.`,
-                connections.length === total ? "" : `Of ${total} connections the first ${connections.length} are listed, and then those with findings.`,
             ].filter(words => words !== "").join(" ");
         },
     };

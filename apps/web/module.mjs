@@ -74,26 +74,28 @@ export async function calls(module) {
         return false;
     }
 
-    // One call: the script, then the room of the text, and what is left is the block. It answers how long the text is, too.
-    function tried(run, bytes, out, room) {
-        const words = new DataView(exports.memory.buffer);
+    // One call: the script and what comes behind it, then the room of the text, and what is left is the block. It answers how long the
+    // text is, too.
+    function tried(run, bytes, more, out, room) {
+        const words = new DataView(exports.memory.buffer), memory = new Uint8Array(exports.memory.buffer);
         words.setBigUint64(Number(record), out + room, true);
         words.setBigUint64(Number(record) + 8, (end() - out - room) / BLOCK_UNIT * BLOCK_UNIT, true);
-        new Uint8Array(exports.memory.buffer).set(bytes, Number(start));
-        const answer = run(record, start, BigInt(bytes.length), out, room, count);
+        memory.set(bytes, Number(start));
+        memory.set(more, Number(start) + bytes.length);
+        const answer = run(record, start, BigInt(bytes.length + more.length), out, room, count);
         return { answer, told: new DataView(exports.memory.buffer).getBigUint64(Number(count), true) };
     }
 
     // Where the block or the room is too small the call is made again, over more memory, as long as there is more.
-    function call(run, script) {
+    function call(run, script, more = new Uint8Array(0)) {
         const bytes = typeof script === "string" ? encoder.encode(script) : script;
-        const out = start + rounded(BigInt(bytes.length) + 1n);
+        const out = start + rounded(BigInt(bytes.length + more.length) + 1n);
         let wanted = 0n;
         for (;;) {
             const least = wanted + BLOCK_UNIT;
             if (out + least < end()) {
                 const part = (end() - out) / PARTS / BLOCK_UNIT * BLOCK_UNIT, room = wanted > part ? wanted : part;
-                const { answer, told } = tried(run, bytes, out, room);
+                const { answer, told } = tried(run, bytes, more, out, room);
                 if (answer !== NO_MEMORY && answer !== NO_ROOM) {
                     const text = TOLD.includes(answer) ? new Uint8Array(exports.memory.buffer, Number(out), Number(told)) : new Uint8Array(0);
                     return { answer, text: decoder.decode(text) };
@@ -128,11 +130,9 @@ export async function calls(module) {
         // The report of a capture that was taken at this address, or elsewhere where it is empty, in words or as lines of JSON. The address
         // lies behind the file.
         capture(file, place, is_json) {
-            const word = encoder.encode(place), bytes = new Uint8Array(file.length + word.length);
-            bytes.set(file);
-            bytes.set(word, file.length);
+            const word = encoder.encode(place);
             return call((record, at, length, out, room, count) => exports.tcp_web_capture(record, at, length - BigInt(word.length),
-                at + length - BigInt(word.length), BigInt(word.length), is_json ? 1 : 0, 0, out, room, count), bytes);
+                at + length - BigInt(word.length), BigInt(word.length), is_json ? 1 : 0, 0, out, room, count), file, word);
         },
         // By which rule the segment is judged that an event delivers, counted from 0.
         rule: (script, number) => call(

@@ -1,11 +1,11 @@
 // Runs every script of the cases in the module, and compares byte for byte with the stored reports.
 // node apps/web/module_test.mjs [MODULE]
+import { spawnSync } from "node:child_process";
 import fs from "node:fs";
+import os from "node:os";
 import path from "node:path";
 import { fileURLToPath } from "node:url";
 import { calls, compiled_of, WELL, REFUSED, FAULT, NO_SEGMENT, NO_ADDRESS, NOTHING_JUDGED, BAD_CAPTURE } from "./module.mjs";
-import { capture_lines } from "./captures.mjs";
-import { connections_of, findings_of, log_of } from "./connections.mjs";
 import { long_script } from "./cases.mjs";
 
 const here = path.dirname(fileURLToPath(import.meta.url));
@@ -13,7 +13,7 @@ const at = (...parts) => path.join(here, "..", "..", ...parts);
 const module = await compiled_of(fs.readFileSync(process.argv[2] ?? at("apps/web/out/tcp_web.wasm")));
 let passed = 0, failed = 0;
 // Asking for the rule of each event, or the numbers after it, replays the script each time: of long ones they aren't asked for.
-const LONG = 20000, LEAST_MET = 8, LEAST_CAPTURES = 8, MOST_SHOWN = 200;
+const LONG = 20000, LEAST_MET = 8, LEAST_CAPTURES = 8, LEAST_REPORTS = 100, MOST_SHOWN = 200;
 
 function expect(name, found, wanted) {
     if (found === wanted) {
@@ -185,28 +185,29 @@ function expect_judged(module_calls) {
     expect("a log that isn't complete", told(module_calls.judge(log, false)), `${REFUSED} 0 ${form}`);
     expect("a log's bad line", told(module_calls.judge("# one\nwent 1.2.3.4 5.6.7.8 00\ncame 1.2.3.4 00\n", true)), `${FAULT} 3 `);
     expect("no log", told(module_calls.judge("", false)), `${REFUSED} 0 ${UNJUDGED}segments 0 findings 0\n`);
-    expect("a report's findings", [...findings_of(all).keys()].join(), "10,20,22,24,26,28,30,32,34,36,38,40");
 }
 
-// A line of a list with the checksum that is left to a device: the sum over the pseudo-header alone (RFC 9293, 3.1).
-function with_sum_left(line) {
-    const [source, target, hex] = line.split(" "), bytes = Buffer.from(hex, "hex");
-    const pseudo = Buffer.from([...source.split("."), ...target.split("."), 0, 6, bytes.length >> 8, bytes.length & 255].map(Number));
-    bytes.writeUInt16BE([0, 2, 4, 6, 8, 10].reduce((sum, place) => sum + pseudo.readUInt16BE(place), 0) % 0xffff, 16);
-    return `${source} ${target} ${bytes.toString("hex")}`;
-}
-
-// Captures of three stacks that break no rule: the name says at which end each was taken.
-function expect_clean(module_calls) {
-    for (const [name, taken, count] of [["kernel-A", "A", 23], ["gVisor-B", "B", 33], ["plain-B", "B", 24]]) {
-        const { lines } = capture_lines(fs.readFileSync(at("checks/judge/data", `${name}.pcap`))), connections = connections_of(lines);
-        expect(`${name}: connections`, connections.length, 1);
-        for (const end of ["A", "B"]) {
-            const { answer, text } = module_calls.judge(log_of(connections[0], end).log, end === taken);
-            expect(`${name}: the verdict on ${end}`, [answer, text].join(), [WELL, `${end === taken ? "" : UNJUDGED}segments ${count} findings 0\n`].join());
+// Captures whose reports are worked out by hand (checks/judge/captures.py), and captures of three stacks that break no rule: the name says
+// at which end each was taken.
+function expect_reports(module_calls) {
+    const folder = fs.mkdtempSync(path.join(os.tmpdir(), "captures-"));
+    const { status, stderr } = spawnSync("python3", [at("checks/judge/captures.py"), "--cases", folder], { encoding: "utf8" });
+    expect("captures.py", `${status}${stderr}`, "0");
+    const names = fs.readdirSync(folder).filter(name => name.endsWith(".stdout")).map(name => name.slice(0, -".stdout".length));
+    let count = 0;
+    for (const name of names) {
+        const [file, words, report] = ["", ".args", ".stdout"].map(ending => fs.readFileSync(path.join(folder, `${name}${ending}`)));
+        const options = words.toString("utf8").split("\n"), place = options.indexOf("--at") < 0 ? "" : options[options.indexOf("--at") + 1];
+        if (!options.includes("--color") && !options.includes("--complete")) {
+            count += 1;
+            expect(`the report of ${name}`, module_calls.capture(file, place, options.includes("--json")).text, report.toString("utf8"));
         }
-        const left = log_of(connections_of(lines.map(with_sum_left))[0], taken), whole = log_of(connections[0], taken);
-        expect(`${name}: checksums that are left to a device`, [left.left, whole.left, Buffer.compare(left.log, whole.log)].join(), [count, 0, 0].join());
+    }
+    fs.rmSync(folder, { recursive: true });
+    expect("reports that are worked out by hand", count >= LEAST_REPORTS, true);
+    for (const [name, place] of [["kernel-A", "10.7.0.1"], ["gVisor-B", "10.7.0.2"], ["plain-B", "10.7.0.2"]]) {
+        const { answer, text } = module_calls.capture(fs.readFileSync(at("checks/judge/data", `${name}.pcap`)), place, false);
+        expect(`${name}, taken at ${place}`, [answer, / (\S+): clean \(all rules\)/.exec(text)?.[1].startsWith(place)].join(), [WELL, true].join());
     }
 }
 
@@ -268,7 +269,7 @@ expect("rules that the cases meet", met.size >= LEAST_MET, true);
 const first = module_calls.replay(fs.readFileSync(at("crates/tcpkit/data/first-run.script")));
 expect("the first run", first.text, fs.readFileSync(at("crates/tcpkit/stdout"), "utf8"));
 expect_judged(module_calls);
-expect_clean(module_calls);
+expect_reports(module_calls);
 expect_captures(module_calls);
 expect_long(module_calls);
 expect("what is imported", WebAssembly.Module.imports(module).length, 0);

@@ -13,7 +13,7 @@ import sys
 
 WEB = pathlib.Path(__file__).resolve().parent
 SCRIPTS = ["module", "run", "words", "told", "draw", "bars", "editor", "ladder", "link", "actions", "acts", "history", "files",
-    "pcapng", "captures", "packets", "connections", "captured", "listing", "reader", "replayer", "player", "page"]
+    "pcapng", "captures", "packets", "connections", "verdict", "captured", "opened", "listing", "reader", "replayer", "player", "page"]
 READING = ["module", "pcapng", "captures", "connections", "reading"]
 REPLAYING = ["module", "replaying"]
 PICTURES = ["first-run", "loss-and-blocks", "shut-window"]

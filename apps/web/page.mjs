@@ -11,7 +11,8 @@ import { lossy_script, run_to_end, with_lines } from "./actions.mjs";
 import { acts } from "./acts.mjs";
 import { history } from "./history.mjs";
 import { on_file, save_file } from "./files.mjs";
-import { captured, MOST_OPTIONS } from "./captured.mjs";
+import { capture_ladder } from "./captured.mjs";
+import { opened } from "./opened.mjs";
 import { listing } from "./listing.mjs";
 import { capture_of, is_capture } from "./captures.mjs";
 import { reader } from "./reader.mjs";
@@ -33,23 +34,20 @@ const buttons = acts({
     sides: { A: at("acts-A"), B: at("acts-B") }, wire: at("wire"), text: at("text"), arrive: at("arrive"),
     damage: at("damage"), lose: at("lose"),
 }, lines => change(with_lines(field.value, lines), true));
-const judged = captured({ part: at("judged"), choice: at("connection"), complete: { A: at("complete-A"), B: at("complete-B") },
-    told: at("judged-told"), box: at("captured"), canvas: at("captured-canvas"), picture: at("captured-picture"),
-    heads: at("captured-heads"), listed: at("findings"), report: at("capture-report"), verdict: at("verdict"), verdict_told: at("verdict-told") },
-(...words) => captures.judge(...words), say);
-const segments = listing({ part: at("listing-part"), list: at("segments"), told: at("segments-told"),
-    shown: at("segments-listing") }, () => core, close_capture);
+const judged = opened({ part: at("judged"), place: at("taken-at"), choice: at("connection"), report: at("capture-report"), told: at("judged-told"),
+    verdict: at("verdict"), verdict_told: at("verdict-told") },
+capture_ladder({ box: at("captured"), canvas: at("captured-canvas"), picture: at("captured-picture"), heads: at("captured-heads") }),
+{ report: place => captures.report(place), draw: (...words) => captures.draw(...words) }, say);
+const segments = listing({ list: at("segments"), told: at("segments-told"), shown: at("segments-listing") }, () => core, close_capture);
 const captures = reader({ part: at("reading"), bar: at("reading-bar"), told: at("reading-told"), cancel: at("reading-cancel") }, {
     program_of: () => at("reader").textContent, module_of: () => compiled,
+    on_reported: (found, is_first) => judged.show(found, is_first),
     on_listed(found) {
         segments.show_capture(found);
-        judged.show(found);
+        judged.list(found);
     },
-    on_counted: ({ found, done, total }) => judged.count(found, done === total),
     on_end(words, is_over) {
-        if (is_over) {
-            judged.hide();
-        }
+        is_over ? judged.hide() : judged.rest();
         say(words);
     },
 });
@@ -336,9 +334,8 @@ function close_capture() {
 async function open_file(file) {
     if (is_capture(new Uint8Array(await file.slice(0, 4).arrayBuffer()))) {
         close_capture();
-        at("listing-part").open = true;
         judged.expect(file.name);
-        captures.read(file, MOST_OPTIONS);
+        captures.read(file);
         return;
     }
     const text = await file.text();
@@ -424,12 +421,11 @@ function listen() {
     })) {
         at(id).addEventListener("click", act);
     }
-    // To the findings, and not to another script: the address stays.
+    // To the verdict, and not to another script: the address stays.
     at("verdict-link").addEventListener("click", event => {
         event.preventDefault();
-        at("listing-part").open = true;
         at("judged").scrollIntoView();
-        at("captured").focus({ preventScroll: true });
+        at("capture-report").focus({ preventScroll: true });
     });
     at("example").addEventListener("change", choose_example);
     at("gutter").addEventListener("click", event => {
@@ -481,7 +477,7 @@ async function start() {
         at("unsupported").hidden = false;
         at("finished").hidden = false;
         at("finished").innerHTML = JSON.parse(at("pictures").textContent).join("");
-        at("main").hidden = true;
+        at("main").hidden = at("opening").hidden = true;
         return;
     }
     listen();

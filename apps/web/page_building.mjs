@@ -165,7 +165,8 @@ async function listed(tab, tools, expect) {
         const file = path.join(tab.folder, `link-${link}.pcap`);
         fs.writeFileSync(file, capture(link, segments));
         await tab.choose_file("#capture", file);
-        await tab.until(name => document.getElementById("said").textContent.startsWith(`${name} is open.`), `link-${link}.pcap`);
+        await tab.until(name => document.getElementById("said").textContent.startsWith(`${name} is open.`) &&
+            document.getElementById("reading").hidden, `link-${link}.pcap`);
         const [shown, told] = await tools.run(() => ["segments-listing", "segments-told"].map(
             id => document.getElementById(id).textContent));
         // The capture has no line for the comment.

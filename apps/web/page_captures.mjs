@@ -1,11 +1,14 @@
-// Tests captures in the page: what is judged and when each segment was seen, of a simulation, too, files in other forms, cut ones and large ones, and what is
-// cancelled.
+// Tests captures in the page: the verdict on them, which is what tcpjudge writes, and where it is seen; their ladders, and how lines of the
+// verdict lead there; files in other forms, cut ones and large ones, and what is cancelled.
+import { spawnSync } from "node:child_process";
 import fs from "node:fs";
 import path from "node:path";
 import { at } from "./cases.mjs";
 import { bytes_of, capture_of } from "./captures.mjs";
 
 const rested = () => document.getElementById("judged").getAttribute("aria-busy") !== "true" && document.getElementById("reading").hidden;
+const REPORT = /```text\n(packets 23, connections 1\n.*?)```/s.exec(fs.readFileSync(at("docs/JUDGE.md"), "utf8"))[1];
+const capture_at = (folder, name) => fs.readFileSync(at(folder, name)), stored = name => capture_at("checks/judge/data", `${name}.pcap`);
 
 // A log as a capture: its segments, each in the second of its line.
 function capture_of_log(log) {
@@ -15,7 +18,19 @@ function capture_of_log(log) {
     }));
 }
 
-// What is shown of a capture that is judged. The numbers are those of lines of the list.
+const verdict_shown = () => document.getElementById("capture-report").textContent;
+
+// Chooses in one of the capture's lists, and waits for what comes of it.
+async function choose(tab, id, value) {
+    await tab.run((name, chosen) => {
+        const choice = document.getElementById(name);
+        choice.value = chosen;
+        choice.dispatchEvent(new Event("change"));
+    }, id, value);
+    await tab.until(rested);
+}
+
+// What is shown of a capture that is judged.
 const judged_shown = () => {
     const text = id => document.getElementById(id).textContent, all = kind => [...document.querySelectorAll(kind)];
     const accused = all("#captured-picture .accused");
@@ -23,83 +38,132 @@ const judged_shown = () => {
     const heights = all("#captured-picture .arrow").map(part => [...part.querySelectorAll("text")].map(line => Number(line.getAttribute("y"))));
     const gaps = heights.slice(1).map((lines, place) => Math.min(...lines) - Math.max(...heights[place]));
     return {
-        is_shown: !document.getElementById("judged").hidden, told: text("judged-told").split(". ")[0], heads: all("#captured-heads b").map(
-            part => part.textContent),
-        segments: all("#captured-picture .arrow").length, connections: document.getElementById("connection").options.length,
-        times: all("#captured-picture .arrow .time").map(part => part.textContent), findings: all("#findings li").map(part => part.textContent),
+        is_shown: !document.getElementById("judged").hidden, heads: all("#captured-heads b").map(part => part.textContent),
+        segments: document.getElementById("captured").hidden ? 0 : all("#captured-picture .arrow").length,
+        connections: document.getElementById("connection").options.length,
+        times: all("#captured-picture .arrow .time").map(part => part.textContent), findings: all("#capture-report .found").map(part => part.textContent),
         accused: accused.map(part => [part.dataset.side, part.dataset.number, [...part.querySelectorAll(".finding")].map(
             line => line.textContent).join(" ")].join(" ")),
         is_crowded: gaps.some(gap => gap < 20), colour: accused.length > 0 && getComputedStyle(accused[0].querySelector(".finding")).fill,
+        verdict: text("verdict-told"),
     };
 };
 
 // A capture of a connection with planted faults shows each at its arrow, in the words of the program; one of a stack that breaks no
-// rule shows none.
+// rule shows none. Behind the reset, at line 28, another connection begins.
 async function judged(tab, expect, open) {
     const log = fs.readFileSync(at("crates/tcpjudge/data/faults.log"), "utf8"), run = fs.readFileSync(at("crates/tcpjudge/stdout"), "utf8");
     const places = log.split("\n").flatMap((line, place) => /^(?:came|went) /.test(line) ? [place + 1] : []);
-    const again = "line 40: an acknowledgement of 5, up to which not all came (RFC 9293, 3.4)";
-    const found = [...run.split("\n").slice(0, -2), again].map(line => {
-        const [, number, rule] = /^line (\d+): (.*)$/.exec(line);
-        // The capture's times are the numbers of the lines in seconds, and are shown since the first.
-        // Line 20 has a wrong checksum, which is a note where something may be missing.
-        const wants_whole_log = ["20", "26", "34", "36", "38", "40"].includes(number);
-        return { number: places.indexOf(Number(number)) + 1, time: `${number - places[0]}.000000 s`, wants_whole_log, rule };
+    const found = [...run.matchAll(/^line (\d+): (.*)$/gm)].filter(([, line]) => Number(line) <= 28).map(([, line, rule]) => ({
+        packet: places.indexOf(Number(line)) + 1, seconds: line - places[0],
+        // What wants all rules: a wrong checksum is a note without them.
+        wants_all: ["20", "26"].includes(line),
+        // Of the text at 7001, behind the SYN at 7000.
+        rule: line === "10" ? `${rule} [relative number 1]` : rule,
+    }));
+    const lines_of = findings => findings.map(({ packet, seconds, rule }) => `packet ${packet}, ${seconds}.000000 s: ${rule}`);
+    const arrows_of = findings => findings.map(({ packet, rule }) => `B ${packet} ${rule}`);
+    const form = found.filter(one => !one.wants_all), accent = await tab.run(() => getComputedStyle(document.querySelector("#heads .phase")).fill);
+    expect("planted faults", await open("faults.pcap", capture_of_log(log)), {
+        is_shown: true, heads: ["A 10.0.0.1:1", "B 10.0.0.2:2"], segments: 20, connections: 2,
+        times: places.slice(0, 20).map(place => `${place - places[0]}.000000 s`), findings: lines_of(form), accused: arrows_of(form), is_crowded: false,
+        colour: accent, verdict: "faults.pcap is open. Rules of TCP are broken at 1 of the 3 ends of its 2 connections, in 4 packets, the first of them 8.",
     });
-    const lines_of = findings => findings.map(({ number, time, rule }) => `line ${number}, ${time}, B (10.0.0.2:2): ${rule}`);
-    const arrows_of = findings => findings.map(({ number, rule }) => `B ${number} ${rule}`);
-    const check = async (id, is_checked) => {
-        await tab.run((box, value) => {
-            document.getElementById(box).checked = value;
-            document.getElementById(box).dispatchEvent(new Event("change"));
-        }, id, is_checked);
-        await tab.until(rested);
-    };
-    const form = found.filter(one => !one.wants_whole_log);
-    const faults = await open("faults.pcap", capture_of_log(log)), accent = await tab.run(() => getComputedStyle(
-        document.querySelector("#heads .phase")).fill);
-    expect("planted faults", faults, {
-        is_shown: true, told: "6 findings in 26 segments: 0 of A's, 6 of B's", heads: ["A 10.0.0.1:1", "B 10.0.0.2:2"], segments: 26, connections: 1,
-        times: places.map(place => `${place - places[0]}.000000 s`), findings: lines_of(form), accused: arrows_of(form), is_crowded: false, colour: accent,
-    });
-    await check("complete-A", true);
-    expect("A breaks no rule", (await tab.run(judged_shown)).findings, lines_of(form));
-    await check("complete-B", true);
+    await choose(tab, "taken-at", "10.0.0.1");
+    expect("taken at A", (await tab.run(judged_shown)).findings, lines_of(form));
+    await choose(tab, "taken-at", "10.0.0.2");
     const whole = await tab.run(judged_shown);
-    expect("planted faults against what came", [whole.told, whole.findings, whole.accused],
-        ["12 findings in 26 segments: 0 of A's, 12 of B's", lines_of(found), arrows_of(found)]);
-    const [plain, kernel] = ["plain-B", "kernel-A"].map(name => fs.readFileSync(at("checks/judge/data", `${name}.pcap`)));
-    const clean = await open("plain.pcap", plain);
-    expect("a clean capture", [clean.is_shown, clean.told, clean.segments, clean.findings, clean.accused],
-        [true, "No finding in 24 segments", 24, [], []]);
+    expect("taken at B", [whole.findings, whole.accused], [lines_of(found), arrows_of(found)]);
+    await choose(tab, "connection", "1");
+    const behind = await tab.run(judged_shown);
+    expect("behind the reset", [behind.heads, behind.segments, behind.accused], [["A 10.0.0.2:2", "B 10.0.0.1:1"], 6, []]);
+    const clean = await open("plain.pcap", stored("plain-B"));
+    expect("a clean capture", [clean.is_shown, clean.segments, clean.findings, clean.accused], [true, 24, [], []]);
     // The packets of another file after those of one, behind its header of 24 bytes.
-    const two = await open("two.pcap", Buffer.concat([plain, kernel.subarray(24)]));
-    expect("two connections", [two.connections, two.told, two.segments], [2, "No finding in 24 segments", 24]);
-    await tab.run(() => {
-        document.getElementById("connection").value = "1";
-        document.getElementById("connection").dispatchEvent(new Event("change"));
-    });
-    await tab.until(rested);
+    const two = await open("two.pcap", Buffer.concat([stored("plain-B"), stored("kernel-A").subarray(24)]));
+    expect("two connections", [two.connections, two.segments], [2, 24]);
+    await choose(tab, "connection", "1");
     const second = await tab.run(judged_shown);
-    expect("the second connection", [second.told, second.segments, second.heads],
-        ["No finding in 23 segments", 23, ["A 10.7.0.1:55928", "B 10.7.0.2:7"]]);
+    expect("the second connection", [second.segments, second.heads], [23, ["A 10.7.0.1:55928", "B 10.7.0.2:7"]]);
     await tab.run(() => document.getElementById("segments").dispatchEvent(new Event("input")));
     expect("a list that is typed isn't judged", (await tab.run(judged_shown)).is_shown, false);
+}
+
+// What tcpjudge writes of a capture that was taken at A stands in docs/JUDGE.md, and the page shows it to the letter; so it does the reports
+// that are worked out by hand, over IPv6 and of both versions, of which the ladder draws IPv4 alone.
+async function reported(tab, expect, open) {
+    await open("kernel.pcap", stored("kernel-A"));
+    expect("a capture's report, taken nowhere", (await tab.run(verdict_shown)).includes("--at ADDRESS names the end"), true);
+    await choose(tab, "taken-at", "10.7.0.1");
+    expect("a capture's report", await tab.run(verdict_shown), REPORT);
+    const folder = path.join(tab.folder, "cases");
+    const { status, stderr } = spawnSync("python3", [at("checks/judge/captures.py"), "--cases", folder], { encoding: "utf8" });
+    expect("captures that are worked out by hand", [status, stderr], [0, ""]);
+    for (const [name, place, segments, findings] of [
+        ["IPv6-no-place", "", 0, 0], ["IPv6-in-the-pcapng-form", "2001:db8::2", 0, 0], ["IPv6-a-wrong-acknowledgement", "2001:db8::2", 0, 1],
+        ["both-versions-the-same-ports", "", 5, 0],
+    ]) {
+        const case_at = ending => fs.readFileSync(path.join(folder, `${name}${ending}`)), words = case_at(".args").toString("utf8").split("\n");
+        await open("case.pcap", case_at(""));
+        await choose(tab, "taken-at", place);
+        const shown = await tab.run(judged_shown);
+        expect(`${name}: where it was taken`, words[words.indexOf("--at") + 1] === place || !words.includes("--at"), true);
+        expect(`${name}: the report`, await tab.run(verdict_shown), case_at(".stdout").toString("utf8"));
+        expect(`${name}: the ladder`, [shown.is_shown, shown.segments, shown.findings.length], [true, segments, findings]);
+        expect(`${name}: why there is none`, await tab.run(() => document.getElementById("judged-told").textContent),
+            segments === 0 ? "A ladder is drawn of a connection over IPv4 alone. The verdict is on all."
+                : "Connection 1: 5 segments, each with the packet's number.");
+    }
+}
+
+// What a line of the verdict leads to: its packet's arrow is in sight, is marked, and has the focus.
+const led = words => {
+    [...document.querySelectorAll("#capture-report button")].find(part => part.textContent.startsWith(words)).click();
+};
+const led_to = () => {
+    const box = document.getElementById("captured"), mark = document.querySelector("#captured-picture .led"), seen = box.getBoundingClientRect();
+    const { top, bottom } = mark.getBoundingClientRect();
+    return { number: mark.parentElement.dataset.number, is_seen: top >= Math.max(0, seen.top) && bottom <= Math.min(innerHeight, seen.bottom) + 1,
+        is_focused: document.activeElement === box, connection: document.getElementById("connection").value };
+};
+
+async function leading(tab, expect, open) {
+    const lead = async words => {
+        await tab.run(led, words);
+        await tab.until(rested);
+        return tab.run(led_to);
+    };
+    await tab.size(1280, 800);
+    await open("wrong.pcap", capture_at("checks/program/capture_statuses", "json-with-a-wrong-acknowledgement"));
+    await choose(tab, "taken-at", "10.7.0.1");
+    const to = (number, connection) => ({ number, is_seen: true, is_focused: true, connection });
+    expect("where a finding leads", await lead("packet 23, "), to("23", "0"));
+    expect("where a note leads", await lead("note: retransmissions: 1, the first in packet 21 "), to("21", "0"));
+    // Wireshark counts all packets of a file, and so do the report and the ladder: here one of UDP comes first.
+    const wrong = capture_at("checks/program/capture_statuses", "json-with-a-wrong-acknowledgement");
+    const record = Buffer.from(wrong.subarray(24, 40 + wrong.readUInt32LE(32)));
+    record[16 + 9] = 17;
+    await open("udp.pcap", Buffer.concat([wrong.subarray(0, 24), record, wrong.subarray(24), stored("plain-B").subarray(24)]));
+    await choose(tab, "taken-at", "10.7.0.1");
+    await choose(tab, "connection", "1");
+    expect("where a finding of another connection leads", await lead("packet 24, "), to("24", "0"));
+    expect("it is the last segment", (await tab.run(judged_shown)).accused.map(words => words.split(" ").slice(0, 2).join(" ")), ["A 24"]);
+    await tab.size(1600, 6000);
 }
 
 // A capture that Python's Simulator has saved shows each segment when it was sent: over a link of 20 ms each way the handshake takes 40 ms,
 // and a whole window of text goes out behind it. Two ends of ours break no rule.
 async function simulated(tab, expect, open) {
-    const shown = await open("simulated.pcap", fs.readFileSync(at("checks/judge/data/simulated.pcap")));
-    expect("a simulation", [shown.is_shown, shown.told, shown.segments, shown.heads, shown.findings, shown.accused],
-        [true, "No finding in 23 segments", 23, ["A 10.0.0.1:1", "B 10.0.0.2:2"], [], []]);
+    const shown = await open("simulated.pcap", stored("simulated"));
+    expect("a simulation", [shown.is_shown, shown.segments, shown.heads, shown.findings, shown.accused],
+        [true, 23, ["A 10.0.0.1:1", "B 10.0.0.2:2"], [], []]);
     expect("its times", [shown.times.slice(0, 4), shown.times.at(-1)],
         [["0.000000 s", "0.020000 s", "0.040000 s", "0.040000 s"], "1.200000 s"]);
 }
 
 // A time is shown as exactly as the file has it, and no time where it has none.
 async function times(tab, expect, open) {
-    const file = fs.readFileSync(at("checks/judge/data/plain-B.pcap")), shown = async (name, bytes) => (await open(name, bytes)).times;
+    const file = stored("plain-B"), shown = async (name, bytes) => (await open(name, bytes)).times;
     const fine = Buffer.from(file);
     fine.writeUInt32LE(0xa1b23c4d, 0);
     // By its first records: the second packet was seen 107 units after the first.
@@ -123,12 +187,14 @@ function simple_of(file) {
 
 // A cut file shows what it has, and is said to be cut.
 async function cut(tab, expect, open) {
-    const file = fs.readFileSync(at("checks/judge/data/plain-B.pcap"));
+    const file = stored("plain-B");
     const listed = () => tab.run(() => document.getElementById("segments-told").textContent);
-    expect("a cut capture", (await open("cut.pcap", file.subarray(0, file.length - 1))).segments, 23);
+    const shown = await open("cut.pcap", file.subarray(0, file.length - 1));
+    expect("a cut capture", [shown.segments, shown.verdict.endsWith(" The file is cut short or damaged: what is before that was judged.")], [23, true]);
     expect("where it is cut", /^cut\.pcap: 23 segments\. The file is cut at byte \d+, after 23 whole packets\.$/.test(await listed()), true);
-    expect("a cut header", [(await open("header.pcap", file.subarray(0, 10))).is_shown, await listed()],
-        [false, "header.pcap: 0 segments. The file is cut at byte 0, after 0 whole packets."]);
+    const { is_shown, verdict } = await open("header.pcap", file.subarray(0, 10));
+    expect("a cut header", [is_shown, verdict, await listed()], [false, "header.pcap is open. It isn't a capture that can be read.",
+        "header.pcap: 0 segments. The file is cut at byte 0, after 0 whole packets."]);
 }
 
 // An empty segment from 10.0.0.1 to port 80 of 10.0.0.2, with the right checksum, and without ACK, which breaks a rule of form; or with
@@ -150,75 +216,67 @@ async function mended(tab, expect, open) {
     wrong[16] ^= 255;
     const segments = [without_ack(7), without_ack(7, true), wrong];
     await open("mended.pcap", capture_of(segments.map((bytes, turn) => ({ seconds: 0, turn, source: "10.0.0.1", target: "10.0.0.2", bytes }))));
-    const [listing, told, judged_told, list] = await tab.run(() => ["segments-listing", "segments-told", "judged-told", "segments"].map(
+    const [listing, told, list] = await tab.run(() => ["segments-listing", "segments-told", "segments"].map(
         id => document.getElementById(id).value ?? document.getElementById(id).textContent));
     const line = "7 > 80 seq 1 ack 1 reserved 0 flags - window 0 urgent 0 options - pad 0 text -";
     expect("the list of a capture with checksums of each kind", listing.split("\n"), [`1 ${line}`,
         `2 ${line}  (its checksum was left to a device, and is made right)`, "3 malformed 3 BadChecksum", "total 3 malformed 1", ""]);
     expect("what is told of it", told, "mended.pcap: 3 segments. 1 of the list's checksums was left to a device, and made right.");
-    expect("what the verdict tells", judged_told.includes("1 checksum was left to a device, and made right."), true);
     const lines = list.split("\n");
     expect("its bytes are those that are judged", lines[1], lines[0]);
 }
 
-// Whoever opens a capture sees its verdict at once, wherever the page is scrolled to, and hears the same; from there a link leads to the
-// findings, and leaves the address.
+// What is seen of the verdict in the window: its sentence, and its lines below that.
+const verdict_seen = () => {
+    const is_inside = ({ top, bottom, left, right }) => top >= 0 && bottom <= innerHeight && left >= 0 && right <= innerWidth && bottom > top;
+    const [bar, report] = ["verdict", "capture-report"].map(id => document.getElementById(id).getBoundingClientRect());
+    const text = id => document.getElementById(id).textContent;
+    return { is_seen: is_inside(bar), is_report_seen: is_inside(report) && report.top >= bar.bottom - 1, verdict: text("verdict-told"), said: text("said"),
+        live: text("live"), is_small: bar.bottom - bar.top < innerHeight / 5, is_narrow: document.documentElement.scrollWidth <= innerWidth };
+};
+
+// Whoever opens a capture sees the verdict at once, wherever the page is scrolled to, and hears its sentence. A link in the sentence leads
+// there, and leaves the address.
 async function seen_at_once(tab, expect, open) {
-    const log = capture_of_log(fs.readFileSync(at("crates/tcpjudge/data/faults.log"), "utf8"));
-    const words = "faults.pcap is open. A (10.0.0.1:1) breaks no rule, B (10.0.0.2:2) breaks a rule in 6 segments.";
-    const seen = () => tab.run(() => {
-        const { top, bottom, left, right } = document.getElementById("verdict").getBoundingClientRect(), text = id => document.getElementById(id).textContent;
-        return { is_seen: top >= 0 && bottom <= innerHeight && left >= 0 && right <= innerWidth && bottom > top, verdict: text("verdict-told"),
-            said: text("said"), live: text("live"), is_small: bottom - top < innerHeight / 5, out: document.documentElement.scrollWidth - innerWidth };
-    });
-    for (const [width, height] of [[1280, 720], [360, 740]]) {
+    const words = "kernel.pcap is open. No rule that was tried is broken at the 2 ends of its connection.";
+    for (const [width, height] of [[1280, 800], [360, 740]]) {
         await tab.size(width, height);
-        for (const from of ["script", "open-capture"]) {
-            await tab.run(id => {
-                document.getElementById("listing-part").open = true;
-                document.getElementById(id).scrollIntoView();
-            }, from);
-            await open("faults.pcap", log);
-            const { out, ...found } = await seen();
-            expect(`the verdict at ${width}, from ${from}`, [found, out <= 0], [{ is_seen: true, verdict: words, said: words, live: words, is_small: true }, true]);
+        for (const from of ["open-capture", "script", "ends-part"]) {
+            await tab.run(id => document.getElementById(id).scrollIntoView(), from);
+            await open("kernel.pcap", stored("kernel-A"));
+            expect(`the verdict at ${width}, from ${from}`, await tab.run(verdict_seen), { is_seen: true, is_report_seen: true, verdict: words, said: words,
+                live: words, is_small: true, is_narrow: true });
         }
         const address = await tab.run(() => {
-            document.getElementById("listing-part").open = false;
-            window.scrollTo(0, 0);
+            window.scrollTo(0, document.documentElement.scrollHeight);
             document.getElementById("verdict-link").click();
             return location.href;
         });
-        const led = await tab.run(() => {
-            const part = document.getElementById("judged").getBoundingClientRect(), bar = document.getElementById("verdict").getBoundingClientRect();
-            return [document.getElementById("listing-part").open, part.top >= bar.bottom - 1 && part.top < innerHeight / 2, document.activeElement.id,
-                location.href];
-        });
-        expect(`where the link leads at ${width}`, led, [true, true, "captured", address.split("#judged")[0]]);
+        const found = await tab.run(() => [document.activeElement.id, location.href]), { is_report_seen } = await tab.run(verdict_seen);
+        expect(`where the link leads at ${width}`, [...found, is_report_seen], ["capture-report", address.split("#judged")[0], true]);
     }
     await tab.size(1600, 6000);
-    await open("plain.pcap", fs.readFileSync(at("checks/judge/data/plain-B.pcap")));
-    const { verdict } = await seen();
-    expect("the verdict on a clean capture", /^plain\.pcap is open\. No rule is broken by A \(\S+\) or B \(\S+\)\.$/.test(verdict), true);
     await open("many.pcap", many(3, 2));
-    await tab.until(rested);
-    expect("the verdict on three connections", (await seen()).verdict, "many.pcap is open. Connection 1 of 3: A (10.0.0.1:0) breaks a rule in " +
-        "2 segments, B (10.0.0.2:80) breaks no rule. Rules are broken in 3 of the 3.");
+    expect("the verdict on three connections", (await tab.run(verdict_seen)).verdict, "many.pcap is open. Rules of TCP are broken at 3 of the 3 ends of its " +
+        "3 connections, in 6 packets, the first of them 1.");
     await tab.run(() => document.getElementById("segments").dispatchEvent(new Event("input")));
     expect("no verdict on a list that is typed", await tab.run(() => document.getElementById("verdict").hidden), true);
 }
 
-// What tcpjudge writes of a capture that was taken at A stands in docs/JUDGE.md, and the page shows it to the letter.
-async function reported(tab, expect, open) {
-    const told = /```text\n(packets 23, connections 1\n.*?)```/s.exec(fs.readFileSync(at("docs/JUDGE.md"), "utf8"))[1];
-    const report = () => tab.run(() => document.querySelector("#capture-report pre").textContent);
-    await open("kernel.pcap", fs.readFileSync(at("checks/judge/data/kernel-A.pcap")));
-    expect("a capture's report, taken nowhere", (await report()).includes("--at ADDRESS names the end"), true);
-    await tab.run(() => {
-        document.getElementById("complete-A").checked = true;
-        document.getElementById("complete-A").dispatchEvent(new Event("change"));
+// All lines of the verdict are in the first 800 pixels of the page, above every ladder.
+async function above_the_fold(tab, expect, open) {
+    await tab.size(1280, 800);
+    await open("kernel.pcap", stored("kernel-A"));
+    await choose(tab, "taken-at", "10.7.0.1");
+    const place = await tab.run(() => {
+        window.scrollTo(0, 0);
+        const [report, captured, ladder] = ["capture-report", "captured", "ladder-part"].map(id => document.getElementById(id).getBoundingClientRect());
+        const box = document.getElementById("capture-report");
+        return { bottom: report.bottom <= 800, is_whole: box.scrollHeight <= box.clientHeight + 1, is_above: report.bottom <= captured.top,
+            is_above_all: captured.bottom <= ladder.top };
     });
-    await tab.until(rested);
-    expect("a capture's report", await report(), told);
+    expect("the verdict's lines", [await tab.run(verdict_shown), place], [REPORT, { bottom: true, is_whole: true, is_above: true, is_above_all: true }]);
+    await tab.size(1600, 6000);
 }
 
 // So many connections, of so many such segments each.
@@ -226,6 +284,17 @@ function many(connections, segments) {
     return capture_of(Array.from({ length: connections * segments }, (_, turn) => ({
         seconds: 0, turn, source: "10.0.0.1", target: "10.0.0.2", bytes: without_ack(turn % connections),
     })));
+}
+
+// A finding behind many lines without one is in sight, and its connection is in the ladder.
+async function behind_many(tab, expect, open) {
+    const clean = ["gVisor-B", "kernel-A"].map(name => stored(name).subarray(24));
+    const { segments, heads } = await open("behind.pcap", Buffer.concat([stored("plain-B"), ...clean, many(1, 1).subarray(24)]));
+    const found = await tab.run(() => {
+        const box = document.getElementById("capture-report"), seen = box.getBoundingClientRect(), line = box.querySelector(".found").getBoundingClientRect();
+        return [box.scrollHeight > 1.5 * box.clientHeight, line.top >= seen.top && line.bottom <= seen.bottom];
+    });
+    expect("the first finding", [...found, segments, heads], [true, true, 1, ["A 10.0.0.1:0", "B 10.0.0.2:80"]]);
 }
 
 // Of a large capture the first part is listed, and the whole ladder can be scrolled through.
@@ -238,24 +307,22 @@ async function large(tab, expect, open) {
         const arrows = [...document.querySelectorAll("#captured-picture .arrow")];
         const last = arrows.at(-1).getBoundingClientRect(), seen = box.getBoundingClientRect();
         return { last: arrows.at(-1).dataset.number, is_seen: last.top >= seen.top && last.bottom <= seen.bottom, few: arrows.length < 300,
-            told: document.getElementById("judged-told").textContent, listed: document.getElementById("segments-told").textContent,
-            findings: [...document.querySelectorAll("#findings li")].slice(99).map(part => part.textContent) };
+            listed: document.getElementById("segments-told").textContent };
     });
     // A segment of 20 bytes takes 80 letters of 100,000.
     expect("a large capture", [found.last, found.is_seen, found.few, found.listed],
         ["20000", true, true, "large.pcap: 20000 segments. The list has the first 1250."]);
-    expect("its findings", [found.told.split(". ")[0], found.told.endsWith("The first 10000 findings are marked.")],
-        ["20000 findings in 20000 segments: 20000 of A's, 0 of B's", true]);
-    expect("which are listed", [found.findings.length, found.findings[0].startsWith("line 100, 0.000099 s, A (10.0.0.1:0): "), found.findings.at(-1)],
-        [2, true, "and 19900 more"]);
-    // The first 200 connections are listed, and then 200 that have findings.
+    expect("its findings", (await tab.run(judged_shown)).findings.map(words => words.endsWith(", and 19999 more like it")), [true]);
+    // The first 200 connections are listed, and then 200 that have findings; of the report there is a part, and its end.
     await open("many.pcap", many(2500, 2));
-    await tab.until(rested);
     const options = await tab.run(() => [...document.getElementById("connection").options].map(option => option.text));
-    expect("many connections", options, Array.from({ length: 400 }, (_, port) => `10.0.0.1:${port} > 10.0.0.2:80, 2 segments, 2 findings`));
+    expect("many connections", options, Array.from({ length: 400 }, (_, port) => `${port + 1}: 10.0.0.1:${port} > 10.0.0.2:80, 2 findings`));
+    const report = await tab.run(verdict_shown), count = report.match(/^\d+ {2}10\.0\.0\.1:\d+ > /gm).length;
+    expect("a part of a long report", [report.includes(`These are ${count} of 2500 connections, `), count > 100, report.length < 110000,
+        report.includes("\nends judged 2500, findings 5000\n")], [true, true, true, true]);
 }
 
-// Both the reading and the judging can be cancelled: here as soon as they are shown.
+// Both the reading and the ladder can be cancelled: here as soon as they are shown.
 async function cancelled(tab, expect, write) {
     const at_once = async (name, bytes, words, said) => {
         await tab.run(asked => {
@@ -273,32 +340,47 @@ async function cancelled(tab, expect, write) {
     };
     expect("a reading that is cancelled", await at_once("cancelled.pcap", many(2500, 2), "Bytes read", "The reading is cancelled."), true);
     expect("nothing of it is shown", (await tab.run(judged_shown)).is_shown, false);
-    expect("a judging that is cancelled", await at_once("rest.pcap", many(2500, 2), "Segments judged: 0",
-        "The judging of the other connections is cancelled."), true);
-    await tab.until(() => document.getElementById("said").textContent.startsWith("rest.pcap is open."));
-    await tab.run(() => {
-        document.getElementById("connection").value = "7";
-        document.getElementById("connection").dispatchEvent(new Event("change"));
-    });
-    await tab.until(rested);
-    expect("another connection is judged still", (await tab.run(judged_shown)).heads, ["A 10.0.0.1:7", "B 10.0.0.2:80"]);
+    expect("a ladder that is cancelled", await at_once("rest.pcap", stored("kernel-A"), "The segments are being read", "The ladder is cancelled."), true);
+    const { is_shown, segments } = await tab.run(judged_shown);
+    expect("the verdict stays", [is_shown, segments], [true, 0]);
+    await choose(tab, "taken-at", "10.7.0.1");
+    expect("and is there for another place", await tab.run(verdict_shown), REPORT);
 }
 
-// Where the module gets no memory for a connection the page says so, and shows its segments.
-async function no_memory(tab, expect, open) {
-    await tab.run(() => {
-        const program = document.getElementById("reader");
-        globalThis.whole_program = program.textContent;
-        program.textContent = `const instantiate = WebAssembly.instantiate;
-            WebAssembly.instantiate = async (...words) => {
-                const { exports } = await instantiate(...words), { memory } = exports;
-                const full = { buffer: memory.buffer, grow() { throw new RangeError("none is left"); } };
-                return { exports: { ...exports, memory: full, tcp_web_judge: () => 3 } };
-            };
-            ${program.textContent}`;
-    });
-    const shown = await open("memory.pcap", fs.readFileSync(at("checks/judge/data/plain-B.pcap")));
-    expect("no memory", [shown.told, shown.segments], ["The module can't get the memory that it needs to judge A and B", 24]);
+// What the worker runs, in other words; `whole` is what it was.
+const changed_program = (from, to) => {
+    const program = document.getElementById("reader");
+    globalThis.whole_program ??= program.textContent;
+    program.textContent = globalThis.whole_program.replace(from, to);
+};
+
+// Where the module gets no memory for a capture, or the capture is larger than it takes, the page says so; and where ladders don't have all
+// of its segments.
+async function too_large(tab, expect, open) {
+    const TOLD = "It needs more memory than this page has: the program tcpjudge judges it.";
+    await tab.run(changed_program, "let core", `const instantiate = WebAssembly.instantiate;
+        WebAssembly.instantiate = async (...words) => {
+            const { exports } = await instantiate(...words), { memory } = exports;
+            const full = { buffer: memory.buffer, grow() { throw new RangeError("none is left"); } };
+            return { exports: { ...exports, memory: full, tcp_web_capture: () => 3 } };
+        };
+        let core`);
+    const memory = await open("memory.pcap", stored("plain-B"));
+    expect("no memory", [memory.is_shown, memory.verdict], [false, `memory.pcap is open. ${TOLD}`]);
+    await tab.run(changed_program, "MOST_WHOLE = 1 << 29", "MOST_WHOLE = 100");
+    const whole = await open("whole.pcap", stored("plain-B"));
+    expect("too large a file", [whole.is_shown, whole.verdict], [false, `whole.pcap is open. ${TOLD}`]);
+    await tab.run(changed_program, "MOST_KEPT = 2000000", "MOST_KEPT = 10");
+    const kept = await open("kept.pcap", stored("kernel-A"));
+    await choose(tab, "taken-at", "10.7.0.1");
+    expect("too large for the ladder", [kept.segments, await tab.run(verdict_shown)], [10, REPORT]);
+    await tab.run(led, "note: retransmissions");
+    await tab.until(() => document.getElementById("said").textContent === "Packet 21 isn't in the ladder.");
+    await tab.run(changed_program, "segments.add(segment)", "throw new Error('none')");
+    await tab.choose_file("#capture", path.join(tab.folder, "kept.pcap"));
+    await tab.until(() => document.getElementById("said").textContent === "The capture's ladder can't be drawn: none.");
+    await choose(tab, "taken-at", "10.7.0.1");
+    expect("the verdict without a ladder", [(await tab.run(judged_shown)).segments, await tab.run(verdict_shown)], [0, REPORT]);
     await tab.run(() => { document.getElementById("reader").textContent = "throw new Error('none');"; });
     await tab.choose_file("#capture", path.join(tab.folder, "memory.pcap"));
     await tab.until(() => document.getElementById("said").textContent.startsWith("The capture can't be read: "));
@@ -317,16 +399,20 @@ export async function captures(tab, expect) {
         await tab.run(() => { document.getElementById("said").textContent = ""; });
         await tab.choose_file("#capture", write(name, bytes));
         await tab.until(asked => document.getElementById("said").textContent.startsWith(`${asked} is open.`), name);
+        await tab.until(rested);
         return tab.run(judged_shown);
     };
     await judged(tab, expect, open);
     await simulated(tab, expect, open);
     await seen_at_once(tab, expect, open);
+    await above_the_fold(tab, expect, open);
     await reported(tab, expect, open);
+    await leading(tab, expect, open);
     await mended(tab, expect, open);
     await times(tab, expect, open);
     await cut(tab, expect, open);
+    await behind_many(tab, expect, open);
     await large(tab, expect, open);
     await cancelled(tab, expect, write);
-    await no_memory(tab, expect, open);
+    await too_large(tab, expect, open);
 }

@@ -126,7 +126,7 @@ async function faults(tab, tools, expect) {
         expect(`a fault's line in ${JSON.stringify(script)}`, found?.text.startsWith(`Line ${line}: `), true);
         expect(`cause and cure in ${JSON.stringify(script)}`,
             [found?.text.includes(cause), found?.text.includes(cure)], [true, true]);
-        expect(`its place in ${JSON.stringify(script)}`, found?.below, 20);
+        expect(`its place in ${JSON.stringify(script)}`, Math.round(1000 * found?.below) / 1000, 20);
         expect("nothing to save then", await tools.run(() => document.getElementById("save").disabled), true);
     }
     await tools.edit(FIRST);
@@ -219,7 +219,7 @@ async function widths(tab, tools, expect, height) {
                 return {
                     page: document.documentElement.scrollWidth - most,
                     boxes: boxes.filter(part => part.getBoundingClientRect().right > Math.min(
-                        most, part.parentElement.closest("section, main").getBoundingClientRect().right) + 0.5).length,
+                        most, (part.parentElement.closest("section, main") ?? document.body).getBoundingClientRect().right) + 0.5).length,
                     words: texts.filter(text => text.left < box.left - 0.5 || text.right > box.right + 0.5).length,
                     shown: texts.length > 10,
                 };
@@ -362,7 +362,7 @@ async function access(tab, tools, expect) {
             expect(`focus on ${found[0]}`, found[1], true);
         }
     }
-    const asked = ["example", "script", "open", "save-script", "link", "save", "save-capture", "capture-at", "back", "step", "next", "play", "ladder",
+    const asked = ["open-capture", "example", "script", "open", "save-script", "link", "save", "save-capture", "capture-at", "back", "step", "next", "play", "ladder",
         "text", "finish", "lossy"];
     expect("reached by Tab", asked.filter(name => !reached.has(name)), []);
     const foot = await tools.run(() => document.querySelector("footer").textContent);

@@ -1,8 +1,8 @@
-// The page's end of the worker that reads and judges a capture (reading.mjs): one worker for each capture, ended by the next one
+// The page's end of the worker that reads a capture and has it judged (reading.mjs): one worker for each capture, ended by the next one
 // or by the user. `on_end` is told in words why it ended, and whether nothing of the capture is to be shown any more.
 
-export function reader({ part, bar, told, cancel }, { program_of, module_of, on_listed, on_counted, on_end }) {
-    let worker = null, address = "", is_listed = false, is_resting = false, ticket = 0, on_judged = null;
+export function reader({ part, bar, told, cancel }, { program_of, module_of, on_reported, on_listed, on_end }) {
+    let worker = null, address = "", is_reported = false, is_resting = false, ticket = 0, on_drawn = null;
 
     function progress(words, done, total) {
         part.hidden = false;
@@ -18,48 +18,65 @@ export function reader({ part, bar, told, cancel }, { program_of, module_of, on_
         part.hidden = true;
     }
 
+    // The verdict stays, once it is there, and the worker may be asked for it again.
     function failed(cause) {
-        stop();
-        on_end(`The capture can't be read: ${cause}.`, true);
+        if (is_reported) {
+            part.hidden = true;
+            on_end(`The capture's ladder can't be drawn: ${cause}.`, false);
+        } else {
+            stop();
+            on_end(`The capture can't be read: ${cause}.`, true);
+        }
+    }
+
+    // What is read is being judged, or drawn: how far that is isn't known.
+    function working(words) {
+        part.hidden = false;
+        bar.removeAttribute("value");
+        told.textContent = words;
     }
 
     const takes = {
         read: ({ done, total }) => progress("Bytes read", done, total),
+        judging: ({ total }) => working(`${total.toLocaleString("en")} bytes are being judged`),
+        reported(found) {
+            const is_first = !is_reported;
+            is_reported = true;
+            part.hidden = true;
+            if (is_first && found.text !== "") {
+                working("The segments are being read for the ladder");
+            }
+            on_reported(found, is_first);
+        },
         listed(found) {
-            is_listed = true;
-            progress("Segments judged", 0, found.count);
-            part.hidden = found.total === 0;
-            on_listed(found);
+            if (!is_resting) {
+                part.hidden = true;
+                on_listed(found);
+            }
         },
-        counted(found) {
-            progress("Segments judged", found.done, found.total);
-            part.hidden = is_resting || found.done === found.total;
-            on_counted(found);
-        },
-        judged(found) {
+        drawn(found) {
             if (found.ticket === ticket) {
-                on_judged(found);
+                on_drawn(found);
             }
         },
         failed: ({ cause }) => failed(cause),
     };
 
-    // What is read already stays: only the other connections aren't judged then, until they are chosen.
+    // So it does where the user cancels.
     cancel.addEventListener("click", () => {
-        if (is_listed) {
+        if (is_reported) {
             worker?.postMessage({ kind: "rest" });
-            is_resting = true;
-            part.hidden = true;
+            is_resting = part.hidden = true;
         } else {
             stop();
         }
-        on_end(is_listed ? "The judging of the other connections is cancelled." : "The reading is cancelled.", !is_listed);
+        on_end(is_reported ? "The ladder is cancelled." : "The reading is cancelled.", !is_reported);
     });
     return {
         stop,
-        read(file, most_connections) {
+        read(file) {
             stop();
-            is_listed = is_resting = false;
+            is_reported = is_resting = false;
             address = URL.createObjectURL(new Blob([program_of()], { type: "text/javascript" }));
             worker = new Worker(address);
             const own = worker;
@@ -71,13 +88,18 @@ export function reader({ part, bar, told, cancel }, { program_of, module_of, on_
                 }
             };
             progress("Bytes read", 0, file.size);
-            own.postMessage({ kind: "read", module: module_of(), file, most_connections });
+            own.postMessage({ kind: "read", module: module_of(), file });
         },
-        // Asks for the verdict on a connection. Only the last answer asked for is called back.
-        judge(number, complete, call) {
+        // Asks for the report of the capture, taken at this address.
+        report(place) {
+            working("The capture is being judged");
+            worker?.postMessage({ kind: "report", place });
+        },
+        // Asks for the segments of a connection. Only the last answer asked for is called back.
+        draw(connection, call) {
             ticket += 1;
-            on_judged = call;
-            worker?.postMessage({ kind: "judge", number, complete, ticket });
+            on_drawn = call;
+            worker?.postMessage({ kind: "draw", connection, ticket });
         },
     };
 }
