@@ -70,6 +70,7 @@ impl<C: Core + Drop> Driver<C> {
 
     /// A segment has come at a time, from the IPv4 address `src` to `dst`. In a burst it isn't taken, and some resets count
     /// as lost. It comes past the guard of the limits.
+    #[inline(always)]
     pub fn arrive(
         &mut self,
         now: u64,
@@ -84,6 +85,7 @@ impl<C: Core + Drop> Driver<C> {
     }
 
     /// The same of a segment whose checksum a device has found right: it isn't summed (RFC 9293, 3.1).
+    #[inline(always)]
     pub fn arrive_vouched(
         &mut self,
         now: u64,

@@ -72,6 +72,24 @@ impl<C: Paced + Drop, W: Congestion + Drop> Flow<C, W> {
         ensures answer { result ≡ arrival_answer C.machine C.arrival_answer self.old.driving src dst bytes.now (way_of self.old.driving false) }
         ensures state { self.new ≡ after_segment C.machine C.smss_of W.control self.old now src dst bytes.now false }
     {
+        if self.window.limits() {
+            return self.arrive_limited(now, src, dst, bytes);
+        }
+        self.driver.arrive(now, src, dst, bytes)
+    }
+
+    /// The same, with a window that is told of it or without one.
+    #[inline(never)]
+    fn arrive_limited(
+        &mut self,
+        now: u64,
+        src: [u8; 4],
+        dst: [u8; 4],
+        bytes: &[u8],
+    ) -> Taken<C::Arriving>
+        ensures answer { result ≡ arrival_answer C.machine C.arrival_answer self.old.driving src dst bytes.now (way_of self.old.driving false) }
+        ensures state { self.new ≡ after_segment C.machine C.smss_of W.control self.old now src dst bytes.now false }
+    {
         let una = self.driver.core().una();
         let taken = self.driver.arrive(now, src, dst, bytes);
         if self.window.limits() {
@@ -85,6 +103,24 @@ impl<C: Paced + Drop, W: Congestion + Drop> Flow<C, W> {
 
     /// The same of a segment whose checksum a device has found right: it isn't summed (RFC 9293, 3.1).
     pub fn arrive_vouched(
+        &mut self,
+        now: u64,
+        src: [u8; 4],
+        dst: [u8; 4],
+        bytes: &[u8],
+    ) -> Taken<C::Arriving>
+        ensures answer { result ≡ arrival_answer C.machine C.arrival_answer self.old.driving src dst bytes.now (way_of self.old.driving true) }
+        ensures state { self.new ≡ after_segment C.machine C.smss_of W.control self.old now src dst bytes.now true }
+    {
+        if self.window.limits() {
+            return self.arrive_vouched_limited(now, src, dst, bytes);
+        }
+        self.driver.arrive_vouched(now, src, dst, bytes)
+    }
+
+    /// The same, with a window that is told of it or without one.
+    #[inline(never)]
+    fn arrive_vouched_limited(
         &mut self,
         now: u64,
         src: [u8; 4],
@@ -218,7 +254,7 @@ impl<C: Paced + Drop, W: Congestion + Drop> Flow<C, W> {
     }
 
     /// Writes as one, for a device that cuts and sums them, the segments that may go out within the lesser of both windows, at
-    /// most `most`, as for the driver: as many calls of [`emit`](Self::emit).
+    /// most `most`: as many emissions of the driver.
     pub fn emit_train(
         &mut self,
         now: u64,

@@ -1,7 +1,7 @@
 use Rattle.std.proofs.Common.{false, sym, ◌∙◌}
 use Rattle.tcp_driver.specs.declared.driver.Taken.TheVariants.{Done}
 use Rattle.tcp_flow.proofs.Told.{heard_by}
-use Rattle.tcp_flow.proofs.flow.Flow.arrive.Goals as goal
+use Rattle.tcp_flow.proofs.flow.Flow.arrive_limited.Goals as goal
 
 pub returns-in-Done-clause-state : goal.returns-in-Done-clause-state
 returns-in-Done-clause-state g c =
