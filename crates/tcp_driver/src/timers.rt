@@ -27,6 +27,9 @@ pub struct Timers {
     resent: u32,
     /// Whether it was started anew since then, because what begins at SND.UNA went out again.
     restarted: bool,
+    /// The code of what the timers were set to run as, or 0 where one may have been stopped or started since: so one comparison
+    /// says at most calls that they stand.
+    stood: u8,
     /// How long the gaps that the peer reported may take to be filled.
     span: u64,
     /// Whether the peer's window was shut when it was last taken.
@@ -37,9 +40,6 @@ pub struct Timers {
     bursting: bool,
     /// The time of the last call.
     clock: u64,
-    /// The code of what the timers were set to run as, or 0 where one may have been stopped or started since: so one comparison
-    /// says at most calls that they stand.
-    stood: u8,
 }
 
 impl Model for Timers {
