@@ -6,7 +6,7 @@ import enum
 import ipaddress
 from typing import NamedTuple, Optional, Union
 
-VERSION = 15
+VERSION = 16
 EMIT_ROOM = 1520
 TRAIN_ROOM = 65_515
 RESET_ROOM = 20
@@ -100,6 +100,8 @@ class Kind(enum.IntEnum):
 
 
 PHASES, ENDINGS = tuple(Phase), tuple(Ending)
+
+
 class Congestion(enum.IntEnum):
     """The congestion window of a connection: none, that of RFC 5681, or that of RFC 9438."""
 

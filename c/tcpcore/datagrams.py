@@ -10,8 +10,8 @@
 
 A connection that the peer resets raises ConnectionResetError, one that is given up TimeoutError, and one that was aborted here
 ConnectionAbortedError. Both sides may be in one event loop. Inside the datagrams the two sides have the addresses and ports of CLIENT and
-SERVER, whatever a config says, so that their checksums don't depend on what the datagrams pass through. No congestion control is part of it
-(tcpcore.Connection says what `window` is).
+SERVER, whatever a config says, so that their checksums don't depend on what the datagrams pass through. By default it has no congestion
+window (tcpcore.Connection says what `set_congestion` and `window` are).
 """
 
 from __future__ import annotations

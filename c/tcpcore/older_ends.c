@@ -7,7 +7,7 @@
  * tcpcore.map has in the node of version 14.
  *
  * Since version 16 a connection has a congestion window, which takes 160 bytes whether one is chosen or not: a connection of an older version
- * that doesn't fit keeps 7 runs fewer, and one for which as few were asked doesn't fit at all. Programs that are built now call what is in
+ * that doesn't fit keeps 6 or 7 runs fewer, and one for which as few were asked doesn't fit at all. Programs that are built now call what is in
  * the node of version 16.
  */
 #include "tcpcore.h"

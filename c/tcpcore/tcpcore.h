@@ -1128,12 +1128,16 @@ uint32_t tcpcore_connection_resend_first(tcpcore_connection *connection, uint64_
  * Chooses the congestion window of the connection (RFC 5681, 3): TCPCORE_CONGESTION_NONE, which is the default, TCPCORE_CONGESTION_RENO or
  * TCPCORE_CONGESTION_CUBIC. From then on what goes out ends within that window, too, by both emissions and beside `window` of theirs; what
  * is acknowledged, lost and resent, and an idle time, make it grow and shrink. Call it any time before text is sent, also right after the
- * making of the connection: the window begins as RFC 6928 has it with the MSS that both SYNs agree on. Of version 16, as the next.
+ * making of the connection: the window begins as RFC 6928 has it with the MSS that both SYNs agree on, and with one segment where a SYN was
+ * lost since then (RFC 5681, 3.1). A loss before that it doesn't know of: so choose it behind the making. Of version 16, as the next.
  *   DONE; NO_RULE: text was sent already, or a FIN; nothing changed. BAD_RULES: no window has this number. NO_END; NULL; COPIED.
  */
 uint32_t tcpcore_connection_set_congestion(tcpcore_connection *connection, uint32_t congestion);
 
-/* Reports the congestion window as it is: which was chosen, cwnd and ssthresh. DONE; NO_END; NULL; OVERLAP; COPIED. */
+/*
+ * Reports the congestion window as it is: which was chosen, cwnd, ssthresh and SMSS, and whether a loss isn't repaired yet.
+ *   DONE; NO_END; NULL; OVERLAP; COPIED.
+ */
 uint32_t tcpcore_connection_congestion(const tcpcore_connection *connection, struct tcpcore_congestion *congestion);
 
 /*

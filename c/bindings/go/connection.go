@@ -127,8 +127,8 @@ func (rules Rules) c() C.struct_tcpcore_connection_rules {
 //  4. Timeout. Where a timer has expired Emit again until nothing is due, and look for another one.
 //  5. In CLOSED the connection is over: Free it. Else go on with 1.
 //
-// Left to the caller are congestion control and delayed acknowledgements: who has some of the emissions wait goes by AtOnce of the
-// ArriveReport (RFC 5681, 4.2).
+// Where the path may be congested SetCongestion chooses a congestion window. Left to the caller are delayed acknowledgements: who has some
+// of the emissions wait goes by AtOnce of the ArriveReport (RFC 5681, 4.2).
 type Connection struct {
 	// Window is that of the caller's congestion control (RFC 5681, 3.1), in bytes: what ends more than so many numbers past SND.UNA waits,
 	// unless nothing before it is in flight. Connect and Listen set the greatest number, which holds back nothing.

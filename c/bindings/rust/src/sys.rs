@@ -2,7 +2,7 @@
 use core::ffi::c_void;
 use core::ptr;
 
-pub(crate) const VERSION: u32 = 15;
+pub(crate) const VERSION: u32 = 16;
 pub(crate) const END_SIZE: usize = 416;
 pub(crate) const CONNECTION_SIZE: usize = 880;
 pub(crate) const MARK_SIZE: usize = 8;

@@ -63,8 +63,8 @@ use rules::NEVER;
 /// # Ok::<(), tcpcore::Error>(())
 /// ```
 ///
-/// Left to the caller are congestion control ([`poll_transmit_within`](Connection::poll_transmit_within)) and delayed acknowledgements:
-/// who has some of the emissions wait goes by [`ArriveReport::at_once`] (RFC 5681, 4.2).
+/// Where the path may be congested [`set_congestion`](Connection::set_congestion) chooses a congestion window. Left to the caller are
+/// delayed acknowledgements: who has some of the emissions wait goes by [`ArriveReport::at_once`] (RFC 5681, 4.2).
 pub struct Connection<'m> {
     /// The C struct, at the front of the block, where it stays.
     raw: NonNull<sys::Connection>,
