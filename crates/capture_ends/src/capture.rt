@@ -1,5 +1,6 @@
 //! A capture read to its end.
-ghost use Rattle.std.specs.Prelude.{◌≡◌, ◌↔◌, ◌++◌, [], IfOk, IfSome, IsSome, None, length, false};
+ghost use Rattle.std.specs.Prelude.{◌≡◌, ◌↔◌, ◌++◌, [], IfOk, IfSome, IsSome, None, Some, length, false, true};
+ghost use Rattle.capture_form.specs.Blocks.{is_section};
 ghost use Rattle.capture_form.specs.Pcap.{form_of};
 ghost use Rattle.capture_form.specs.Sections.{start};
 ghost use Rattle.capture_window.specs.Windows.{Holds, HoldsBehind, wires, section_wires};
@@ -112,6 +113,8 @@ pub fn open_capture<I: Input, A: Allocator>(
 ) -> Result<Option<CaptureForm>, CaptureError>
     ensures pcap { IfOk result (λ form. IfSome (I.remaining input.old) (λ bytes. pcap_form form ≡ form_of (window.old ++ bytes))) }
     ensures behind { IfOk result (λ form. IsSome (pcap_form form) → HoldsBehind (I.remaining input.old) window.old (I.remaining input.new) window.new) }
+    ensures sections { IfOk result (λ form. form ≡ Some CaptureForm.Sections → is_section window.new ≡ true) }
+    ensures none { IfOk result (λ form. form ≡ None → is_section window.new ≡ false) }
     ensures held { IfOk result (λ form. pcap_form form ≡ None → Holds (I.remaining input.old) window.old (I.remaining input.new) window.new) }
 {
     if let Some(form) = open(input, window)? {
