@@ -244,7 +244,7 @@ enum {
 
 /* The bytes of stack that tcpcore_connection_connect and tcpcore_connection_listen take at most; a connection's other calls take less
    than TCPCORE_STACK. */
-#define TCPCORE_CONNECTION_STACK 4096
+#define TCPCORE_CONNECTION_STACK 5120
 
 /* The room that tcpcore_emit wants, in bytes: more than the longest segment of an end. */
 #define TCPCORE_EMIT_ROOM 1520
