@@ -130,7 +130,7 @@ extern "C" {
 #endif
 
 /* The version of this header: it grows with each change of a struct, a call or an answer. */
-#define TCPCORE_VERSION 15
+#define TCPCORE_VERSION 16
 
 /* The answers; tcpcore_strerror has a text for each. */
 enum {
@@ -159,7 +159,7 @@ enum {
     TCPCORE_BAD_ADDR = 26,     /* the address is 0.0.0.0, which no end has (RFC 1122, 3.2.1.3) */
     TCPCORE_BAD_PORT = 27,     /* the port is 0, which no end has (RFC 6335, 6) */
     TCPCORE_BAD_RUNS = 28,     /* the number of runs is above TCPCORE_MAX_RUNS */
-    TCPCORE_BAD_RULES = 29,    /* no timeout can be made from the rules of a connection */
+    TCPCORE_BAD_RULES = 29,    /* no timeout can be made from the rules of a connection; no congestion window has this number */
     /* The boundary refuses; nothing changed. */
     TCPCORE_NO_END = 31,    /* no end is in the struct: never made, or freed */
     TCPCORE_IN_USE = 32,    /* tcpcore_new: the struct holds an end already */
@@ -175,7 +175,8 @@ enum {
     TCPCORE_END_OF_STREAM = 52, /* tcpcore_receive: the peer closed, and all its bytes were delivered */
     TCPCORE_NOT_DUE = 53,       /* no segment is due; tcpcore_stray_reset: no reset answers the bytes; tcpcore_connection_timeout: no timer has
                                    expired */
-    TCPCORE_NO_RULE = 54,       /* tcpcore_timer: the timer's bit was clear; nothing changed */
+    TCPCORE_NO_RULE = 54,       /* tcpcore_timer: the timer's bit was clear; tcpcore_connection_set_congestion: text was sent already;
+                                   nothing changed */
     TCPCORE_DROPPED = 55,       /* an arrival: the segment was dropped; an answer to it may be due */
     TCPCORE_NOT_MINE = 56,      /* an arrival: the segment is another connection's; nothing changed */
     TCPCORE_NOT_TIME_WAIT = 57,   /* tcpcore_time_wait: the end isn't in TIME-WAIT, or has bytes unread */
@@ -215,6 +216,13 @@ enum {
     TCPCORE_TIMER_USER = 3        /* of a connection alone: the user timeout (RFC 9293, 3.8.3), or the limit of FIN-WAIT-2 */
 };
 
+/* The congestion window of a connection, which tcpcore_connection_set_congestion chooses. */
+enum {
+    TCPCORE_CONGESTION_NONE = 0, /* none: what the peer and the caller let out goes out */
+    TCPCORE_CONGESTION_RENO = 1, /* that of RFC 5681, with the recovery of RFC 6582 and the limited transmit of RFC 3042 */
+    TCPCORE_CONGESTION_CUBIC = 2 /* that of RFC 9438 */
+};
+
 /* How many runs an end keeps where the config has 0, and the greatest number: see `runs` of tcpcore_config. */
 #define TCPCORE_RUNS 128
 #define TCPCORE_MAX_RUNS 4096
@@ -236,7 +244,7 @@ enum {
 
 /* The bytes of stack that tcpcore_connection_connect and tcpcore_connection_listen take at most; a connection's other calls take less
    than TCPCORE_STACK. */
-#define TCPCORE_CONNECTION_STACK 4096
+#define TCPCORE_CONNECTION_STACK 5120
 
 /* The room that tcpcore_emit wants, in bytes: more than the longest segment of an end. */
 #define TCPCORE_EMIT_ROOM 1520
@@ -890,8 +898,9 @@ uint32_t tcpcore_time_wait_status(const struct tcpcore_time_wait *time_wait, uin
  *      with 2.
  *   6. Free it once `phase` is TCPCORE_PHASE_CLOSED, and nothing is due: tcpcore_connection_free.
  *
- *   Left to the caller are congestion control (`window` of tcpcore_connection_emit) and delayed acknowledgements: who has some of the
- *   emissions wait goes by `at_once` of the report (RFC 5681, 4.2).
+ *   Where the path may be congested, one line behind the making chooses a congestion window (RFC 5681; RFC 9438), of which nothing else
+ *   has to be called: tcpcore_connection_set_congestion(&connection, TCPCORE_CONGESTION_CUBIC). Left to the caller are delayed
+ *   acknowledgements: who has some of the emissions wait goes by `at_once` of the report (RFC 5681, 4.2).
  */
 
 /* A connection, placed by the caller. Its words are the library's: set them by TCPCORE_CONNECTION_INIT alone. */
@@ -944,6 +953,22 @@ struct tcpcore_connection_rules {
 #define TCPCORE_CONNECTION_RULES_DEFAULT \
     {1000000, 1000000, 60000000, 1000, 3000000, 240000000, 180000000, 300000000, TCPCORE_NEVER, 3, TCPCORE_GUARD, {0}}
 
+/* The congestion window of a connection (RFC 5681, 3), in bytes. */
+struct tcpcore_congestion {
+    /* The congestion window; 2^40 where none was chosen, more than is ever in flight. */
+    uint64_t cwnd;
+    /* The slow start threshold; 2^40 before a loss. */
+    uint64_t ssthresh;
+    /* SMSS: 536 until the SYNs have agreed on it; 0 where no window was chosen. */
+    uint64_t smss;
+    /* Which was chosen: TCPCORE_CONGESTION_NONE, 0, to TCPCORE_CONGESTION_CUBIC, 2. */
+    uint32_t congestion;
+    /* Whether a loss was found that isn't repaired yet: 1, or 0. */
+    uint32_t is_recovering;
+    /* 0. Fields of later versions take their place from here: the struct's size stays. */
+    uint32_t reserved[8];
+};
+
 /* What tcpcore_connection_emit reports of the segment that it wrote. */
 struct tcpcore_connection_segment {
     /* Its length in bytes, with its header. */
@@ -960,7 +985,7 @@ struct tcpcore_connection_segment {
 };
 
 /* How many bytes of a block are enough for a connection: as TCPCORE_MEMORY_RUNS and TCPCORE_MEMORY. */
-#define TCPCORE_CONNECTION_MEMORY_RUNS(send, receive, runs) (TCPCORE_MEMORY_RUNS(send, receive, runs) - 416 + 720)
+#define TCPCORE_CONNECTION_MEMORY_RUNS(send, receive, runs) (TCPCORE_MEMORY_RUNS(send, receive, runs) - 416 + 880)
 #define TCPCORE_CONNECTION_MEMORY(send, receive) TCPCORE_CONNECTION_MEMORY_RUNS(send, receive, TCPCORE_RUNS)
 
 /*
@@ -1034,8 +1059,9 @@ uint32_t tcpcore_connection_arrive_vouched(tcpcore_connection *connection, uint6
 
 /*
  * Writes the segment that is due at `now` to `out`, checksum and all (RFC 9293, 3.7, 3.8 and 3.10). What ends more than `window` numbers
- * past SND.UNA waits, unless nothing before it is in flight: `window` is that of the caller's congestion control (RFC 5681, 3.1), and
- * UINT64_MAX holds nothing back. A pending acknowledgement goes out alone where what is due waits, and before anything that is sent
+ * past SND.UNA waits, unless nothing before it is in flight: `window` is that of the caller's own congestion control (RFC 5681, 3.1), and
+ * UINT64_MAX holds nothing back. So does what ends past the congestion window that was chosen, if one was, and the segments that RFC 3042
+ * lets out beyond it. A pending acknowledgement goes out alone where what is due waits, and before anything that is sent
  * again.
  *   DONE: it takes the first segment->length bytes of `out`, and is for address segment->to; more may be due. What lies behind it in
  *   `out` stays. NOT_DUE: none may go out. ROOM: `room` is below TCPCORE_EMIT_ROOM. NO_END; NULL; LENGTH; OVERLAP; COPIED.
@@ -1097,6 +1123,22 @@ uint32_t tcpcore_connection_set_user_timeout(tcpcore_connection *connection, uin
  *   DONE: emit. NO_RULE: nothing is in flight. NO_END; NULL; COPIED.
  */
 uint32_t tcpcore_connection_resend_first(tcpcore_connection *connection, uint64_t now);
+
+/*
+ * Chooses the congestion window of the connection (RFC 5681, 3): TCPCORE_CONGESTION_NONE, which is the default, TCPCORE_CONGESTION_RENO or
+ * TCPCORE_CONGESTION_CUBIC. From then on what goes out ends within that window, too, by both emissions and beside `window` of theirs; what
+ * is acknowledged, lost and resent, and an idle time, make it grow and shrink. Call it any time before text is sent, also right after the
+ * making of the connection: the window begins as RFC 6928 has it with the MSS that both SYNs agree on, and with one segment where a SYN was
+ * lost since then (RFC 5681, 3.1). A loss before that it doesn't know of: so choose it behind the making. Of version 16, as the next.
+ *   DONE; NO_RULE: text was sent already, or a FIN; nothing changed. BAD_RULES: no window has this number. NO_END; NULL; COPIED.
+ */
+uint32_t tcpcore_connection_set_congestion(tcpcore_connection *connection, uint32_t congestion);
+
+/*
+ * Reports the congestion window as it is: which was chosen, cwnd, ssthresh and SMSS, and whether a loss isn't repaired yet.
+ *   DONE; NO_END; NULL; OVERLAP; COPIED.
+ */
+uint32_t tcpcore_connection_congestion(const tcpcore_connection *connection, struct tcpcore_congestion *congestion);
 
 /*
  * The text of an answer, such as "nothing to read yet". It is never NULL, nobody frees it, and any thread may ask for

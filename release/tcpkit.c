@@ -58,6 +58,7 @@ struct block {
 CODE u32 tcp_web_replay(struct block, const u8 *script, size_t, u8 *out, size_t, size_t *count);
 CODE u32 tcp_web_list(struct block, const u8 *list, size_t, u8 *out, size_t, size_t *count, size_t *line);
 CODE u32 tcp_web_judge(struct block, const u8 *log, size_t, u32 is_complete, u32 is_first, u8 *out, size_t, size_t *count, size_t *line);
+CODE u32 tcp_web_capture(struct block, const u8 *file, size_t, const u8 *at, size_t, u32 is_json, u32 is_painted, u8 *out, size_t, size_t *count);
 
 struct work {
     const u8 *input;
@@ -72,6 +73,7 @@ struct work {
 #define MODULE(name) tcp_web_##name
 #define BLOCK(work) ((struct block){(work)->memory + (work)->room, (work)->room})
 #define INPUT(work) (work)->input, (work)->length
+#define WORD(work, word) (const u8 *)(word), strlen(word)
 #define OUTPUT(work) (work)->memory, (work)->room
 #define COUNT(work) &(work)->count
 #define LINE(work) &(work)->line
@@ -117,11 +119,12 @@ __asm__(
     ".section .rodata.tcp.0,\"a\",%progbits\n"
     ".balign 16\n"
     ".Ltcp0:\n"
-    ".octa 0x80808080808080808080808080808080,0x80800607808004058080020380800001,0x6b6361202c726564726f203a65746f6e\n"
-    ".octa 0x6e612073746e656d656764656c776f6e,0x2074276e65726120736b636f6c622064,0x656d676573207361202c64656764756a\n"
-    ".octa 0x697373696d2065622079616d2073746e,0xd0d0d0d0d0d0d0d0d0d0d0d0d0d0d0d0,0x20202020202020202020202020202020\n"
-    ".octa 0x9f9f9f9f9f9f9f9f9f9f9f9f9f9f9f9f,0x9090909090909090909090909090909,0xa0a0a0a0a0a0a0a0a0a0a0a0a0a0a0a\n"
-    ".octa 0x10101010101010101010101010101010,0xff00ff00ff00ff00ff00ff00ff00ff,0x1\n"
+    ".octa 0x80808080808080808080808080808080,0x6b6361202c726564726f203a65746f6e,0x6e612073746e656d656764656c776f6e\n"
+    ".octa 0x2074276e65726120736b636f6c622064,0x656d676573207361202c64656764756a,0x697373696d2065622079616d2073746e\n"
+    ".octa 0xd0d0d0d0d0d0d0d0d0d0d0d0d0d0d0d0,0x20202020202020202020202020202020,0x9f9f9f9f9f9f9f9f9f9f9f9f9f9f9f9f\n"
+    ".octa 0x9090909090909090909090909090909,0xa0a0a0a0a0a0a0a0a0a0a0a0a0a0a0a,0x10101010101010101010101010101010\n"
+    ".octa 0xff00ff00ff00ff00ff00ff00ff00ff,0x80800607808004058080020380800001,0xe0f0c0d0a0b08090607040502030001\n"
+    ".octa 0xc0d0e0f08090a0b0405060700010203,0x80800607808004058080020380800001,0x1\n"
     ".octa 0x6f6e206863696877202c736b636f6c62,0x7020656d61632074616874204e595320,0x303220434652282064657474696d7265\n"
     ".octa 0x69772073726577736e61204e59532061,0x6c61637320776f646e69772061206874,0x666f204e5953206f6e20746168742065\n"
     ".octa 0x2c333233372043465228206465726566,0x74207075204e494620726f2074786574,0x7461204e49462065687420646e61202c\n"
@@ -129,19 +132,39 @@ __asm__(
     ".octa 0x29332e32202c33323337204346522820,0x4e595320666f206e6f6974706f206e61,0x67657320726568746f6e61206e692073\n"
     ".octa 0x202c33393239204346522820746e656d,0x6220746120676e696464617020656874,0x736e69676562206e6f6974706f206f6e\n"
     ".octa 0x2074657366666f206174616420656874,0x207369206d75736b6365686320656874,0x74612073616820746e656d6765732061\n"
-    ".octa 0x657479622035313535362074736f6d20,0x29312e33202c33393239204346522820,0x80800607808004058080020380800001\n"
-    ".octa 0xf0f0f0f0f0f0f0f0f0f0f0f0f0f0f0f,0xa0a0a0a0a0a0a0a0a0a0a0a0a0a0a0a0,0x57575757575757575757575757575757\n"
-    ".octa 0x30303030303030303030303030303030,0x9090909090909090909090909090909,0x80808080808080808080808080808080\n"
-    ".octa 0x3e8000000010100000a80000000,0x5b400001388000000020200000a,0x6500\n"
-    ".octa 0x73000000730000007300000073,0x6f0000,0x6500\n"
-    ".octa 0x6c0064,0x6c0064,0x80800607808004058080020380800001\n"
-    ".octa 0xe0f0c0d0a0b08090607040502030001,0x80800607808004058080020380800001,0xe0f0c0d0a0b08090607040502030001\n"
+    ".octa 0x657479622035313535362074736f6d20,0x29312e33202c33393239204346522820,0x80808080808080808080808080808080\n"
+    ".octa 0x80800607808004058080020380800001,0xf0f0f0f0f0f0f0f0f0f0f0f0f0f0f0f,0xa0a0a0a0a0a0a0a0a0a0a0a0a0a0a0a0\n"
+    ".octa 0x57575757575757575757575757575757,0x30303030303030303030303030303030,0x9090909090909090909090909090909\n"
+    ".octa 0x80808080808080808080808080808080,0x3e8000000010100000a80000000,0x5b400001388000000020200000a\n"
+    ".octa 0x6500,0x73000000730000007300000073,0x6f0000\n"
+    ".octa 0x6500,0x6c0064,0x6c0064\n"
     ".octa 0x80800607808004058080020380800001,0xe0f0c0d0a0b08090607040502030001,0x80800607808004058080020380800001\n"
-    ".octa 0xc0d0e0f08090a0b0405060700010203,0x405060700010203,0x80800607808004058080020380800001\n"
-    ".octa 0x80800607808004058080020380800001,0x80800607808004058080020380800001,0x10000000000000000\n"
-    ".octa 0x80800607808004058080020380800001,0x20000000000000000,0x30000000000000000\n"
-    ".octa 0x3,0xff00000000000000ff,0x1\n"
-    ".octa 0x676465202d2074786e202d20616e7520,0x20656e696c203134203a74696b706374,0x80808080808080808080808080808080\n"
+    ".octa 0xe0f0c0d0a0b08090607040502030001,0x80800607808004058080020380800001,0xe0f0c0d0a0b08090607040502030001\n"
+    ".octa 0x80800607808004058080020380800001,0xc0d0e0f08090a0b0405060700010203,0x405060700010203\n"
+    ".octa 0x80800607808004058080020380800001,0x80800607808004058080020380800001,0x80800607808004058080020380800001\n"
+    ".octa 0x10000000000000000,0x80800607808004058080020380800001,0x20000000000000000\n"
+    ".octa 0x30000000000000000,0x3,0xff00000000000000ff\n"
+    ".octa 0x1,0x676465202d2074786e202d20616e7520,0x20656e696c203134203a74696b706374\n"
+    ".octa 0x7373696d20657261207374656b636170,0x65687720646570706f7264203a676e69,0x6177206572757470616320656874206e\n"
+    ".octa 0x6f206e6920726f202c6e656b61742073,0x622074656b636170206574656c6f7362,0x657261206863696877202c736b636f6c\n"
+    ".octa 0x435420666f20746e656d676573206f6e,0x4920726f2034765049207265766f2050,0x207461687720746e65732073646e6520\n"
+    ".octa 0x616877202c73646962726f6620504354,0x726f7774656e20656874207265766574,0x7461687720746e657320646e65206f4e\n"
+    ".octa 0x20746168742073656c75722065687420,0x6962726f662064656972742065726577,0x6764756a2073617720676e6968746f4e\n"
+    ".octa 0x65727574706163223a22646e696b227b,0x102030405060708090a0b0c0d0e0f,0x1020304050607\n"
+    ".octa 0x1020304050607,0xe0c0a08060402000d0b0907050301,0xe0f0c0d0a0b08090607040502030001\n"
+    ".octa 0x80800607808004058080020380800001,0xe0f0c0d0a0b08090607040502030001,0x80800607808004058080020380800001\n"
+    ".octa 0x3f3f3fff,0x808080f0,0xf000f000fffff\n"
+    ".octa 0xa000a000aa000,0x30303030,0x57575757\n"
+    ".octa 0xa000a000aa000,0x65626d756e2065766974616c65725b20,0x202c676e6968746f6e20746e6573203a\n"
+    ".octa 0xf0e0d0c0b0a09080706050401000203,0x6d75736b636568635f676e6f7277222c,0x6f6e206863696877202c736b636f6c62\n"
+    ".octa 0x7020656d61632074616874204e595320,0x303220434652282064657474696d7265,0x69772073726577736e61204e59532061\n"
+    ".octa 0x6c61637320776f646e69772061206874,0x666f204e5953206f6e20746168742065,0x2c333233372043465228206465726566\n"
+    ".octa 0x74207075204e494620726f2074786574,0x7461204e49462065687420646e61202c,0x29342e33202c33393239204346522820\n"
+    ".octa 0x333932392043465228204b4341206f6e,0x34312065766f62612074666968732061,0x29332e32202c33323337204346522820\n"
+    ".octa 0x4e595320666f206e6f6974706f206e61,0x67657320726568746f6e61206e692073,0x202c33393239204346522820746e656d\n"
+    ".octa 0x6220746120676e696464617020656874,0x736e69676562206e6f6974706f206f6e,0x2074657366666f206174616420656874\n"
+    ".octa 0x207369206d75736b6365686320656874,0x74612073616820746e656d6765732061,0x657479622035313535362074736f6d20\n"
+    ".octa 0x29312e33202c33393239204346522820,0x70206e6920747372696620656874202c,0x80808080808080808080808080808080\n"
     ".octa 0x80800607808004058080020380800001,0x29312e33202c33393239204346522820,0x29342e33202c33393239204346522820\n"
     ".octa 0x66656463626139383736353433323130,0x20656e696c203134203a74696b706374\n"
     ".section .text.tcp.1,\"ax\",%progbits\n"
@@ -191,23 +214,35 @@ __asm__(
     ".section .text.tcp.4,\"ax\",%progbits\n"
     ".balign 16\n"
     ".Ltcp4:\n"
-    ".type \"core::cmp::slices::groups_equal::<i8,31'core::cmp::numbers::U8PartialEq{}>\",%function\n"
-    ".size \"core::cmp::slices::groups_equal::<i8,31'core::cmp::numbers::U8PartialEq{}>\",496\n"
-    "\"core::cmp::slices::groups_equal::<i8,31'core::cmp::numbers::U8PartialEq{}>\":\n"
-    ".octa 0x3744223a0f66076e0f662a7708fe8348,0x486601fc324c223a0f660a6e0f6601fc,0x1bae9c83948c97e0f4866c07e0f\n"
-    ".octa 0x8b908f88348f8468d486f7720fe8348,0x10b84110f88348c8420f48000000,0xf660f7e0ff30f047e0ff3c0420f4c00\n"
-    ".octa 0xf66f837547e0ff307047e0f42f3c86c,0x66da6c0f661a7e0ff30a147e0ff3c26c,0x66f832547e0ff3020c7e0f42f3d9ef0f\n"
-    ".octa 0xc917380f66cbeb0f66c8ef0f66ca6c0f,0xf3076f0ff3507341fe834800000145e9,0x426f0ff3d0ef0f66126f0ff3104f6f0f\n"
-    ".octa 0x375c6f0ff3e0374c6f0ff3c1ef0f6610,0xf3e2eb0f66e1ef0f66e032646f0ff3f0,0xeb0f66c8eb0f66cbef0f66f0324c6f0f\n"
-    ".octa 0xf18948c031000000efe9c917380f66cc,0x7546f0ff310074c6f0ff307046f0ff3,0xe0740f6602246f0ff330075c6f0ff320\n"
-    ".octa 0x20024c6f0ff3c1740f661002446f0ff3,0xf663002546f0ff3ccdb0f66ca740f66,0x41c2d70f4466d1db0f66d0db0f66d374\n"
-    ".octa 0xc0c1834840c083480e750000fffff881,0x48f18948557220f983489a773ff98348,0x841f0f2e6666666666c129\n"
-    ".octa 0x2146f0ff310074c6f0ff307046f0ff3,0xf66c1ef0f661002446f0ff3d0ef0f66,0xc1834820c083481075c017380f66c2eb\n"
-    ".octa 0x771ff9834801b008ebc97320f98348e0,0x6f0ff3f0374c6f0ff3e037446f0ff32c,0xef0f66f032446f0ff3d0ef0f66e03254\n"
-    ".octa 0xc30134c0950fc017380f66c2eb0f66c1\n"
+    ".type \"core::slice::scan::any_in_quarters::<#953750c03e87c3e2>\",%function\n"
+    ".size \"core::slice::scan::any_in_quarters::<#953750c03e87c3e2>\",110\n"
+    "\"core::slice::scan::any_in_quarters::<#953750c03e87c3e2>\":\n"
+    ".octa 0x420f4800000008b908f88348f8428d48,0xf3c0420f4c00000010b84110f88348c8,0x7e0f42f3c86c0f660f7e0ff30f047e0f\n"
+    ".octa 0x147e0ff3c26c0f66f817547e0ff30704,0xf42f3d9ef0f66da6c0f661e7e0ff30e,0xef0f66ca6c0f66f816547e0ff3060c7e\n"
+    ".quad 0x380f66cbeb0f66c8\n"
+    ".long 0x950fc917\n"
+    ".short 0xc3c0\n"
     ".section .text.tcp.5,\"ax\",%progbits\n"
     ".balign 16\n"
     ".Ltcp5:\n"
+    ".type \"core::cmp::slices::groups_equal::<i8,31'core::cmp::numbers::U8PartialEq{}>\",%function\n"
+    ".size \"core::cmp::slices::groups_equal::<i8,31'core::cmp::numbers::U8PartialEq{}>\",419\n"
+    "\"core::cmp::slices::groups_equal::<i8,31'core::cmp::numbers::U8PartialEq{}>\":\n"
+    ".octa 0x3744223a0f66076e0f662b7708fe8348,0x486601fc324c223a0f660a6e0f6601fc,0x134c0950fc83948c97e0f4866c07e0f\n"
+    ".octa 0x8948d68948f0894850167720fe8348c3,0xfe8348c3013408c4834800000000e8c2,0x126f0ff3104f6f0ff3076f0ff34d7341\n"
+    ".octa 0x6f0ff3c1ef0f6610426f0ff3d0ef0f66,0x66e032646f0ff3f0375c6f0ff3e0374c,0xef0f66f0324c6f0ff3e2eb0f66e1ef0f\n"
+    ".octa 0x8bebc917380f66cceb0f66c8eb0f66cb,0x841f0f2e6666f18948c031,0x7546f0ff310074c6f0ff307046f0ff3\n"
+    ".octa 0xe0740f6602246f0ff330075c6f0ff320,0x20024c6f0ff3c1740f661002446f0ff3,0xf663002546f0ff3ccdb0f66ca740f66\n"
+    ".octa 0x41c2d70f4466d1db0f66d0db0f66d374,0xc0c1834840c083480e750000fffff881,0x48f18948597220f983489a773ff98348\n"
+    ".octa 0x841f0f2e6666666666c129,0x2146f0ff310074c6f0ff307046f0ff3,0xf66c1ef0f661002446f0ff3d0ef0f66\n"
+    ".octa 0xc1834820c083481075c017380f66c2eb,0xf1ff9834801b00cebc97320f98348e0,0x374c6f0ff3e037446f0ff3fffffeb987\n"
+    ".octa 0x32446f0ff3d0ef0f66e032546f0ff3f0,0x88e9c017380f66c2eb0f66c1ef0f66f0\n"
+    ".short 0xfffe\n"
+    ".byte 0xff\n"
+    ".reloc .Ltcp5+66,R_X86_64_PLT32,.Ltcp4-4\n"
+    ".section .text.tcp.6,\"ax\",%progbits\n"
+    ".balign 16\n"
+    ".Ltcp6:\n"
     ".type \"kit_text::addresses::read_addr\",%function\n"
     ".size \"kit_text::addresses::read_addr\",782\n"
     "\"kit_text::addresses::read_addr\":\n"
@@ -230,16 +265,16 @@ __asm__(
     ".quad 0x143c70003\n"
     ".long 0xfdf3e900\n"
     ".short 0xffff\n"
-    ".reloc .Ltcp5+87,R_X86_64_PLT32,.Ltcp2-4\n"
-    ".reloc .Ltcp5+199,R_X86_64_PLT32,.Ltcp2-4\n"
-    ".reloc .Ltcp5+343,R_X86_64_PLT32,.Ltcp2-4\n"
-    ".reloc .Ltcp5+546,R_X86_64_PLT32,.Ltcp6-4\n"
-    ".reloc .Ltcp5+568,R_X86_64_PLT32,.Ltcp6-4\n"
-    ".reloc .Ltcp5+593,R_X86_64_PLT32,.Ltcp6-4\n"
-    ".reloc .Ltcp5+730,R_X86_64_PLT32,.Ltcp2-4\n"
-    ".section .text.tcp.6,\"ax\",%progbits\n"
+    ".reloc .Ltcp6+87,R_X86_64_PLT32,.Ltcp2-4\n"
+    ".reloc .Ltcp6+199,R_X86_64_PLT32,.Ltcp2-4\n"
+    ".reloc .Ltcp6+343,R_X86_64_PLT32,.Ltcp2-4\n"
+    ".reloc .Ltcp6+546,R_X86_64_PLT32,.Ltcp7-4\n"
+    ".reloc .Ltcp6+568,R_X86_64_PLT32,.Ltcp7-4\n"
+    ".reloc .Ltcp6+593,R_X86_64_PLT32,.Ltcp7-4\n"
+    ".reloc .Ltcp6+730,R_X86_64_PLT32,.Ltcp2-4\n"
+    ".section .text.tcp.7,\"ax\",%progbits\n"
     ".balign 16\n"
-    ".Ltcp6:\n"
+    ".Ltcp7:\n"
     ".type \"kit_text::addresses::read_octet\",%function\n"
     ".size \"kit_text::addresses::read_octet\",121\n"
     "\"kit_text::addresses::read_octet\":\n"
@@ -248,9 +283,9 @@ __asm__(
     ".octa 0xf4800000100bac0920f00000100f981\n"
     ".quad 0xd231c3d6430fd142\n"
     ".byte 0xc3\n"
-    ".section .text.tcp.7,\"ax\",%progbits\n"
+    ".section .text.tcp.8,\"ax\",%progbits\n"
     ".balign 16\n"
-    ".Ltcp7:\n"
+    ".Ltcp8:\n"
     ".type \"kit_text::bytes::read_bytes::<#244039bd4e0652a3>\",%function\n"
     ".size \"kit_text::bytes::read_bytes::<#244039bd4e0652a3>\",794\n"
     "\"kit_text::bytes::read_bytes::<#244039bd4e0652a3>\":\n"
@@ -277,16 +312,16 @@ __asm__(
     ".quad 0xbde9f1894cc2014c\n"
     ".short 0xfffd\n"
     ".byte 0xff\n"
-    ".reloc .Ltcp7+465,R_X86_64_PC32,.Ltcp0+108\n"
-    ".reloc .Ltcp7+485,R_X86_64_PC32,.Ltcp0+124\n"
-    ".reloc .Ltcp7+501,R_X86_64_PC32,.Ltcp0+140\n"
-    ".reloc .Ltcp7+517,R_X86_64_PC32,.Ltcp0+156\n"
-    ".reloc .Ltcp7+545,R_X86_64_PC32,.Ltcp0+172\n"
-    ".reloc .Ltcp7+583,R_X86_64_PC32,.Ltcp0+188\n"
-    ".reloc .Ltcp7+645,R_X86_64_PC32,.Ltcp0+204\n"
-    ".section .text.tcp.8,\"ax\",%progbits\n"
+    ".reloc .Ltcp8+465,R_X86_64_PC32,.Ltcp0+92\n"
+    ".reloc .Ltcp8+485,R_X86_64_PC32,.Ltcp0+108\n"
+    ".reloc .Ltcp8+501,R_X86_64_PC32,.Ltcp0+124\n"
+    ".reloc .Ltcp8+517,R_X86_64_PC32,.Ltcp0+140\n"
+    ".reloc .Ltcp8+545,R_X86_64_PC32,.Ltcp0+156\n"
+    ".reloc .Ltcp8+583,R_X86_64_PC32,.Ltcp0+172\n"
+    ".reloc .Ltcp8+645,R_X86_64_PC32,.Ltcp0+188\n"
+    ".section .text.tcp.9,\"ax\",%progbits\n"
     ".balign 16\n"
-    ".Ltcp8:\n"
+    ".Ltcp9:\n"
     ".type \"tcp_numbers::sums::long_sum\",%function\n"
     ".size \"tcp_numbers::sums::long_sum\",862\n"
     "\"tcp_numbers::sums::long_sum\":\n"
@@ -311,41 +346,39 @@ __asm__(
     ".quad 0x108e2c117b60f0a\n"
     ".long 0x1d089c2\n"
     ".short 0xc3c8\n"
-    ".section .text.tcp.9,\"ax\",%progbits\n"
+    ".section .text.tcp.10,\"ax\",%progbits\n"
     ".balign 16\n"
-    ".Ltcp9:\n"
-    ".type \"tcp_wire::options_left::OptionsLeft::next\",%function\n"
-    ".size \"tcp_wire::options_left::OptionsLeft::next\",663\n"
-    "\"tcp_wire::options_left::OptionsLeft::next\":\n"
-    ".octa 0x2444c748d02444290fc0570f50535641,0xec840fc0854808468b4800000000e0,0x83415874c9854d09b60f440e8b480000\n"
-    ".octa 0x902444c748802444290f637501f9,0x45db31c93145db314500000001ba0000,0x8948d02948d10148ce8945d23145c031\n"
-    ".octa 0xfe0244489489024448b48084689480e,0x894d00000001b8d02444290f80244428,0x45cb8945c8894cc0314500000098e9d1\n"
-    ".octa 0x51b60f717401f8834800000085e9ce89,0xc2920f41d03948c0920f4102fa834801,0x44290ffe528d4c02418d4c5975c20845\n"
-    ".octa 0xc38341cb8945000000002404c748f024,0x1d8d4800000143870f03fb8341fe,0xf04fa83e3ff41db01499b1c634e0000\n"
-    ".octa 0x1b34108c3c16618b70f410000012985,0xc03100000171e9c93145c03145d23145,0x8948db31f63145db3145c93145c03145\n"
-    ".octa 0x47894c0a5f896609778844085f884407,0x8b482047110fd02444280f184f894c10,0x4dc35e415b08c4834830478948e02444\n"
-    ".octa 0x3145d2314503b341000000c6850fd285,0xdb894cf65a8d4c00000114e9c93145c0,0xf0000009f830f04fb83483ddba40f48\n"
-    ".octa 0xc02444c748a02444290fb0244429,0xbe820f0afa8000000000bbd231450000,0xc3ff4900000089840f03ebc149000000\n"
-    ".octa 0x708b45188b41c93145fee28349da894d,0xa0cc5c894acb0f48f3094c20e3c14804,0x708b4508588b41c0245c894801598d49\n"
-    ".octa 0xa8cc5c894acb0f48f3094c20e3c1480c,0xca394d10c08349c0244c894c02c18349,0x450f7503fa834deb317501c3f641b875\n"
-    ".octa 0x290f5febc03145d2314502b34108b60f,0x3105b34100000000902444c748802444,0x4408b45108b45c93145fffffe1fe9db\n"
-    ".octa 0x49a0cc54894eca0f49c2094d20e2c149,0x24548b4ca0245c8b48c0244c894cc1ff,0xfb02444280f2404894cc024448b4ca8\n"
-    ".octa 0x4cdb31d88949c9314504b341f0244429,0x44290ff02444280f902474894c24348b\n"
-    ".long 0xbee98024\n"
-    ".short 0xfffd\n"
-    ".byte 0xff\n"
-    ".reloc .Ltcp9+222,R_X86_64_PC32,.Ltcp10-4\n"
-    ".section .rodata.tcp.10,\"a\",%progbits\n"
-    ".balign 4\n"
     ".Ltcp10:\n"
-    ".octa 0x0\n"
-    ".reloc .Ltcp10+0,R_X86_64_PC32,.Ltcp9+236\n"
-    ".reloc .Ltcp10+4,R_X86_64_PC32,.Ltcp9+526\n"
-    ".reloc .Ltcp10+8,R_X86_64_PC32,.Ltcp9+343\n"
-    ".reloc .Ltcp10+12,R_X86_64_PC32,.Ltcp9+373\n"
-    ".section .text.tcp.11,\"ax\",%progbits\n"
-    ".balign 16\n"
+    ".type \"tcp_wire::options_left::OptionsLeft::next\",%function\n"
+    ".size \"tcp_wire::options_left::OptionsLeft::next\",590\n"
+    "\"tcp_wire::options_left::OptionsLeft::next\":\n"
+    ".octa 0x2444c748d02444290fc0570f50535641,0xec840fc0854808468b4800000000e0,0x83415874d2854d11b60f440e8b480000\n"
+    ".octa 0x902444c748802444290f637501fa,0x45db31d23145db314500000001ba0000,0x8948d02948d10148d68945c93145c031\n"
+    ".octa 0xfe0244489489024448b48084689480e,0x894d00000001b8d02444290f80244428,0x45d38945d0894cc0314500000098e9ca\n"
+    ".octa 0x51b60f717401f8834800000085e9d689,0xc1920f41d03948c0920f4102fa834801,0x44290ffe4a8d4c02418d4c5975c10845\n"
+    ".octa 0xc38341d38945000000002404c748f024,0x1d8d480000015b870f03fb8341fe,0xf04fa83e3ff41db01499b1c634e0000\n"
+    ".octa 0x1b34108c3c16618b70f410000014185,0xc03100000110e9d23145c03145c93145,0x8948db31f63145db3145d23145c03145\n"
+    ".octa 0x47894c0a5f896609778844085f884407,0x8b482047110fd02444280f1857894c10,0x4dc35e415b08c4834830478948e02444\n"
+    ".octa 0x3145c9314503b341000000de850fc985,0xefe38341d38941000000b3e9d23145c0,0xa02444290fb02444290f3a750afb8341\n"
+    ".octa 0xb841db3100000000c02444c748,0x95850f03fa8368eb2f730afa8000,0x6cebc03145c9314502b34110b60f4500\n"
+    ".octa 0xb02444290f7b7522fa83057412fa8348,0xfac1548b4600000001b841a02444290f,0x4eca0f49da094d20e2c149fec15c8b46\n"
+    ".octa 0xc0ff49f8c18349c02444894c98c45489,0xa8245c8b48a024448b4cd57707f98349,0x290fb02444280f240c894cc0244c8b4c\n"
+    ".octa 0x8b4cdb31d98949d2314504b341f02444,0x2444290ff02444280f902474894c2434,0x902444c748802444290ffffffe1fe980\n"
+    ".quad 0x3105b34100000000\n"
+    ".long 0xfe07e9db\n"
+    ".short 0xffff\n"
+    ".reloc .Ltcp10+222,R_X86_64_PC32,.Ltcp11-4\n"
+    ".section .rodata.tcp.11,\"a\",%progbits\n"
+    ".balign 4\n"
     ".Ltcp11:\n"
+    ".octa 0x0\n"
+    ".reloc .Ltcp11+0,R_X86_64_PC32,.Ltcp10+236\n"
+    ".reloc .Ltcp11+4,R_X86_64_PC32,.Ltcp10+412\n"
+    ".reloc .Ltcp11+8,R_X86_64_PC32,.Ltcp10+343\n"
+    ".reloc .Ltcp11+12,R_X86_64_PC32,.Ltcp10+373\n"
+    ".section .text.tcp.12,\"ax\",%progbits\n"
+    ".balign 16\n"
+    ".Ltcp12:\n"
     ".type \"core::fmt::formatter::Formatter::write_piece::<#a46843f377dcc739>\",%function\n"
     ".size \"core::fmt::formatter::Formatter::write_piece::<#a46843f377dcc739>\",383\n"
     "\"core::fmt::formatter::Formatter::write_piece::<#a46843f377dcc739>\":\n"
@@ -363,11 +396,11 @@ __asm__(
     ".quad 0x894c107b8b4c0873\n"
     ".long 0xea894ce6\n"
     ".short 0xa3eb\n"
-    ".reloc .Ltcp11+336,R_X86_64_PLT32,.Ltcp12-4\n"
-    ".reloc .Ltcp11+355,R_X86_64_PLT32,.Ltcp25-4\n"
-    ".section .text.tcp.12,\"ax\",%progbits\n"
+    ".reloc .Ltcp12+336,R_X86_64_PLT32,.Ltcp13-4\n"
+    ".reloc .Ltcp12+355,R_X86_64_PLT32,.Ltcp26-4\n"
+    ".section .text.tcp.13,\"ax\",%progbits\n"
     ".balign 16\n"
-    ".Ltcp12:\n"
+    ".Ltcp13:\n"
     ".type \"core::fmt::formatter::Formatter::write_indented::<#bc6dd3c8388e7ac9>\",%function\n"
     ".size \"core::fmt::formatter::Formatter::write_indented::<#bc6dd3c8388e7ac9>\",306\n"
     "\"core::fmt::formatter::Formatter::write_indented::<#bc6dd3c8388e7ac9>\":\n"
@@ -379,15 +412,15 @@ __asm__(
     ".octa 0xe6014de375cbff482975c08400000000,0x8348ea894cf6894cff894c004047c641,0xe95d5f415e415d415c415b08c4\n"
     ".octa 0x5f415e415d415c415b08c4834801b000\n"
     ".short 0xc35d\n"
-    ".reloc .Ltcp12+66,R_X86_64_PLT32,.Ltcp13-4\n"
-    ".reloc .Ltcp12+147,R_X86_64_PC32,.Ltcp54+8\n"
-    ".reloc .Ltcp12+160,R_X86_64_PLT32,.Ltcp13-4\n"
-    ".reloc .Ltcp12+227,R_X86_64_PC32,.Ltcp54+8\n"
-    ".reloc .Ltcp12+240,R_X86_64_PLT32,.Ltcp13-4\n"
-    ".reloc .Ltcp12+285,R_X86_64_PLT32,.Ltcp13-4\n"
-    ".section .text.tcp.13,\"ax\",%progbits\n"
+    ".reloc .Ltcp13+66,R_X86_64_PLT32,.Ltcp14-4\n"
+    ".reloc .Ltcp13+147,R_X86_64_PC32,.Ltcp55+8\n"
+    ".reloc .Ltcp13+160,R_X86_64_PLT32,.Ltcp14-4\n"
+    ".reloc .Ltcp13+227,R_X86_64_PC32,.Ltcp55+8\n"
+    ".reloc .Ltcp13+240,R_X86_64_PLT32,.Ltcp14-4\n"
+    ".reloc .Ltcp13+285,R_X86_64_PLT32,.Ltcp14-4\n"
+    ".section .text.tcp.14,\"ax\",%progbits\n"
     ".balign 16\n"
-    ".Ltcp13:\n"
+    ".Ltcp14:\n"
     ".type \"core::fmt::formatter::Formatter::write_raw::<#bc6dd3c8388e7ac9>\",%function\n"
     ".size \"core::fmt::formatter::Formatter::write_raw::<#bc6dd3c8388e7ac9>\",706\n"
     "\"core::fmt::formatter::Formatter::write_raw::<#bc6dd3c8388e7ac9>\":\n"
@@ -411,10 +444,10 @@ __asm__(
     ".octa 0x48fffffedae9ffffff69840fc2394cef,0xe8d78949d68948f68949fb89,0x4cf6894cffffff54840fc98401b0c189\n"
     ".octa 0xfe70e9105b8b48084b8b48df8948fa89\n"
     ".short 0xffff\n"
-    ".reloc .Ltcp13+668,R_X86_64_PLT32,.Ltcp25-4\n"
-    ".section .text.tcp.14,\"ax\",%progbits\n"
+    ".reloc .Ltcp14+668,R_X86_64_PLT32,.Ltcp26-4\n"
+    ".section .text.tcp.15,\"ax\",%progbits\n"
     ".balign 16\n"
-    ".Ltcp14:\n"
+    ".Ltcp15:\n"
     ".type \"kit_text::meaning::push_meaning::<#244039bd4e0652a3>\",%function\n"
     ".size \"kit_text::meaning::push_meaning::<#244039bd4e0652a3>\",7135\n"
     "\"kit_text::meaning::push_meaning::<#244039bd4e0652a3>\":\n"
@@ -587,119 +620,119 @@ __asm__(
     ".octa 0x3b860fffffe741820fc839481d74c139,0xffe72de90e7fbf083c80038b48ffffe7,0x1be9084b8948ffffe724860fc83948ff\n"
     ".short 0xffe7\n"
     ".byte 0xff\n"
-    ".reloc .Ltcp14+124,R_X86_64_PLT32,.Ltcp8-4\n"
-    ".reloc .Ltcp14+602,R_X86_64_PC32,.Ltcp0+604\n"
-    ".reloc .Ltcp14+717,R_X86_64_PC32,.Ltcp124-4\n"
-    ".reloc .Ltcp14+754,R_X86_64_PLT32,.Ltcp21-4\n"
-    ".reloc .Ltcp14+816,R_X86_64_PC32,.Ltcp15+88\n"
-    ".reloc .Ltcp14+879,R_X86_64_PC32,.Ltcp128-4\n"
-    ".reloc .Ltcp14+947,R_X86_64_PC32,.Ltcp126-4\n"
-    ".reloc .Ltcp14+1022,R_X86_64_PC32,.Ltcp127-4\n"
-    ".reloc .Ltcp14+1085,R_X86_64_PC32,.Ltcp125-4\n"
-    ".reloc .Ltcp14+1130,R_X86_64_PC32,.Ltcp129-4\n"
-    ".reloc .Ltcp14+1170,R_X86_64_PLT32,.Ltcp24-4\n"
-    ".reloc .Ltcp14+1269,R_X86_64_PLT32,.Ltcp16-4\n"
-    ".reloc .Ltcp14+1424,R_X86_64_PLT32,.Ltcp16-4\n"
-    ".reloc .Ltcp14+1461,R_X86_64_PLT32,.Ltcp16-4\n"
-    ".reloc .Ltcp14+1498,R_X86_64_PLT32,.Ltcp16-4\n"
-    ".reloc .Ltcp14+1535,R_X86_64_PLT32,.Ltcp16-4\n"
-    ".reloc .Ltcp14+1798,R_X86_64_PC32,.Ltcp104-4\n"
-    ".reloc .Ltcp14+1910,R_X86_64_PC32,.Ltcp104-4\n"
-    ".reloc .Ltcp14+1952,R_X86_64_PC32,.Ltcp104-4\n"
-    ".reloc .Ltcp14+2073,R_X86_64_PC32,.Ltcp104-4\n"
-    ".reloc .Ltcp14+2178,R_X86_64_PC32,.Ltcp104-4\n"
-    ".reloc .Ltcp14+2220,R_X86_64_PC32,.Ltcp104-4\n"
-    ".reloc .Ltcp14+2333,R_X86_64_PC32,.Ltcp104-4\n"
-    ".reloc .Ltcp14+2451,R_X86_64_PC32,.Ltcp104-4\n"
-    ".reloc .Ltcp14+2711,R_X86_64_PC32,.Ltcp104-4\n"
-    ".reloc .Ltcp14+2791,R_X86_64_PC32,.Ltcp104-4\n"
-    ".reloc .Ltcp14+2853,R_X86_64_PC32,.Ltcp104-4\n"
-    ".reloc .Ltcp14+2878,R_X86_64_PC32,.Ltcp104-4\n"
-    ".reloc .Ltcp14+3060,R_X86_64_PLT32,.Ltcp16-4\n"
-    ".reloc .Ltcp14+3254,R_X86_64_PC32,.Ltcp104-4\n"
-    ".reloc .Ltcp14+3387,R_X86_64_PC32,.Ltcp15-4\n"
-    ".reloc .Ltcp14+3403,R_X86_64_PC32,.Ltcp107-4\n"
-    ".reloc .Ltcp14+3415,R_X86_64_PC32,.Ltcp109-4\n"
-    ".reloc .Ltcp14+3427,R_X86_64_PC32,.Ltcp106-4\n"
-    ".reloc .Ltcp14+3634,R_X86_64_PC32,.Ltcp111-4\n"
-    ".reloc .Ltcp14+3659,R_X86_64_PC32,.Ltcp112-4\n"
-    ".reloc .Ltcp14+3693,R_X86_64_PC32,.Ltcp113-4\n"
-    ".reloc .Ltcp14+3728,R_X86_64_PC32,.Ltcp105-4\n"
-    ".reloc .Ltcp14+3763,R_X86_64_PC32,.Ltcp114-4\n"
-    ".reloc .Ltcp14+3798,R_X86_64_PC32,.Ltcp115-4\n"
-    ".reloc .Ltcp14+3833,R_X86_64_PC32,.Ltcp107-4\n"
-    ".reloc .Ltcp14+3868,R_X86_64_PC32,.Ltcp116-4\n"
-    ".reloc .Ltcp14+4326,R_X86_64_PLT32,.Ltcp17-4\n"
-    ".reloc .Ltcp14+4507,R_X86_64_PLT32,.Ltcp16-4\n"
-    ".reloc .Ltcp14+4550,R_X86_64_PC32,.Ltcp117-4\n"
-    ".reloc .Ltcp14+4571,R_X86_64_PLT32,.Ltcp17-4\n"
-    ".reloc .Ltcp14+4615,R_X86_64_PLT32,.Ltcp16-4\n"
-    ".reloc .Ltcp14+4658,R_X86_64_PC32,.Ltcp105-4\n"
-    ".reloc .Ltcp14+4667,R_X86_64_PC32,.Ltcp108-4\n"
-    ".reloc .Ltcp14+4676,R_X86_64_PC32,.Ltcp110-4\n"
-    ".reloc .Ltcp14+4922,R_X86_64_PC32,.Ltcp104-4\n"
-    ".reloc .Ltcp14+5044,R_X86_64_PC32,.Ltcp104-4\n"
-    ".reloc .Ltcp14+5117,R_X86_64_PC32,.Ltcp104-4\n"
-    ".reloc .Ltcp14+5164,R_X86_64_PC32,.Ltcp104-4\n"
-    ".reloc .Ltcp14+5211,R_X86_64_PC32,.Ltcp104-4\n"
-    ".reloc .Ltcp14+5285,R_X86_64_PC32,.Ltcp104-4\n"
-    ".reloc .Ltcp14+5591,R_X86_64_PC32,.Ltcp119-4\n"
-    ".reloc .Ltcp14+5766,R_X86_64_PLT32,.Ltcp9-4\n"
-    ".reloc .Ltcp14+5851,R_X86_64_PLT32,.Ltcp19-4\n"
-    ".reloc .Ltcp14+5890,R_X86_64_PLT32,.Ltcp9-4\n"
-    ".reloc .Ltcp14+5995,R_X86_64_PLT32,.Ltcp19-4\n"
-    ".reloc .Ltcp14+6017,R_X86_64_PLT32,.Ltcp16-4\n"
-    ".reloc .Ltcp14+6397,R_X86_64_PC32,.Ltcp104-4\n"
-    ".reloc .Ltcp14+6630,R_X86_64_PLT32,.Ltcp23-4\n"
-    ".reloc .Ltcp14+6662,R_X86_64_PLT32,.Ltcp16-4\n"
-    ".reloc .Ltcp14+6706,R_X86_64_PLT32,.Ltcp16-4\n"
-    ".reloc .Ltcp14+6743,R_X86_64_PLT32,.Ltcp16-4\n"
-    ".reloc .Ltcp14+6789,R_X86_64_PLT32,.Ltcp16-4\n"
-    ".reloc .Ltcp14+6843,R_X86_64_PC32,.Ltcp104-4\n"
-    ".reloc .Ltcp14+6883,R_X86_64_PLT32,.Ltcp16-4\n"
-    ".reloc .Ltcp14+6923,R_X86_64_PLT32,.Ltcp16-4\n"
-    ".reloc .Ltcp14+6954,R_X86_64_PC32,.Ltcp99-4\n"
-    ".reloc .Ltcp14+6969,R_X86_64_PLT32,.Ltcp17-4\n"
-    ".reloc .Ltcp14+6999,R_X86_64_PLT32,.Ltcp16-4\n"
-    ".section .rodata.tcp.15,\"a\",%progbits\n"
+    ".reloc .Ltcp15+124,R_X86_64_PLT32,.Ltcp9-4\n"
+    ".reloc .Ltcp15+602,R_X86_64_PC32,.Ltcp0+668\n"
+    ".reloc .Ltcp15+717,R_X86_64_PC32,.Ltcp125-4\n"
+    ".reloc .Ltcp15+754,R_X86_64_PLT32,.Ltcp22-4\n"
+    ".reloc .Ltcp15+816,R_X86_64_PC32,.Ltcp16+88\n"
+    ".reloc .Ltcp15+879,R_X86_64_PC32,.Ltcp129-4\n"
+    ".reloc .Ltcp15+947,R_X86_64_PC32,.Ltcp127-4\n"
+    ".reloc .Ltcp15+1022,R_X86_64_PC32,.Ltcp128-4\n"
+    ".reloc .Ltcp15+1085,R_X86_64_PC32,.Ltcp126-4\n"
+    ".reloc .Ltcp15+1130,R_X86_64_PC32,.Ltcp130-4\n"
+    ".reloc .Ltcp15+1170,R_X86_64_PLT32,.Ltcp25-4\n"
+    ".reloc .Ltcp15+1269,R_X86_64_PLT32,.Ltcp17-4\n"
+    ".reloc .Ltcp15+1424,R_X86_64_PLT32,.Ltcp17-4\n"
+    ".reloc .Ltcp15+1461,R_X86_64_PLT32,.Ltcp17-4\n"
+    ".reloc .Ltcp15+1498,R_X86_64_PLT32,.Ltcp17-4\n"
+    ".reloc .Ltcp15+1535,R_X86_64_PLT32,.Ltcp17-4\n"
+    ".reloc .Ltcp15+1798,R_X86_64_PC32,.Ltcp105-4\n"
+    ".reloc .Ltcp15+1910,R_X86_64_PC32,.Ltcp105-4\n"
+    ".reloc .Ltcp15+1952,R_X86_64_PC32,.Ltcp105-4\n"
+    ".reloc .Ltcp15+2073,R_X86_64_PC32,.Ltcp105-4\n"
+    ".reloc .Ltcp15+2178,R_X86_64_PC32,.Ltcp105-4\n"
+    ".reloc .Ltcp15+2220,R_X86_64_PC32,.Ltcp105-4\n"
+    ".reloc .Ltcp15+2333,R_X86_64_PC32,.Ltcp105-4\n"
+    ".reloc .Ltcp15+2451,R_X86_64_PC32,.Ltcp105-4\n"
+    ".reloc .Ltcp15+2711,R_X86_64_PC32,.Ltcp105-4\n"
+    ".reloc .Ltcp15+2791,R_X86_64_PC32,.Ltcp105-4\n"
+    ".reloc .Ltcp15+2853,R_X86_64_PC32,.Ltcp105-4\n"
+    ".reloc .Ltcp15+2878,R_X86_64_PC32,.Ltcp105-4\n"
+    ".reloc .Ltcp15+3060,R_X86_64_PLT32,.Ltcp17-4\n"
+    ".reloc .Ltcp15+3254,R_X86_64_PC32,.Ltcp105-4\n"
+    ".reloc .Ltcp15+3387,R_X86_64_PC32,.Ltcp16-4\n"
+    ".reloc .Ltcp15+3403,R_X86_64_PC32,.Ltcp108-4\n"
+    ".reloc .Ltcp15+3415,R_X86_64_PC32,.Ltcp110-4\n"
+    ".reloc .Ltcp15+3427,R_X86_64_PC32,.Ltcp107-4\n"
+    ".reloc .Ltcp15+3634,R_X86_64_PC32,.Ltcp112-4\n"
+    ".reloc .Ltcp15+3659,R_X86_64_PC32,.Ltcp113-4\n"
+    ".reloc .Ltcp15+3693,R_X86_64_PC32,.Ltcp114-4\n"
+    ".reloc .Ltcp15+3728,R_X86_64_PC32,.Ltcp106-4\n"
+    ".reloc .Ltcp15+3763,R_X86_64_PC32,.Ltcp115-4\n"
+    ".reloc .Ltcp15+3798,R_X86_64_PC32,.Ltcp116-4\n"
+    ".reloc .Ltcp15+3833,R_X86_64_PC32,.Ltcp108-4\n"
+    ".reloc .Ltcp15+3868,R_X86_64_PC32,.Ltcp117-4\n"
+    ".reloc .Ltcp15+4326,R_X86_64_PLT32,.Ltcp18-4\n"
+    ".reloc .Ltcp15+4507,R_X86_64_PLT32,.Ltcp17-4\n"
+    ".reloc .Ltcp15+4550,R_X86_64_PC32,.Ltcp118-4\n"
+    ".reloc .Ltcp15+4571,R_X86_64_PLT32,.Ltcp18-4\n"
+    ".reloc .Ltcp15+4615,R_X86_64_PLT32,.Ltcp17-4\n"
+    ".reloc .Ltcp15+4658,R_X86_64_PC32,.Ltcp106-4\n"
+    ".reloc .Ltcp15+4667,R_X86_64_PC32,.Ltcp109-4\n"
+    ".reloc .Ltcp15+4676,R_X86_64_PC32,.Ltcp111-4\n"
+    ".reloc .Ltcp15+4922,R_X86_64_PC32,.Ltcp105-4\n"
+    ".reloc .Ltcp15+5044,R_X86_64_PC32,.Ltcp105-4\n"
+    ".reloc .Ltcp15+5117,R_X86_64_PC32,.Ltcp105-4\n"
+    ".reloc .Ltcp15+5164,R_X86_64_PC32,.Ltcp105-4\n"
+    ".reloc .Ltcp15+5211,R_X86_64_PC32,.Ltcp105-4\n"
+    ".reloc .Ltcp15+5285,R_X86_64_PC32,.Ltcp105-4\n"
+    ".reloc .Ltcp15+5591,R_X86_64_PC32,.Ltcp120-4\n"
+    ".reloc .Ltcp15+5766,R_X86_64_PLT32,.Ltcp10-4\n"
+    ".reloc .Ltcp15+5851,R_X86_64_PLT32,.Ltcp20-4\n"
+    ".reloc .Ltcp15+5890,R_X86_64_PLT32,.Ltcp10-4\n"
+    ".reloc .Ltcp15+5995,R_X86_64_PLT32,.Ltcp20-4\n"
+    ".reloc .Ltcp15+6017,R_X86_64_PLT32,.Ltcp17-4\n"
+    ".reloc .Ltcp15+6397,R_X86_64_PC32,.Ltcp105-4\n"
+    ".reloc .Ltcp15+6630,R_X86_64_PLT32,.Ltcp24-4\n"
+    ".reloc .Ltcp15+6662,R_X86_64_PLT32,.Ltcp17-4\n"
+    ".reloc .Ltcp15+6706,R_X86_64_PLT32,.Ltcp17-4\n"
+    ".reloc .Ltcp15+6743,R_X86_64_PLT32,.Ltcp17-4\n"
+    ".reloc .Ltcp15+6789,R_X86_64_PLT32,.Ltcp17-4\n"
+    ".reloc .Ltcp15+6843,R_X86_64_PC32,.Ltcp105-4\n"
+    ".reloc .Ltcp15+6883,R_X86_64_PLT32,.Ltcp17-4\n"
+    ".reloc .Ltcp15+6923,R_X86_64_PLT32,.Ltcp17-4\n"
+    ".reloc .Ltcp15+6954,R_X86_64_PC32,.Ltcp100-4\n"
+    ".reloc .Ltcp15+6969,R_X86_64_PLT32,.Ltcp18-4\n"
+    ".reloc .Ltcp15+6999,R_X86_64_PLT32,.Ltcp17-4\n"
+    ".section .rodata.tcp.16,\"a\",%progbits\n"
     ".balign 4\n"
-    ".Ltcp15:\n"
+    ".Ltcp16:\n"
     ".octa 0x0,0x0,0x0\n"
     ".octa 0x0,0x0,0x0\n"
     ".octa 0x0\n"
     ".long 0x0\n"
-    ".reloc .Ltcp15+0,R_X86_64_PC32,.Ltcp14+3400\n"
-    ".reloc .Ltcp15+4,R_X86_64_PC32,.Ltcp14+3440\n"
-    ".reloc .Ltcp15+8,R_X86_64_PC32,.Ltcp14+3444\n"
-    ".reloc .Ltcp15+12,R_X86_64_PC32,.Ltcp14+3448\n"
-    ".reloc .Ltcp15+16,R_X86_64_PC32,.Ltcp14+3452\n"
-    ".reloc .Ltcp15+20,R_X86_64_PC32,.Ltcp14+3456\n"
-    ".reloc .Ltcp15+24,R_X86_64_PC32,.Ltcp14+3460\n"
-    ".reloc .Ltcp15+28,R_X86_64_PC32,.Ltcp14+3464\n"
-    ".reloc .Ltcp15+32,R_X86_64_PC32,.Ltcp14+3468\n"
-    ".reloc .Ltcp15+36,R_X86_64_PC32,.Ltcp14+3472\n"
-    ".reloc .Ltcp15+40,R_X86_64_PC32,.Ltcp14+3476\n"
-    ".reloc .Ltcp15+44,R_X86_64_PC32,.Ltcp14+3480\n"
-    ".reloc .Ltcp15+48,R_X86_64_PC32,.Ltcp14+3484\n"
-    ".reloc .Ltcp15+52,R_X86_64_PC32,.Ltcp14+3488\n"
-    ".reloc .Ltcp15+56,R_X86_64_PC32,.Ltcp14+4711\n"
-    ".reloc .Ltcp15+60,R_X86_64_PC32,.Ltcp14+3472\n"
-    ".reloc .Ltcp15+64,R_X86_64_PC32,.Ltcp14+4728\n"
-    ".reloc .Ltcp15+68,R_X86_64_PC32,.Ltcp14+3504\n"
-    ".reloc .Ltcp15+72,R_X86_64_PC32,.Ltcp14+4745\n"
-    ".reloc .Ltcp15+76,R_X86_64_PC32,.Ltcp14+3512\n"
-    ".reloc .Ltcp15+80,R_X86_64_PC32,.Ltcp14+3516\n"
-    ".reloc .Ltcp15+84,R_X86_64_PC32,.Ltcp14+3520\n"
-    ".reloc .Ltcp15+88,R_X86_64_PC32,.Ltcp14+3512\n"
-    ".reloc .Ltcp15+92,R_X86_64_PC32,.Ltcp14+829\n"
-    ".reloc .Ltcp15+96,R_X86_64_PC32,.Ltcp14+1062\n"
-    ".reloc .Ltcp15+100,R_X86_64_PC32,.Ltcp14+928\n"
-    ".reloc .Ltcp15+104,R_X86_64_PC32,.Ltcp14+1007\n"
-    ".reloc .Ltcp15+108,R_X86_64_PC32,.Ltcp14+884\n"
-    ".reloc .Ltcp15+112,R_X86_64_PC32,.Ltcp14+1139\n"
-    ".section .text.tcp.16,\"ax\",%progbits\n"
+    ".reloc .Ltcp16+0,R_X86_64_PC32,.Ltcp15+3400\n"
+    ".reloc .Ltcp16+4,R_X86_64_PC32,.Ltcp15+3440\n"
+    ".reloc .Ltcp16+8,R_X86_64_PC32,.Ltcp15+3444\n"
+    ".reloc .Ltcp16+12,R_X86_64_PC32,.Ltcp15+3448\n"
+    ".reloc .Ltcp16+16,R_X86_64_PC32,.Ltcp15+3452\n"
+    ".reloc .Ltcp16+20,R_X86_64_PC32,.Ltcp15+3456\n"
+    ".reloc .Ltcp16+24,R_X86_64_PC32,.Ltcp15+3460\n"
+    ".reloc .Ltcp16+28,R_X86_64_PC32,.Ltcp15+3464\n"
+    ".reloc .Ltcp16+32,R_X86_64_PC32,.Ltcp15+3468\n"
+    ".reloc .Ltcp16+36,R_X86_64_PC32,.Ltcp15+3472\n"
+    ".reloc .Ltcp16+40,R_X86_64_PC32,.Ltcp15+3476\n"
+    ".reloc .Ltcp16+44,R_X86_64_PC32,.Ltcp15+3480\n"
+    ".reloc .Ltcp16+48,R_X86_64_PC32,.Ltcp15+3484\n"
+    ".reloc .Ltcp16+52,R_X86_64_PC32,.Ltcp15+3488\n"
+    ".reloc .Ltcp16+56,R_X86_64_PC32,.Ltcp15+4711\n"
+    ".reloc .Ltcp16+60,R_X86_64_PC32,.Ltcp15+3472\n"
+    ".reloc .Ltcp16+64,R_X86_64_PC32,.Ltcp15+4728\n"
+    ".reloc .Ltcp16+68,R_X86_64_PC32,.Ltcp15+3504\n"
+    ".reloc .Ltcp16+72,R_X86_64_PC32,.Ltcp15+4745\n"
+    ".reloc .Ltcp16+76,R_X86_64_PC32,.Ltcp15+3512\n"
+    ".reloc .Ltcp16+80,R_X86_64_PC32,.Ltcp15+3516\n"
+    ".reloc .Ltcp16+84,R_X86_64_PC32,.Ltcp15+3520\n"
+    ".reloc .Ltcp16+88,R_X86_64_PC32,.Ltcp15+3512\n"
+    ".reloc .Ltcp16+92,R_X86_64_PC32,.Ltcp15+829\n"
+    ".reloc .Ltcp16+96,R_X86_64_PC32,.Ltcp15+1062\n"
+    ".reloc .Ltcp16+100,R_X86_64_PC32,.Ltcp15+928\n"
+    ".reloc .Ltcp16+104,R_X86_64_PC32,.Ltcp15+1007\n"
+    ".reloc .Ltcp16+108,R_X86_64_PC32,.Ltcp15+884\n"
+    ".reloc .Ltcp16+112,R_X86_64_PC32,.Ltcp15+1139\n"
+    ".section .text.tcp.17,\"ax\",%progbits\n"
     ".balign 16\n"
-    ".Ltcp16:\n"
+    ".Ltcp17:\n"
     ".type \"std_alloc::vec::Vec::grow_amortized::<#8c6c02ecfde2865e>\",%function\n"
     ".size \"std_alloc::vec::Vec::grow_amortized::<#8c6c02ecfde2865e>\",544\n"
     "\"std_alloc::vec::Vec::grow_amortized::<#8c6c02ecfde2865e>\":\n"
@@ -718,9 +751,9 @@ __asm__(
     ".octa 0x801f0fc189481b7403e08349c1,0xc8ff49c1ff480b0c88440e0cb60f4400,0x66ffffff14870ffcf88348d02948ef75\n"
     ".octa 0xb4488010e44b60f0b04880e04b60f90,0x88030e44b60f020b4488020e44b60f01,0xfffee2e9d575ca394804c18348030b44\n"
     ".byte 0xff\n"
-    ".section .text.tcp.17,\"ax\",%progbits\n"
+    ".section .text.tcp.18,\"ax\",%progbits\n"
     ".balign 16\n"
-    ".Ltcp17:\n"
+    ".Ltcp18:\n"
     ".type \"core::fmt::formatter::Formatter::write_indented::<#c443fc42141e8c95>\",%function\n"
     ".size \"core::fmt::formatter::Formatter::write_indented::<#c443fc42141e8c95>\",306\n"
     "\"core::fmt::formatter::Formatter::write_indented::<#c443fc42141e8c95>\":\n"
@@ -732,15 +765,15 @@ __asm__(
     ".octa 0xe6014de375cbff482975c08400000000,0x8348ea894cf6894cff894c004047c641,0xe95d5f415e415d415c415b08c4\n"
     ".octa 0x5f415e415d415c415b08c4834801b000\n"
     ".short 0xc35d\n"
-    ".reloc .Ltcp17+66,R_X86_64_PLT32,.Ltcp18-4\n"
-    ".reloc .Ltcp17+147,R_X86_64_PC32,.Ltcp54+8\n"
-    ".reloc .Ltcp17+160,R_X86_64_PLT32,.Ltcp18-4\n"
-    ".reloc .Ltcp17+227,R_X86_64_PC32,.Ltcp54+8\n"
-    ".reloc .Ltcp17+240,R_X86_64_PLT32,.Ltcp18-4\n"
-    ".reloc .Ltcp17+285,R_X86_64_PLT32,.Ltcp18-4\n"
-    ".section .text.tcp.18,\"ax\",%progbits\n"
+    ".reloc .Ltcp18+66,R_X86_64_PLT32,.Ltcp19-4\n"
+    ".reloc .Ltcp18+147,R_X86_64_PC32,.Ltcp55+8\n"
+    ".reloc .Ltcp18+160,R_X86_64_PLT32,.Ltcp19-4\n"
+    ".reloc .Ltcp18+227,R_X86_64_PC32,.Ltcp55+8\n"
+    ".reloc .Ltcp18+240,R_X86_64_PLT32,.Ltcp19-4\n"
+    ".reloc .Ltcp18+285,R_X86_64_PLT32,.Ltcp19-4\n"
+    ".section .text.tcp.19,\"ax\",%progbits\n"
     ".balign 16\n"
-    ".Ltcp18:\n"
+    ".Ltcp19:\n"
     ".type \"core::fmt::formatter::Formatter::write_raw::<#c443fc42141e8c95>\",%function\n"
     ".size \"core::fmt::formatter::Formatter::write_raw::<#c443fc42141e8c95>\",706\n"
     "\"core::fmt::formatter::Formatter::write_raw::<#c443fc42141e8c95>\":\n"
@@ -764,10 +797,10 @@ __asm__(
     ".octa 0x48fffffedae9ffffff69840fc2394cef,0xe8d78949d68948f68949fb89,0x4cf6894cffffff54840fc98401b0c189\n"
     ".octa 0xfe70e9105b8b48084b8b48df8948fa89\n"
     ".short 0xffff\n"
-    ".reloc .Ltcp18+668,R_X86_64_PLT32,.Ltcp16-4\n"
-    ".section .text.tcp.19,\"ax\",%progbits\n"
+    ".reloc .Ltcp19+668,R_X86_64_PLT32,.Ltcp17-4\n"
+    ".section .text.tcp.20,\"ax\",%progbits\n"
     ".balign 16\n"
-    ".Ltcp19:\n"
+    ".Ltcp20:\n"
     ".type \"kit_text::options::push_option::<#244039bd4e0652a3>\",%function\n"
     ".size \"kit_text::options::push_option::<#244039bd4e0652a3>\",1770\n"
     "\"kit_text::options::push_option::<#244039bd4e0652a3>\":\n"
@@ -817,40 +850,40 @@ __asm__(
     ".octa 0x2ae9104b8b4808438b48138b48fffffd\n"
     ".short 0xfffd\n"
     ".byte 0xff\n"
-    ".reloc .Ltcp19+52,R_X86_64_PC32,.Ltcp20-4\n"
-    ".reloc .Ltcp19+103,R_X86_64_PC32,.Ltcp120-4\n"
-    ".reloc .Ltcp19+175,R_X86_64_PC32,.Ltcp123-4\n"
-    ".reloc .Ltcp19+216,R_X86_64_PC32,.Ltcp121-4\n"
-    ".reloc .Ltcp19+260,R_X86_64_PLT32,.Ltcp21-4\n"
-    ".reloc .Ltcp19+307,R_X86_64_PC32,.Ltcp122-4\n"
-    ".reloc .Ltcp19+784,R_X86_64_PC32,.Ltcp104-4\n"
-    ".reloc .Ltcp19+856,R_X86_64_PLT32,.Ltcp22-4\n"
-    ".reloc .Ltcp19+1145,R_X86_64_PLT32,.Ltcp22-4\n"
-    ".reloc .Ltcp19+1179,R_X86_64_PLT32,.Ltcp16-4\n"
-    ".reloc .Ltcp19+1209,R_X86_64_PC32,.Ltcp104-4\n"
-    ".reloc .Ltcp19+1311,R_X86_64_PLT32,.Ltcp23-4\n"
-    ".reloc .Ltcp19+1324,R_X86_64_PLT32,.Ltcp16-4\n"
-    ".reloc .Ltcp19+1362,R_X86_64_PLT32,.Ltcp16-4\n"
-    ".reloc .Ltcp19+1400,R_X86_64_PLT32,.Ltcp16-4\n"
-    ".reloc .Ltcp19+1438,R_X86_64_PLT32,.Ltcp16-4\n"
-    ".reloc .Ltcp19+1478,R_X86_64_PLT32,.Ltcp16-4\n"
-    ".reloc .Ltcp19+1513,R_X86_64_PLT32,.Ltcp17-4\n"
-    ".reloc .Ltcp19+1571,R_X86_64_PLT32,.Ltcp16-4\n"
-    ".reloc .Ltcp19+1738,R_X86_64_PLT32,.Ltcp16-4\n"
-    ".section .rodata.tcp.20,\"a\",%progbits\n"
+    ".reloc .Ltcp20+52,R_X86_64_PC32,.Ltcp21-4\n"
+    ".reloc .Ltcp20+103,R_X86_64_PC32,.Ltcp121-4\n"
+    ".reloc .Ltcp20+175,R_X86_64_PC32,.Ltcp124-4\n"
+    ".reloc .Ltcp20+216,R_X86_64_PC32,.Ltcp122-4\n"
+    ".reloc .Ltcp20+260,R_X86_64_PLT32,.Ltcp22-4\n"
+    ".reloc .Ltcp20+307,R_X86_64_PC32,.Ltcp123-4\n"
+    ".reloc .Ltcp20+784,R_X86_64_PC32,.Ltcp105-4\n"
+    ".reloc .Ltcp20+856,R_X86_64_PLT32,.Ltcp23-4\n"
+    ".reloc .Ltcp20+1145,R_X86_64_PLT32,.Ltcp23-4\n"
+    ".reloc .Ltcp20+1179,R_X86_64_PLT32,.Ltcp17-4\n"
+    ".reloc .Ltcp20+1209,R_X86_64_PC32,.Ltcp105-4\n"
+    ".reloc .Ltcp20+1311,R_X86_64_PLT32,.Ltcp24-4\n"
+    ".reloc .Ltcp20+1324,R_X86_64_PLT32,.Ltcp17-4\n"
+    ".reloc .Ltcp20+1362,R_X86_64_PLT32,.Ltcp17-4\n"
+    ".reloc .Ltcp20+1400,R_X86_64_PLT32,.Ltcp17-4\n"
+    ".reloc .Ltcp20+1438,R_X86_64_PLT32,.Ltcp17-4\n"
+    ".reloc .Ltcp20+1478,R_X86_64_PLT32,.Ltcp17-4\n"
+    ".reloc .Ltcp20+1513,R_X86_64_PLT32,.Ltcp18-4\n"
+    ".reloc .Ltcp20+1571,R_X86_64_PLT32,.Ltcp17-4\n"
+    ".reloc .Ltcp20+1738,R_X86_64_PLT32,.Ltcp17-4\n"
+    ".section .rodata.tcp.21,\"a\",%progbits\n"
     ".balign 4\n"
-    ".Ltcp20:\n"
+    ".Ltcp21:\n"
     ".octa 0x0\n"
     ".quad 0x0\n"
-    ".reloc .Ltcp20+0,R_X86_64_PC32,.Ltcp19+65\n"
-    ".reloc .Ltcp20+4,R_X86_64_PC32,.Ltcp19+348\n"
-    ".reloc .Ltcp20+8,R_X86_64_PC32,.Ltcp19+218\n"
-    ".reloc .Ltcp20+12,R_X86_64_PC32,.Ltcp19+281\n"
-    ".reloc .Ltcp20+16,R_X86_64_PC32,.Ltcp19+153\n"
-    ".reloc .Ltcp20+20,R_X86_64_PC32,.Ltcp19+695\n"
-    ".section .text.tcp.21,\"ax\",%progbits\n"
+    ".reloc .Ltcp21+0,R_X86_64_PC32,.Ltcp20+65\n"
+    ".reloc .Ltcp21+4,R_X86_64_PC32,.Ltcp20+348\n"
+    ".reloc .Ltcp21+8,R_X86_64_PC32,.Ltcp20+218\n"
+    ".reloc .Ltcp21+12,R_X86_64_PC32,.Ltcp20+281\n"
+    ".reloc .Ltcp21+16,R_X86_64_PC32,.Ltcp20+153\n"
+    ".reloc .Ltcp21+20,R_X86_64_PC32,.Ltcp20+695\n"
+    ".section .text.tcp.22,\"ax\",%progbits\n"
     ".balign 16\n"
-    ".Ltcp21:\n"
+    ".Ltcp22:\n"
     ".type \"std_alloc::string::String::write_fmt::<#1a211fe9d5beaab3>\",%function\n"
     ".size \"std_alloc::string::String::write_fmt::<#1a211fe9d5beaab3>\",1000\n"
     "\"std_alloc::string::String::write_fmt::<#1a211fe9d5beaab3>\":\n"
@@ -885,12 +918,12 @@ __asm__(
     ".octa 0x4cfffffe6a860fe9394c01b0fffffe75\n"
     ".quad 0xfe5fe901b0086b89\n"
     ".short 0xffff\n"
-    ".reloc .Ltcp21+748,R_X86_64_PLT32,.Ltcp16-4\n"
-    ".reloc .Ltcp21+781,R_X86_64_PLT32,.Ltcp17-4\n"
-    ".reloc .Ltcp21+841,R_X86_64_PLT32,.Ltcp16-4\n"
-    ".section .text.tcp.22,\"ax\",%progbits\n"
+    ".reloc .Ltcp22+748,R_X86_64_PLT32,.Ltcp17-4\n"
+    ".reloc .Ltcp22+781,R_X86_64_PLT32,.Ltcp18-4\n"
+    ".reloc .Ltcp22+841,R_X86_64_PLT32,.Ltcp17-4\n"
+    ".section .text.tcp.23,\"ax\",%progbits\n"
     ".balign 16\n"
-    ".Ltcp22:\n"
+    ".Ltcp23:\n"
     ".type \"kit_text::options::push_block::<#2684e1456f717445>\",%function\n"
     ".size \"kit_text::options::push_block::<#2684e1456f717445>\",743\n"
     "\"kit_text::options::push_block::<#2684e1456f717445>\":\n"
@@ -913,16 +946,16 @@ __asm__(
     ".octa 0xc48148c0311063894c087b894c33894c,0x8948c35f415e415d415c415b00000080,0x1b0c18900000000e8d68948d58949df\n"
     ".octa 0xebea894c10638b4c087b8b4cd974c984\n"
     ".byte 0xac\n"
-    ".reloc .Ltcp22+143,R_X86_64_PC32,.Ltcp104-4\n"
-    ".reloc .Ltcp22+272,R_X86_64_PC32,.Ltcp104-4\n"
-    ".reloc .Ltcp22+330,R_X86_64_PC32,.Ltcp104-4\n"
-    ".reloc .Ltcp22+464,R_X86_64_PC32,.Ltcp104-4\n"
-    ".reloc .Ltcp22+556,R_X86_64_PC32,.Ltcp104-4\n"
-    ".reloc .Ltcp22+595,R_X86_64_PC32,.Ltcp104-4\n"
-    ".reloc .Ltcp22+718,R_X86_64_PLT32,.Ltcp16-4\n"
-    ".section .text.tcp.23,\"ax\",%progbits\n"
+    ".reloc .Ltcp23+143,R_X86_64_PC32,.Ltcp105-4\n"
+    ".reloc .Ltcp23+272,R_X86_64_PC32,.Ltcp105-4\n"
+    ".reloc .Ltcp23+330,R_X86_64_PC32,.Ltcp105-4\n"
+    ".reloc .Ltcp23+464,R_X86_64_PC32,.Ltcp105-4\n"
+    ".reloc .Ltcp23+556,R_X86_64_PC32,.Ltcp105-4\n"
+    ".reloc .Ltcp23+595,R_X86_64_PC32,.Ltcp105-4\n"
+    ".reloc .Ltcp23+718,R_X86_64_PLT32,.Ltcp17-4\n"
+    ".section .text.tcp.24,\"ax\",%progbits\n"
     ".balign 16\n"
-    ".Ltcp23:\n"
+    ".Ltcp24:\n"
     ".type \"kit_text::bytes::push_bytes::<#244039bd4e0652a3>\",%function\n"
     ".size \"kit_text::bytes::push_bytes::<#244039bd4e0652a3>\",1603\n"
     "\"kit_text::bytes::push_bytes::<#244039bd4e0652a3>\":\n"
@@ -965,27 +998,27 @@ __asm__(
     ".octa 0xe8f6894cdf8948fffffd83e9,0x10638b4c087b8b4c9574c98401b0c189\n"
     ".quad 0xeb01b0ffffff61e9\n"
     ".byte 0x84\n"
-    ".reloc .Ltcp23+354,R_X86_64_PC32,.Ltcp0+620\n"
-    ".reloc .Ltcp23+362,R_X86_64_PC32,.Ltcp0+636\n"
-    ".reloc .Ltcp23+384,R_X86_64_PC32,.Ltcp0+652\n"
-    ".reloc .Ltcp23+392,R_X86_64_PC32,.Ltcp0+668\n"
-    ".reloc .Ltcp23+427,R_X86_64_PC32,.Ltcp0+684\n"
-    ".reloc .Ltcp23+640,R_X86_64_PC32,.Ltcp0+684\n"
-    ".reloc .Ltcp23+777,R_X86_64_PLT32,.Ltcp16-4\n"
-    ".reloc .Ltcp23+813,R_X86_64_PC32,.Ltcp0+620\n"
-    ".reloc .Ltcp23+1074,R_X86_64_PC32,.Ltcp0+620\n"
-    ".reloc .Ltcp23+1086,R_X86_64_PC32,.Ltcp0+636\n"
-    ".reloc .Ltcp23+1102,R_X86_64_PC32,.Ltcp0+652\n"
-    ".reloc .Ltcp23+1110,R_X86_64_PC32,.Ltcp0+668\n"
-    ".reloc .Ltcp23+1139,R_X86_64_PC32,.Ltcp0+684\n"
-    ".reloc .Ltcp23+1296,R_X86_64_PC32,.Ltcp0+1244\n"
-    ".reloc .Ltcp23+1398,R_X86_64_PC32,.Ltcp0+1244\n"
-    ".reloc .Ltcp23+1509,R_X86_64_PLT32,.Ltcp16-4\n"
-    ".reloc .Ltcp23+1542,R_X86_64_PLT32,.Ltcp16-4\n"
-    ".reloc .Ltcp23+1574,R_X86_64_PLT32,.Ltcp16-4\n"
-    ".section .text.tcp.24,\"ax\",%progbits\n"
+    ".reloc .Ltcp24+354,R_X86_64_PC32,.Ltcp0+684\n"
+    ".reloc .Ltcp24+362,R_X86_64_PC32,.Ltcp0+700\n"
+    ".reloc .Ltcp24+384,R_X86_64_PC32,.Ltcp0+716\n"
+    ".reloc .Ltcp24+392,R_X86_64_PC32,.Ltcp0+732\n"
+    ".reloc .Ltcp24+427,R_X86_64_PC32,.Ltcp0+748\n"
+    ".reloc .Ltcp24+640,R_X86_64_PC32,.Ltcp0+748\n"
+    ".reloc .Ltcp24+777,R_X86_64_PLT32,.Ltcp17-4\n"
+    ".reloc .Ltcp24+813,R_X86_64_PC32,.Ltcp0+684\n"
+    ".reloc .Ltcp24+1074,R_X86_64_PC32,.Ltcp0+684\n"
+    ".reloc .Ltcp24+1086,R_X86_64_PC32,.Ltcp0+700\n"
+    ".reloc .Ltcp24+1102,R_X86_64_PC32,.Ltcp0+716\n"
+    ".reloc .Ltcp24+1110,R_X86_64_PC32,.Ltcp0+732\n"
+    ".reloc .Ltcp24+1139,R_X86_64_PC32,.Ltcp0+748\n"
+    ".reloc .Ltcp24+1296,R_X86_64_PC32,.Ltcp0+2252\n"
+    ".reloc .Ltcp24+1398,R_X86_64_PC32,.Ltcp0+2252\n"
+    ".reloc .Ltcp24+1509,R_X86_64_PLT32,.Ltcp17-4\n"
+    ".reloc .Ltcp24+1542,R_X86_64_PLT32,.Ltcp17-4\n"
+    ".reloc .Ltcp24+1574,R_X86_64_PLT32,.Ltcp17-4\n"
+    ".section .text.tcp.25,\"ax\",%progbits\n"
     ".balign 16\n"
-    ".Ltcp24:\n"
+    ".Ltcp25:\n"
     ".type \"std_alloc::string::String::write_fmt::<#b55cecdce663cb17>\",%function\n"
     ".size \"std_alloc::string::String::write_fmt::<#b55cecdce663cb17>\",1048\n"
     "\"std_alloc::string::String::write_fmt::<#b55cecdce663cb17>\":\n"
@@ -1019,12 +1052,12 @@ __asm__(
     ".octa 0x66e901b0086b894cfffffe71860fe939\n"
     ".short 0xfffe\n"
     ".byte 0xff\n"
-    ".reloc .Ltcp24+796,R_X86_64_PLT32,.Ltcp16-4\n"
-    ".reloc .Ltcp24+829,R_X86_64_PLT32,.Ltcp17-4\n"
-    ".reloc .Ltcp24+889,R_X86_64_PLT32,.Ltcp16-4\n"
-    ".section .text.tcp.25,\"ax\",%progbits\n"
+    ".reloc .Ltcp25+796,R_X86_64_PLT32,.Ltcp17-4\n"
+    ".reloc .Ltcp25+829,R_X86_64_PLT32,.Ltcp18-4\n"
+    ".reloc .Ltcp25+889,R_X86_64_PLT32,.Ltcp17-4\n"
+    ".section .text.tcp.26,\"ax\",%progbits\n"
     ".balign 16\n"
-    ".Ltcp25:\n"
+    ".Ltcp26:\n"
     ".type \"std_alloc::vec::Vec::grow_amortized::<#c6e8460222b7fe82>\",%function\n"
     ".size \"std_alloc::vec::Vec::grow_amortized::<#c6e8460222b7fe82>\",544\n"
     "\"std_alloc::vec::Vec::grow_amortized::<#c6e8460222b7fe82>\":\n"
@@ -1043,9 +1076,9 @@ __asm__(
     ".octa 0x801f0fc189481b7403e08349c1,0xc8ff49c1ff480b0c88440e0cb60f4400,0x66ffffff14870ffcf88348d02948ef75\n"
     ".octa 0xb4488010e44b60f0b04880e04b60f90,0x88030e44b60f020b4488020e44b60f01,0xfffee2e9d575ca394804c18348030b44\n"
     ".byte 0xff\n"
-    ".section .text.tcp.26,\"ax\",%progbits\n"
+    ".section .text.tcp.27,\"ax\",%progbits\n"
     ".balign 16\n"
-    ".Ltcp26:\n"
+    ".Ltcp27:\n"
     ".type \"kit_script::script::read_script_bytes::<#244039bd4e0652a3>\",%function\n"
     ".size \"kit_script::script::read_script_bytes::<#244039bd4e0652a3>\",7258\n"
     "\"kit_script::script::read_script_bytes::<#244039bd4e0652a3>\":\n"
@@ -1212,85 +1245,85 @@ __asm__(
     ".octa 0x5f415e415d415c415b000003c8c48148\n"
     ".long 0x1b0c35d\n"
     ".short 0xa7eb\n"
-    ".reloc .Ltcp26+408,R_X86_64_PC32,.Ltcp0+700\n"
-    ".reloc .Ltcp26+588,R_X86_64_PLT32,.Ltcp2-4\n"
-    ".reloc .Ltcp26+634,R_X86_64_PC32,.Ltcp118+4\n"
-    ".reloc .Ltcp26+656,R_X86_64_PLT32,.Ltcp4-4\n"
-    ".reloc .Ltcp26+687,R_X86_64_PLT32,.Ltcp1-4\n"
-    ".reloc .Ltcp26+820,R_X86_64_PC32,.Ltcp118+12\n"
-    ".reloc .Ltcp26+836,R_X86_64_PLT32,.Ltcp4-4\n"
-    ".reloc .Ltcp26+865,R_X86_64_PLT32,.Ltcp1-4\n"
-    ".reloc .Ltcp26+1072,R_X86_64_PLT32,.Ltcp2-4\n"
-    ".reloc .Ltcp26+1258,R_X86_64_PC32,.Ltcp0+716\n"
-    ".reloc .Ltcp26+1357,R_X86_64_PC32,.Ltcp0+732\n"
-    ".reloc .Ltcp26+1593,R_X86_64_PLT32,.Ltcp1-4\n"
-    ".reloc .Ltcp26+1914,R_X86_64_PLT32,.Ltcp2-4\n"
-    ".reloc .Ltcp26+1974,R_X86_64_PC32,.Ltcp132-4\n"
-    ".reloc .Ltcp26+1997,R_X86_64_PLT32,.Ltcp4-4\n"
-    ".reloc .Ltcp26+2101,R_X86_64_PLT32,.Ltcp2-4\n"
-    ".reloc .Ltcp26+2191,R_X86_64_PC32,.Ltcp54+16\n"
-    ".reloc .Ltcp26+2213,R_X86_64_PLT32,.Ltcp4-4\n"
-    ".reloc .Ltcp26+2398,R_X86_64_PC32,.Ltcp133-4\n"
-    ".reloc .Ltcp26+2417,R_X86_64_PLT32,.Ltcp4-4\n"
-    ".reloc .Ltcp26+2577,R_X86_64_PLT32,.Ltcp2-4\n"
-    ".reloc .Ltcp26+2684,R_X86_64_PLT32,.Ltcp2-4\n"
-    ".reloc .Ltcp26+2864,R_X86_64_PLT32,.Ltcp2-4\n"
-    ".reloc .Ltcp26+2987,R_X86_64_PC32,.Ltcp134-4\n"
-    ".reloc .Ltcp26+3005,R_X86_64_PLT32,.Ltcp4-4\n"
-    ".reloc .Ltcp26+3253,R_X86_64_PLT32,.Ltcp28-4\n"
-    ".reloc .Ltcp26+3392,R_X86_64_PLT32,.Ltcp2-4\n"
-    ".reloc .Ltcp26+3645,R_X86_64_PLT32,.Ltcp30-4\n"
-    ".reloc .Ltcp26+3903,R_X86_64_PLT32,.Ltcp2-4\n"
-    ".reloc .Ltcp26+3980,R_X86_64_PC32,.Ltcp132-4\n"
-    ".reloc .Ltcp26+3993,R_X86_64_PLT32,.Ltcp4-4\n"
-    ".reloc .Ltcp26+4085,R_X86_64_PLT32,.Ltcp2-4\n"
-    ".reloc .Ltcp26+4180,R_X86_64_PLT32,.Ltcp2-4\n"
-    ".reloc .Ltcp26+4297,R_X86_64_PC32,.Ltcp150-4\n"
-    ".reloc .Ltcp26+4318,R_X86_64_PLT32,.Ltcp4-4\n"
-    ".reloc .Ltcp26+4436,R_X86_64_PLT32,.Ltcp28-4\n"
-    ".reloc .Ltcp26+4759,R_X86_64_PC32,.Ltcp27-4\n"
-    ".reloc .Ltcp26+4831,R_X86_64_PLT32,.Ltcp32-4\n"
-    ".reloc .Ltcp26+4919,R_X86_64_PC32,.Ltcp27+12\n"
-    ".reloc .Ltcp26+5032,R_X86_64_PLT32,.Ltcp2-4\n"
-    ".reloc .Ltcp26+5069,R_X86_64_PC32,.Ltcp27+36\n"
-    ".reloc .Ltcp26+5332,R_X86_64_PC32,.Ltcp0+748\n"
-    ".reloc .Ltcp26+5387,R_X86_64_PC32,.Ltcp54+32\n"
-    ".reloc .Ltcp26+5408,R_X86_64_PLT32,.Ltcp4-4\n"
-    ".reloc .Ltcp26+5778,R_X86_64_PC32,.Ltcp54+24\n"
-    ".reloc .Ltcp26+5799,R_X86_64_PLT32,.Ltcp4-4\n"
-    ".reloc .Ltcp26+5956,R_X86_64_PC32,.Ltcp0+764\n"
-    ".reloc .Ltcp26+6005,R_X86_64_PC32,.Ltcp54+36\n"
-    ".reloc .Ltcp26+6024,R_X86_64_PLT32,.Ltcp4-4\n"
-    ".reloc .Ltcp26+6043,R_X86_64_PLT32,.Ltcp31-4\n"
-    ".reloc .Ltcp26+6083,R_X86_64_PC32,.Ltcp54+40\n"
-    ".reloc .Ltcp26+6093,R_X86_64_PLT32,.Ltcp4-4\n"
-    ".reloc .Ltcp26+6525,R_X86_64_PC32,.Ltcp54+20\n"
-    ".reloc .Ltcp26+6538,R_X86_64_PLT32,.Ltcp4-4\n"
-    ".reloc .Ltcp26+7079,R_X86_64_PLT32,.Ltcp32-4\n"
-    ".section .rodata.tcp.27,\"a\",%progbits\n"
+    ".reloc .Ltcp27+408,R_X86_64_PC32,.Ltcp0+764\n"
+    ".reloc .Ltcp27+588,R_X86_64_PLT32,.Ltcp2-4\n"
+    ".reloc .Ltcp27+634,R_X86_64_PC32,.Ltcp119+4\n"
+    ".reloc .Ltcp27+656,R_X86_64_PLT32,.Ltcp5-4\n"
+    ".reloc .Ltcp27+687,R_X86_64_PLT32,.Ltcp1-4\n"
+    ".reloc .Ltcp27+820,R_X86_64_PC32,.Ltcp119+12\n"
+    ".reloc .Ltcp27+836,R_X86_64_PLT32,.Ltcp5-4\n"
+    ".reloc .Ltcp27+865,R_X86_64_PLT32,.Ltcp1-4\n"
+    ".reloc .Ltcp27+1072,R_X86_64_PLT32,.Ltcp2-4\n"
+    ".reloc .Ltcp27+1258,R_X86_64_PC32,.Ltcp0+780\n"
+    ".reloc .Ltcp27+1357,R_X86_64_PC32,.Ltcp0+796\n"
+    ".reloc .Ltcp27+1593,R_X86_64_PLT32,.Ltcp1-4\n"
+    ".reloc .Ltcp27+1914,R_X86_64_PLT32,.Ltcp2-4\n"
+    ".reloc .Ltcp27+1974,R_X86_64_PC32,.Ltcp133-4\n"
+    ".reloc .Ltcp27+1997,R_X86_64_PLT32,.Ltcp5-4\n"
+    ".reloc .Ltcp27+2101,R_X86_64_PLT32,.Ltcp2-4\n"
+    ".reloc .Ltcp27+2191,R_X86_64_PC32,.Ltcp55+16\n"
+    ".reloc .Ltcp27+2213,R_X86_64_PLT32,.Ltcp5-4\n"
+    ".reloc .Ltcp27+2398,R_X86_64_PC32,.Ltcp134-4\n"
+    ".reloc .Ltcp27+2417,R_X86_64_PLT32,.Ltcp5-4\n"
+    ".reloc .Ltcp27+2577,R_X86_64_PLT32,.Ltcp2-4\n"
+    ".reloc .Ltcp27+2684,R_X86_64_PLT32,.Ltcp2-4\n"
+    ".reloc .Ltcp27+2864,R_X86_64_PLT32,.Ltcp2-4\n"
+    ".reloc .Ltcp27+2987,R_X86_64_PC32,.Ltcp135-4\n"
+    ".reloc .Ltcp27+3005,R_X86_64_PLT32,.Ltcp5-4\n"
+    ".reloc .Ltcp27+3253,R_X86_64_PLT32,.Ltcp29-4\n"
+    ".reloc .Ltcp27+3392,R_X86_64_PLT32,.Ltcp2-4\n"
+    ".reloc .Ltcp27+3645,R_X86_64_PLT32,.Ltcp31-4\n"
+    ".reloc .Ltcp27+3903,R_X86_64_PLT32,.Ltcp2-4\n"
+    ".reloc .Ltcp27+3980,R_X86_64_PC32,.Ltcp133-4\n"
+    ".reloc .Ltcp27+3993,R_X86_64_PLT32,.Ltcp5-4\n"
+    ".reloc .Ltcp27+4085,R_X86_64_PLT32,.Ltcp2-4\n"
+    ".reloc .Ltcp27+4180,R_X86_64_PLT32,.Ltcp2-4\n"
+    ".reloc .Ltcp27+4297,R_X86_64_PC32,.Ltcp151-4\n"
+    ".reloc .Ltcp27+4318,R_X86_64_PLT32,.Ltcp5-4\n"
+    ".reloc .Ltcp27+4436,R_X86_64_PLT32,.Ltcp29-4\n"
+    ".reloc .Ltcp27+4759,R_X86_64_PC32,.Ltcp28-4\n"
+    ".reloc .Ltcp27+4831,R_X86_64_PLT32,.Ltcp33-4\n"
+    ".reloc .Ltcp27+4919,R_X86_64_PC32,.Ltcp28+12\n"
+    ".reloc .Ltcp27+5032,R_X86_64_PLT32,.Ltcp2-4\n"
+    ".reloc .Ltcp27+5069,R_X86_64_PC32,.Ltcp28+36\n"
+    ".reloc .Ltcp27+5332,R_X86_64_PC32,.Ltcp0+812\n"
+    ".reloc .Ltcp27+5387,R_X86_64_PC32,.Ltcp55+32\n"
+    ".reloc .Ltcp27+5408,R_X86_64_PLT32,.Ltcp5-4\n"
+    ".reloc .Ltcp27+5778,R_X86_64_PC32,.Ltcp55+24\n"
+    ".reloc .Ltcp27+5799,R_X86_64_PLT32,.Ltcp5-4\n"
+    ".reloc .Ltcp27+5956,R_X86_64_PC32,.Ltcp0+828\n"
+    ".reloc .Ltcp27+6005,R_X86_64_PC32,.Ltcp55+36\n"
+    ".reloc .Ltcp27+6024,R_X86_64_PLT32,.Ltcp5-4\n"
+    ".reloc .Ltcp27+6043,R_X86_64_PLT32,.Ltcp32-4\n"
+    ".reloc .Ltcp27+6083,R_X86_64_PC32,.Ltcp55+40\n"
+    ".reloc .Ltcp27+6093,R_X86_64_PLT32,.Ltcp5-4\n"
+    ".reloc .Ltcp27+6525,R_X86_64_PC32,.Ltcp55+20\n"
+    ".reloc .Ltcp27+6538,R_X86_64_PLT32,.Ltcp5-4\n"
+    ".reloc .Ltcp27+7079,R_X86_64_PLT32,.Ltcp33-4\n"
+    ".section .rodata.tcp.28,\"a\",%progbits\n"
     ".balign 4\n"
-    ".Ltcp27:\n"
+    ".Ltcp28:\n"
     ".octa 0x0,0x0,0x0\n"
     ".octa 0x0\n"
-    ".reloc .Ltcp27+0,R_X86_64_PC32,.Ltcp26+4772\n"
-    ".reloc .Ltcp27+4,R_X86_64_PC32,.Ltcp26+4894\n"
-    ".reloc .Ltcp27+8,R_X86_64_PC32,.Ltcp26+4864\n"
-    ".reloc .Ltcp27+12,R_X86_64_PC32,.Ltcp26+4885\n"
-    ".reloc .Ltcp27+16,R_X86_64_PC32,.Ltcp26+4932\n"
-    ".reloc .Ltcp27+20,R_X86_64_PC32,.Ltcp26+5749\n"
-    ".reloc .Ltcp27+24,R_X86_64_PC32,.Ltcp26+5727\n"
-    ".reloc .Ltcp27+28,R_X86_64_PC32,.Ltcp26+5744\n"
-    ".reloc .Ltcp27+32,R_X86_64_PC32,.Ltcp26+5715\n"
-    ".reloc .Ltcp27+36,R_X86_64_PC32,.Ltcp26+5778\n"
-    ".reloc .Ltcp27+40,R_X86_64_PC32,.Ltcp26+5082\n"
-    ".reloc .Ltcp27+44,R_X86_64_PC32,.Ltcp26+6317\n"
-    ".reloc .Ltcp27+48,R_X86_64_PC32,.Ltcp26+6295\n"
-    ".reloc .Ltcp27+52,R_X86_64_PC32,.Ltcp26+6312\n"
-    ".reloc .Ltcp27+56,R_X86_64_PC32,.Ltcp26+6283\n"
-    ".reloc .Ltcp27+60,R_X86_64_PC32,.Ltcp26+6346\n"
-    ".section .text.tcp.28,\"ax\",%progbits\n"
+    ".reloc .Ltcp28+0,R_X86_64_PC32,.Ltcp27+4772\n"
+    ".reloc .Ltcp28+4,R_X86_64_PC32,.Ltcp27+4894\n"
+    ".reloc .Ltcp28+8,R_X86_64_PC32,.Ltcp27+4864\n"
+    ".reloc .Ltcp28+12,R_X86_64_PC32,.Ltcp27+4885\n"
+    ".reloc .Ltcp28+16,R_X86_64_PC32,.Ltcp27+4932\n"
+    ".reloc .Ltcp28+20,R_X86_64_PC32,.Ltcp27+5749\n"
+    ".reloc .Ltcp28+24,R_X86_64_PC32,.Ltcp27+5727\n"
+    ".reloc .Ltcp28+28,R_X86_64_PC32,.Ltcp27+5744\n"
+    ".reloc .Ltcp28+32,R_X86_64_PC32,.Ltcp27+5715\n"
+    ".reloc .Ltcp28+36,R_X86_64_PC32,.Ltcp27+5778\n"
+    ".reloc .Ltcp28+40,R_X86_64_PC32,.Ltcp27+5082\n"
+    ".reloc .Ltcp28+44,R_X86_64_PC32,.Ltcp27+6317\n"
+    ".reloc .Ltcp28+48,R_X86_64_PC32,.Ltcp27+6295\n"
+    ".reloc .Ltcp28+52,R_X86_64_PC32,.Ltcp27+6312\n"
+    ".reloc .Ltcp28+56,R_X86_64_PC32,.Ltcp27+6283\n"
+    ".reloc .Ltcp28+60,R_X86_64_PC32,.Ltcp27+6346\n"
+    ".section .text.tcp.29,\"ax\",%progbits\n"
     ".balign 16\n"
-    ".Ltcp28:\n"
+    ".Ltcp29:\n"
     ".type \"kit_script::events::read_event::<#244039bd4e0652a3>\",%function\n"
     ".size \"kit_script::events::read_event::<#244039bd4e0652a3>\",2657\n"
     "\"kit_script::events::read_event::<#244039bd4e0652a3>\":\n"
@@ -1351,68 +1384,68 @@ __asm__(
     ".octa 0x24548b4c27245c894c202454894c0f24,0x502454894c57245c894c27245c8b4c20,0xc748000000000f2444c748fffff9c7e9\n"
     ".octa 0xfffcf8e9d2310cb64000000000082444\n"
     ".byte 0xff\n"
-    ".reloc .Ltcp28+57,R_X86_64_PC32,.Ltcp29-4\n"
-    ".reloc .Ltcp28+89,R_X86_64_PC32,.Ltcp54+24\n"
-    ".reloc .Ltcp28+102,R_X86_64_PLT32,.Ltcp4-4\n"
-    ".reloc .Ltcp28+153,R_X86_64_PC32,.Ltcp138-4\n"
-    ".reloc .Ltcp28+166,R_X86_64_PLT32,.Ltcp4-4\n"
-    ".reloc .Ltcp28+213,R_X86_64_PC32,.Ltcp137-4\n"
-    ".reloc .Ltcp28+226,R_X86_64_PLT32,.Ltcp4-4\n"
-    ".reloc .Ltcp28+270,R_X86_64_PC32,.Ltcp0+796\n"
-    ".reloc .Ltcp28+304,R_X86_64_PC32,.Ltcp0+828\n"
-    ".reloc .Ltcp28+359,R_X86_64_PC32,.Ltcp146-4\n"
-    ".reloc .Ltcp28+372,R_X86_64_PLT32,.Ltcp4-4\n"
-    ".reloc .Ltcp28+431,R_X86_64_PC32,.Ltcp0+780\n"
-    ".reloc .Ltcp28+496,R_X86_64_PC32,.Ltcp141-4\n"
-    ".reloc .Ltcp28+509,R_X86_64_PLT32,.Ltcp4-4\n"
-    ".reloc .Ltcp28+564,R_X86_64_PC32,.Ltcp147-4\n"
-    ".reloc .Ltcp28+577,R_X86_64_PLT32,.Ltcp4-4\n"
-    ".reloc .Ltcp28+633,R_X86_64_PC32,.Ltcp54+28\n"
-    ".reloc .Ltcp28+646,R_X86_64_PLT32,.Ltcp4-4\n"
-    ".reloc .Ltcp28+678,R_X86_64_PC32,.Ltcp140-4\n"
-    ".reloc .Ltcp28+691,R_X86_64_PLT32,.Ltcp4-4\n"
-    ".reloc .Ltcp28+732,R_X86_64_PC32,.Ltcp143-4\n"
-    ".reloc .Ltcp28+745,R_X86_64_PLT32,.Ltcp4-4\n"
-    ".reloc .Ltcp28+852,R_X86_64_PC32,.Ltcp139-4\n"
-    ".reloc .Ltcp28+865,R_X86_64_PLT32,.Ltcp4-4\n"
-    ".reloc .Ltcp28+938,R_X86_64_PLT32,.Ltcp2-4\n"
-    ".reloc .Ltcp28+1180,R_X86_64_PLT32,.Ltcp2-4\n"
-    ".reloc .Ltcp28+1382,R_X86_64_PC32,.Ltcp29+12\n"
-    ".reloc .Ltcp28+1493,R_X86_64_PLT32,.Ltcp2-4\n"
-    ".reloc .Ltcp28+1986,R_X86_64_PLT32,.Ltcp2-4\n"
-    ".reloc .Ltcp28+2071,R_X86_64_PC32,.Ltcp118+20\n"
-    ".reloc .Ltcp28+2084,R_X86_64_PLT32,.Ltcp4-4\n"
-    ".reloc .Ltcp28+2237,R_X86_64_PLT32,.Ltcp7-4\n"
-    ".reloc .Ltcp28+2463,R_X86_64_PC32,.Ltcp148-4\n"
-    ".reloc .Ltcp28+2476,R_X86_64_PLT32,.Ltcp4-4\n"
-    ".reloc .Ltcp28+2510,R_X86_64_PC32,.Ltcp149-4\n"
-    ".reloc .Ltcp28+2523,R_X86_64_PLT32,.Ltcp4-4\n"
-    ".section .rodata.tcp.29,\"a\",%progbits\n"
+    ".reloc .Ltcp29+57,R_X86_64_PC32,.Ltcp30-4\n"
+    ".reloc .Ltcp29+89,R_X86_64_PC32,.Ltcp55+24\n"
+    ".reloc .Ltcp29+102,R_X86_64_PLT32,.Ltcp5-4\n"
+    ".reloc .Ltcp29+153,R_X86_64_PC32,.Ltcp139-4\n"
+    ".reloc .Ltcp29+166,R_X86_64_PLT32,.Ltcp5-4\n"
+    ".reloc .Ltcp29+213,R_X86_64_PC32,.Ltcp138-4\n"
+    ".reloc .Ltcp29+226,R_X86_64_PLT32,.Ltcp5-4\n"
+    ".reloc .Ltcp29+270,R_X86_64_PC32,.Ltcp0+860\n"
+    ".reloc .Ltcp29+304,R_X86_64_PC32,.Ltcp0+892\n"
+    ".reloc .Ltcp29+359,R_X86_64_PC32,.Ltcp147-4\n"
+    ".reloc .Ltcp29+372,R_X86_64_PLT32,.Ltcp5-4\n"
+    ".reloc .Ltcp29+431,R_X86_64_PC32,.Ltcp0+844\n"
+    ".reloc .Ltcp29+496,R_X86_64_PC32,.Ltcp142-4\n"
+    ".reloc .Ltcp29+509,R_X86_64_PLT32,.Ltcp5-4\n"
+    ".reloc .Ltcp29+564,R_X86_64_PC32,.Ltcp148-4\n"
+    ".reloc .Ltcp29+577,R_X86_64_PLT32,.Ltcp5-4\n"
+    ".reloc .Ltcp29+633,R_X86_64_PC32,.Ltcp55+28\n"
+    ".reloc .Ltcp29+646,R_X86_64_PLT32,.Ltcp5-4\n"
+    ".reloc .Ltcp29+678,R_X86_64_PC32,.Ltcp141-4\n"
+    ".reloc .Ltcp29+691,R_X86_64_PLT32,.Ltcp5-4\n"
+    ".reloc .Ltcp29+732,R_X86_64_PC32,.Ltcp144-4\n"
+    ".reloc .Ltcp29+745,R_X86_64_PLT32,.Ltcp5-4\n"
+    ".reloc .Ltcp29+852,R_X86_64_PC32,.Ltcp140-4\n"
+    ".reloc .Ltcp29+865,R_X86_64_PLT32,.Ltcp5-4\n"
+    ".reloc .Ltcp29+938,R_X86_64_PLT32,.Ltcp2-4\n"
+    ".reloc .Ltcp29+1180,R_X86_64_PLT32,.Ltcp2-4\n"
+    ".reloc .Ltcp29+1382,R_X86_64_PC32,.Ltcp30+12\n"
+    ".reloc .Ltcp29+1493,R_X86_64_PLT32,.Ltcp2-4\n"
+    ".reloc .Ltcp29+1986,R_X86_64_PLT32,.Ltcp2-4\n"
+    ".reloc .Ltcp29+2071,R_X86_64_PC32,.Ltcp119+20\n"
+    ".reloc .Ltcp29+2084,R_X86_64_PLT32,.Ltcp5-4\n"
+    ".reloc .Ltcp29+2237,R_X86_64_PLT32,.Ltcp8-4\n"
+    ".reloc .Ltcp29+2463,R_X86_64_PC32,.Ltcp149-4\n"
+    ".reloc .Ltcp29+2476,R_X86_64_PLT32,.Ltcp5-4\n"
+    ".reloc .Ltcp29+2510,R_X86_64_PC32,.Ltcp150-4\n"
+    ".reloc .Ltcp29+2523,R_X86_64_PLT32,.Ltcp5-4\n"
+    ".section .rodata.tcp.30,\"a\",%progbits\n"
     ".balign 4\n"
-    ".Ltcp29:\n"
+    ".Ltcp30:\n"
     ".octa 0x0,0x0,0x0\n"
     ".octa 0x0\n"
     ".long 0x0\n"
-    ".reloc .Ltcp29+0,R_X86_64_PC32,.Ltcp28+70\n"
-    ".reloc .Ltcp29+4,R_X86_64_PC32,.Ltcp28+408\n"
-    ".reloc .Ltcp29+8,R_X86_64_PC32,.Ltcp28+142\n"
-    ".reloc .Ltcp29+12,R_X86_64_PC32,.Ltcp28+210\n"
-    ".reloc .Ltcp29+16,R_X86_64_PC32,.Ltcp28+1395\n"
-    ".reloc .Ltcp29+20,R_X86_64_PC32,.Ltcp28+1399\n"
-    ".reloc .Ltcp29+24,R_X86_64_PC32,.Ltcp28+2228\n"
-    ".reloc .Ltcp29+28,R_X86_64_PC32,.Ltcp28+2299\n"
-    ".reloc .Ltcp29+32,R_X86_64_PC32,.Ltcp28+1411\n"
-    ".reloc .Ltcp29+36,R_X86_64_PC32,.Ltcp28+1415\n"
-    ".reloc .Ltcp29+40,R_X86_64_PC32,.Ltcp28+1419\n"
-    ".reloc .Ltcp29+44,R_X86_64_PC32,.Ltcp28+2053\n"
-    ".reloc .Ltcp29+48,R_X86_64_PC32,.Ltcp28+1427\n"
-    ".reloc .Ltcp29+52,R_X86_64_PC32,.Ltcp28+1431\n"
-    ".reloc .Ltcp29+56,R_X86_64_PC32,.Ltcp28+1435\n"
-    ".reloc .Ltcp29+60,R_X86_64_PC32,.Ltcp28+2148\n"
-    ".reloc .Ltcp29+64,R_X86_64_PC32,.Ltcp28+1443\n"
-    ".section .text.tcp.30,\"ax\",%progbits\n"
+    ".reloc .Ltcp30+0,R_X86_64_PC32,.Ltcp29+70\n"
+    ".reloc .Ltcp30+4,R_X86_64_PC32,.Ltcp29+408\n"
+    ".reloc .Ltcp30+8,R_X86_64_PC32,.Ltcp29+142\n"
+    ".reloc .Ltcp30+12,R_X86_64_PC32,.Ltcp29+210\n"
+    ".reloc .Ltcp30+16,R_X86_64_PC32,.Ltcp29+1395\n"
+    ".reloc .Ltcp30+20,R_X86_64_PC32,.Ltcp29+1399\n"
+    ".reloc .Ltcp30+24,R_X86_64_PC32,.Ltcp29+2228\n"
+    ".reloc .Ltcp30+28,R_X86_64_PC32,.Ltcp29+2299\n"
+    ".reloc .Ltcp30+32,R_X86_64_PC32,.Ltcp29+1411\n"
+    ".reloc .Ltcp30+36,R_X86_64_PC32,.Ltcp29+1415\n"
+    ".reloc .Ltcp30+40,R_X86_64_PC32,.Ltcp29+1419\n"
+    ".reloc .Ltcp30+44,R_X86_64_PC32,.Ltcp29+2053\n"
+    ".reloc .Ltcp30+48,R_X86_64_PC32,.Ltcp29+1427\n"
+    ".reloc .Ltcp30+52,R_X86_64_PC32,.Ltcp29+1431\n"
+    ".reloc .Ltcp30+56,R_X86_64_PC32,.Ltcp29+1435\n"
+    ".reloc .Ltcp30+60,R_X86_64_PC32,.Ltcp29+2148\n"
+    ".reloc .Ltcp30+64,R_X86_64_PC32,.Ltcp29+1443\n"
+    ".section .text.tcp.31,\"ax\",%progbits\n"
     ".balign 16\n"
-    ".Ltcp30:\n"
+    ".Ltcp31:\n"
     ".type \"kit_script::line::repeat::<#2d4aa59632031e8a>\",%function\n"
     ".size \"kit_script::line::repeat::<#2d4aa59632031e8a>\",166\n"
     "\"kit_script::line::repeat::<#2d4aa59632031e8a>\":\n"
@@ -1422,18 +1455,18 @@ __asm__(
     ".octa 0x47c72c47110f1c47110f0c47110fc057\n"
     ".long 0x3c\n"
     ".short 0xc300\n"
-    ".section .text.tcp.31,\"ax\",%progbits\n"
+    ".section .text.tcp.32,\"ax\",%progbits\n"
     ".balign 16\n"
-    ".Ltcp31:\n"
+    ".Ltcp32:\n"
     ".type \"kit_script::settings::read_switch\",%function\n"
     ".size \"kit_script::settings::read_switch\",53\n"
     "\"kit_script::settings::read_switch\":\n"
     ".octa 0x756f3f80247502fe8348157403fe8348,0x10756f3f80c3d089c2940f6e017f801f,0xc3d231c0940f66027f800a7566017f80\n"
     ".long 0xc031d231\n"
     ".byte 0xc3\n"
-    ".section .text.tcp.32,\"ax\",%progbits\n"
+    ".section .text.tcp.33,\"ax\",%progbits\n"
     ".balign 16\n"
-    ".Ltcp32:\n"
+    ".Ltcp33:\n"
     ".type \"std_alloc::vec::Vec::grow_amortized::<#5773add98f13ddf0>\",%function\n"
     ".size \"std_alloc::vec::Vec::grow_amortized::<#5773add98f13ddf0>\",890\n"
     "\"std_alloc::vec::Vec::grow_amortized::<#5773add98f13ddf0>\":\n"
@@ -1463,9 +1496,9 @@ __asm__(
     ".octa 0xf201054110f201654100f10164c100f,0x75d1394830c283481004110f10104c11\n"
     ".long 0xfd7be9db\n"
     ".short 0xffff\n"
-    ".section .text.tcp.33,\"ax\",%progbits\n"
+    ".section .text.tcp.34,\"ax\",%progbits\n"
     ".balign 16\n"
-    ".Ltcp33:\n"
+    ".Ltcp34:\n"
     ".type \"tcp_replay::party::Party::new_in::<#244039bd4e0652a3>\",%function\n"
     ".size \"tcp_replay::party::Party::new_in::<#244039bd4e0652a3>\",2942\n"
     "\"tcp_replay::party::Party::new_in::<#244039bd4e0652a3>\":\n"
@@ -1533,9 +1566,9 @@ __asm__(
     ".octa 0xc7480c244c8966000000ac248cb70f08,0x290f0000182444c76600000000102444,0x902484c748000000802484\n"
     ".octa 0xf02484290f000001302484290f0000,0x1102484290f000001002484290f0000,0xd02484290f000001202484290f0000\n"
     ".octa 0x1bd41000000e02484290f0000,0x1b6400218bf4166000001c0248c8b4c,0xfffff743e9c1280fc189cc894ddb3145\n"
-    ".section .text.tcp.34,\"ax\",%progbits\n"
+    ".section .text.tcp.35,\"ax\",%progbits\n"
     ".balign 16\n"
-    ".Ltcp34:\n"
+    ".Ltcp35:\n"
     ".type \"kit_report::turns::push_turn_line::<#244039bd4e0652a3>\",%function\n"
     ".size \"kit_report::turns::push_turn_line::<#244039bd4e0652a3>\",9672\n"
     "\"kit_report::turns::push_turn_line::<#244039bd4e0652a3>\":\n"
@@ -1764,164 +1797,164 @@ __asm__(
     ".octa 0xe910246c8b48e889ed311060894c0868,0xe810247c8b4800000001beffffe023,0x481024448b48de74c08401b540000000\n"
     ".quad 0x8b4c08688b4c288b\n"
     ".long 0xb1eb1060\n"
-    ".reloc .Ltcp34+292,R_X86_64_PLT32,.Ltcp36-4\n"
-    ".reloc .Ltcp34+348,R_X86_64_PC32,.Ltcp35+128\n"
-    ".reloc .Ltcp34+817,R_X86_64_PC32,.Ltcp118+44\n"
-    ".reloc .Ltcp34+857,R_X86_64_PC32,.Ltcp103-4\n"
-    ".reloc .Ltcp34+979,R_X86_64_PLT32,.Ltcp80-4\n"
-    ".reloc .Ltcp34+1124,R_X86_64_PLT32,.Ltcp86-4\n"
-    ".reloc .Ltcp34+1240,R_X86_64_PLT32,.Ltcp36-4\n"
-    ".reloc .Ltcp34+1357,R_X86_64_PLT32,.Ltcp74-4\n"
-    ".reloc .Ltcp34+1372,R_X86_64_PLT32,.Ltcp75-4\n"
-    ".reloc .Ltcp34+1468,R_X86_64_PLT32,.Ltcp84-4\n"
-    ".reloc .Ltcp34+1648,R_X86_64_PLT32,.Ltcp75-4\n"
-    ".reloc .Ltcp34+1757,R_X86_64_PC32,.Ltcp152-4\n"
-    ".reloc .Ltcp34+1969,R_X86_64_PC32,.Ltcp35-4\n"
-    ".reloc .Ltcp34+2024,R_X86_64_PC32,.Ltcp171-4\n"
-    ".reloc .Ltcp34+2076,R_X86_64_PLT32,.Ltcp87-4\n"
-    ".reloc .Ltcp34+2096,R_X86_64_PC32,.Ltcp118+44\n"
-    ".reloc .Ltcp34+2111,R_X86_64_PLT32,.Ltcp78-4\n"
-    ".reloc .Ltcp34+2139,R_X86_64_PLT32,.Ltcp85-4\n"
-    ".reloc .Ltcp34+2192,R_X86_64_PLT32,.Ltcp80-4\n"
-    ".reloc .Ltcp34+2247,R_X86_64_PC32,.Ltcp170-4\n"
-    ".reloc .Ltcp34+2290,R_X86_64_PC32,.Ltcp100-4\n"
-    ".reloc .Ltcp34+2326,R_X86_64_PLT32,.Ltcp88-4\n"
-    ".reloc .Ltcp34+2379,R_X86_64_PLT32,.Ltcp74-4\n"
-    ".reloc .Ltcp34+2472,R_X86_64_PLT32,.Ltcp83-4\n"
-    ".reloc .Ltcp34+2517,R_X86_64_PC32,.Ltcp101-4\n"
-    ".reloc .Ltcp34+2599,R_X86_64_PC32,.Ltcp154-4\n"
-    ".reloc .Ltcp34+2657,R_X86_64_PC32,.Ltcp156-4\n"
-    ".reloc .Ltcp34+2664,R_X86_64_PC32,.Ltcp157-4\n"
-    ".reloc .Ltcp34+2791,R_X86_64_PLT32,.Ltcp84-4\n"
-    ".reloc .Ltcp34+2810,R_X86_64_PC32,.Ltcp35+20\n"
-    ".reloc .Ltcp34+2837,R_X86_64_PLT32,.Ltcp83-4\n"
-    ".reloc .Ltcp34+2877,R_X86_64_PLT32,.Ltcp85-4\n"
-    ".reloc .Ltcp34+2905,R_X86_64_PC32,.Ltcp103-4\n"
-    ".reloc .Ltcp34+2920,R_X86_64_PLT32,.Ltcp78-4\n"
-    ".reloc .Ltcp34+2988,R_X86_64_PLT32,.Ltcp85-4\n"
-    ".reloc .Ltcp34+3116,R_X86_64_PC32,.Ltcp151-4\n"
-    ".reloc .Ltcp34+3158,R_X86_64_PC32,.Ltcp152-4\n"
-    ".reloc .Ltcp34+3181,R_X86_64_PLT32,.Ltcp77-4\n"
-    ".reloc .Ltcp34+3199,R_X86_64_PLT32,.Ltcp85-4\n"
-    ".reloc .Ltcp34+3251,R_X86_64_PC32,.Ltcp159-4\n"
-    ".reloc .Ltcp34+3324,R_X86_64_PC32,.Ltcp160-4\n"
-    ".reloc .Ltcp34+3463,R_X86_64_PC32,.Ltcp185-4\n"
-    ".reloc .Ltcp34+3474,R_X86_64_PC32,.Ltcp186-4\n"
-    ".reloc .Ltcp34+3658,R_X86_64_PLT32,.Ltcp85-4\n"
-    ".reloc .Ltcp34+3709,R_X86_64_PC32,.Ltcp155-4\n"
-    ".reloc .Ltcp34+3764,R_X86_64_PC32,.Ltcp153-4\n"
-    ".reloc .Ltcp34+3894,R_X86_64_PC32,.Ltcp185-4\n"
-    ".reloc .Ltcp34+3905,R_X86_64_PC32,.Ltcp186-4\n"
-    ".reloc .Ltcp34+4386,R_X86_64_PLT32,.Ltcp85-4\n"
-    ".reloc .Ltcp34+4442,R_X86_64_PLT32,.Ltcp23-4\n"
-    ".reloc .Ltcp34+4464,R_X86_64_PLT32,.Ltcp85-4\n"
-    ".reloc .Ltcp34+4514,R_X86_64_PLT32,.Ltcp85-4\n"
-    ".reloc .Ltcp34+4563,R_X86_64_PLT32,.Ltcp85-4\n"
-    ".reloc .Ltcp34+4623,R_X86_64_PLT32,.Ltcp85-4\n"
-    ".reloc .Ltcp34+4671,R_X86_64_PLT32,.Ltcp85-4\n"
-    ".reloc .Ltcp34+4723,R_X86_64_PLT32,.Ltcp85-4\n"
-    ".reloc .Ltcp34+4781,R_X86_64_PLT32,.Ltcp8-4\n"
-    ".reloc .Ltcp34+4801,R_X86_64_PLT32,.Ltcp85-4\n"
-    ".reloc .Ltcp34+4851,R_X86_64_PLT32,.Ltcp85-4\n"
-    ".reloc .Ltcp34+4901,R_X86_64_PLT32,.Ltcp85-4\n"
-    ".reloc .Ltcp34+5363,R_X86_64_PC32,.Ltcp0+844\n"
-    ".reloc .Ltcp34+5492,R_X86_64_PLT32,.Ltcp85-4\n"
-    ".reloc .Ltcp34+5541,R_X86_64_PLT32,.Ltcp85-4\n"
-    ".reloc .Ltcp34+5596,R_X86_64_PLT32,.Ltcp85-4\n"
-    ".reloc .Ltcp34+5874,R_X86_64_PC32,.Ltcp158-4\n"
-    ".reloc .Ltcp34+5962,R_X86_64_PC32,.Ltcp35+36\n"
-    ".reloc .Ltcp34+5978,R_X86_64_PC32,.Ltcp107-4\n"
-    ".reloc .Ltcp34+6008,R_X86_64_PC32,.Ltcp109-4\n"
-    ".reloc .Ltcp34+6020,R_X86_64_PC32,.Ltcp106-4\n"
-    ".reloc .Ltcp34+6254,R_X86_64_PC32,.Ltcp111-4\n"
-    ".reloc .Ltcp34+6279,R_X86_64_PC32,.Ltcp112-4\n"
-    ".reloc .Ltcp34+6313,R_X86_64_PC32,.Ltcp113-4\n"
-    ".reloc .Ltcp34+6348,R_X86_64_PC32,.Ltcp105-4\n"
-    ".reloc .Ltcp34+6383,R_X86_64_PC32,.Ltcp114-4\n"
-    ".reloc .Ltcp34+6418,R_X86_64_PC32,.Ltcp115-4\n"
-    ".reloc .Ltcp34+6453,R_X86_64_PC32,.Ltcp107-4\n"
-    ".reloc .Ltcp34+6488,R_X86_64_PC32,.Ltcp116-4\n"
-    ".reloc .Ltcp34+6998,R_X86_64_PLT32,.Ltcp78-4\n"
-    ".reloc .Ltcp34+7171,R_X86_64_PLT32,.Ltcp85-4\n"
-    ".reloc .Ltcp34+7212,R_X86_64_PC32,.Ltcp117-4\n"
-    ".reloc .Ltcp34+7230,R_X86_64_PLT32,.Ltcp78-4\n"
-    ".reloc .Ltcp34+7261,R_X86_64_PLT32,.Ltcp85-4\n"
-    ".reloc .Ltcp34+7297,R_X86_64_PC32,.Ltcp105-4\n"
-    ".reloc .Ltcp34+7311,R_X86_64_PC32,.Ltcp108-4\n"
-    ".reloc .Ltcp34+7320,R_X86_64_PC32,.Ltcp110-4\n"
-    ".reloc .Ltcp34+7608,R_X86_64_PC32,.Ltcp104-4\n"
-    ".reloc .Ltcp34+7717,R_X86_64_PC32,.Ltcp104-4\n"
-    ".reloc .Ltcp34+7754,R_X86_64_PC32,.Ltcp104-4\n"
-    ".reloc .Ltcp34+7877,R_X86_64_PC32,.Ltcp104-4\n"
-    ".reloc .Ltcp34+7997,R_X86_64_PC32,.Ltcp104-4\n"
-    ".reloc .Ltcp34+8129,R_X86_64_PC32,.Ltcp104-4\n"
-    ".reloc .Ltcp34+8166,R_X86_64_PC32,.Ltcp104-4\n"
-    ".reloc .Ltcp34+8222,R_X86_64_PC32,.Ltcp104-4\n"
-    ".reloc .Ltcp34+8352,R_X86_64_PC32,.Ltcp104-4\n"
-    ".reloc .Ltcp34+8442,R_X86_64_PC32,.Ltcp104-4\n"
-    ".reloc .Ltcp34+8479,R_X86_64_PC32,.Ltcp104-4\n"
-    ".reloc .Ltcp34+8790,R_X86_64_PC32,.Ltcp104-4\n"
-    ".reloc .Ltcp34+8854,R_X86_64_PLT32,.Ltcp85-4\n"
-    ".reloc .Ltcp34+9001,R_X86_64_PLT32,.Ltcp85-4\n"
-    ".reloc .Ltcp34+9040,R_X86_64_PLT32,.Ltcp85-4\n"
-    ".reloc .Ltcp34+9081,R_X86_64_PC32,.Ltcp99-4\n"
-    ".reloc .Ltcp34+9099,R_X86_64_PLT32,.Ltcp78-4\n"
-    ".reloc .Ltcp34+9127,R_X86_64_PLT32,.Ltcp85-4\n"
-    ".reloc .Ltcp34+9410,R_X86_64_PLT32,.Ltcp9-4\n"
-    ".reloc .Ltcp34+9458,R_X86_64_PLT32,.Ltcp82-4\n"
-    ".reloc .Ltcp34+9535,R_X86_64_PLT32,.Ltcp82-4\n"
-    ".reloc .Ltcp34+9565,R_X86_64_PLT32,.Ltcp85-4\n"
-    ".reloc .Ltcp34+9643,R_X86_64_PLT32,.Ltcp85-4\n"
-    ".section .rodata.tcp.35,\"a\",%progbits\n"
+    ".reloc .Ltcp35+292,R_X86_64_PLT32,.Ltcp37-4\n"
+    ".reloc .Ltcp35+348,R_X86_64_PC32,.Ltcp36+128\n"
+    ".reloc .Ltcp35+817,R_X86_64_PC32,.Ltcp119+44\n"
+    ".reloc .Ltcp35+857,R_X86_64_PC32,.Ltcp104-4\n"
+    ".reloc .Ltcp35+979,R_X86_64_PLT32,.Ltcp81-4\n"
+    ".reloc .Ltcp35+1124,R_X86_64_PLT32,.Ltcp87-4\n"
+    ".reloc .Ltcp35+1240,R_X86_64_PLT32,.Ltcp37-4\n"
+    ".reloc .Ltcp35+1357,R_X86_64_PLT32,.Ltcp75-4\n"
+    ".reloc .Ltcp35+1372,R_X86_64_PLT32,.Ltcp76-4\n"
+    ".reloc .Ltcp35+1468,R_X86_64_PLT32,.Ltcp85-4\n"
+    ".reloc .Ltcp35+1648,R_X86_64_PLT32,.Ltcp76-4\n"
+    ".reloc .Ltcp35+1757,R_X86_64_PC32,.Ltcp153-4\n"
+    ".reloc .Ltcp35+1969,R_X86_64_PC32,.Ltcp36-4\n"
+    ".reloc .Ltcp35+2024,R_X86_64_PC32,.Ltcp172-4\n"
+    ".reloc .Ltcp35+2076,R_X86_64_PLT32,.Ltcp88-4\n"
+    ".reloc .Ltcp35+2096,R_X86_64_PC32,.Ltcp119+44\n"
+    ".reloc .Ltcp35+2111,R_X86_64_PLT32,.Ltcp79-4\n"
+    ".reloc .Ltcp35+2139,R_X86_64_PLT32,.Ltcp86-4\n"
+    ".reloc .Ltcp35+2192,R_X86_64_PLT32,.Ltcp81-4\n"
+    ".reloc .Ltcp35+2247,R_X86_64_PC32,.Ltcp171-4\n"
+    ".reloc .Ltcp35+2290,R_X86_64_PC32,.Ltcp101-4\n"
+    ".reloc .Ltcp35+2326,R_X86_64_PLT32,.Ltcp89-4\n"
+    ".reloc .Ltcp35+2379,R_X86_64_PLT32,.Ltcp75-4\n"
+    ".reloc .Ltcp35+2472,R_X86_64_PLT32,.Ltcp84-4\n"
+    ".reloc .Ltcp35+2517,R_X86_64_PC32,.Ltcp102-4\n"
+    ".reloc .Ltcp35+2599,R_X86_64_PC32,.Ltcp155-4\n"
+    ".reloc .Ltcp35+2657,R_X86_64_PC32,.Ltcp157-4\n"
+    ".reloc .Ltcp35+2664,R_X86_64_PC32,.Ltcp158-4\n"
+    ".reloc .Ltcp35+2791,R_X86_64_PLT32,.Ltcp85-4\n"
+    ".reloc .Ltcp35+2810,R_X86_64_PC32,.Ltcp36+20\n"
+    ".reloc .Ltcp35+2837,R_X86_64_PLT32,.Ltcp84-4\n"
+    ".reloc .Ltcp35+2877,R_X86_64_PLT32,.Ltcp86-4\n"
+    ".reloc .Ltcp35+2905,R_X86_64_PC32,.Ltcp104-4\n"
+    ".reloc .Ltcp35+2920,R_X86_64_PLT32,.Ltcp79-4\n"
+    ".reloc .Ltcp35+2988,R_X86_64_PLT32,.Ltcp86-4\n"
+    ".reloc .Ltcp35+3116,R_X86_64_PC32,.Ltcp152-4\n"
+    ".reloc .Ltcp35+3158,R_X86_64_PC32,.Ltcp153-4\n"
+    ".reloc .Ltcp35+3181,R_X86_64_PLT32,.Ltcp78-4\n"
+    ".reloc .Ltcp35+3199,R_X86_64_PLT32,.Ltcp86-4\n"
+    ".reloc .Ltcp35+3251,R_X86_64_PC32,.Ltcp160-4\n"
+    ".reloc .Ltcp35+3324,R_X86_64_PC32,.Ltcp161-4\n"
+    ".reloc .Ltcp35+3463,R_X86_64_PC32,.Ltcp186-4\n"
+    ".reloc .Ltcp35+3474,R_X86_64_PC32,.Ltcp187-4\n"
+    ".reloc .Ltcp35+3658,R_X86_64_PLT32,.Ltcp86-4\n"
+    ".reloc .Ltcp35+3709,R_X86_64_PC32,.Ltcp156-4\n"
+    ".reloc .Ltcp35+3764,R_X86_64_PC32,.Ltcp154-4\n"
+    ".reloc .Ltcp35+3894,R_X86_64_PC32,.Ltcp186-4\n"
+    ".reloc .Ltcp35+3905,R_X86_64_PC32,.Ltcp187-4\n"
+    ".reloc .Ltcp35+4386,R_X86_64_PLT32,.Ltcp86-4\n"
+    ".reloc .Ltcp35+4442,R_X86_64_PLT32,.Ltcp24-4\n"
+    ".reloc .Ltcp35+4464,R_X86_64_PLT32,.Ltcp86-4\n"
+    ".reloc .Ltcp35+4514,R_X86_64_PLT32,.Ltcp86-4\n"
+    ".reloc .Ltcp35+4563,R_X86_64_PLT32,.Ltcp86-4\n"
+    ".reloc .Ltcp35+4623,R_X86_64_PLT32,.Ltcp86-4\n"
+    ".reloc .Ltcp35+4671,R_X86_64_PLT32,.Ltcp86-4\n"
+    ".reloc .Ltcp35+4723,R_X86_64_PLT32,.Ltcp86-4\n"
+    ".reloc .Ltcp35+4781,R_X86_64_PLT32,.Ltcp9-4\n"
+    ".reloc .Ltcp35+4801,R_X86_64_PLT32,.Ltcp86-4\n"
+    ".reloc .Ltcp35+4851,R_X86_64_PLT32,.Ltcp86-4\n"
+    ".reloc .Ltcp35+4901,R_X86_64_PLT32,.Ltcp86-4\n"
+    ".reloc .Ltcp35+5363,R_X86_64_PC32,.Ltcp0+908\n"
+    ".reloc .Ltcp35+5492,R_X86_64_PLT32,.Ltcp86-4\n"
+    ".reloc .Ltcp35+5541,R_X86_64_PLT32,.Ltcp86-4\n"
+    ".reloc .Ltcp35+5596,R_X86_64_PLT32,.Ltcp86-4\n"
+    ".reloc .Ltcp35+5874,R_X86_64_PC32,.Ltcp159-4\n"
+    ".reloc .Ltcp35+5962,R_X86_64_PC32,.Ltcp36+36\n"
+    ".reloc .Ltcp35+5978,R_X86_64_PC32,.Ltcp108-4\n"
+    ".reloc .Ltcp35+6008,R_X86_64_PC32,.Ltcp110-4\n"
+    ".reloc .Ltcp35+6020,R_X86_64_PC32,.Ltcp107-4\n"
+    ".reloc .Ltcp35+6254,R_X86_64_PC32,.Ltcp112-4\n"
+    ".reloc .Ltcp35+6279,R_X86_64_PC32,.Ltcp113-4\n"
+    ".reloc .Ltcp35+6313,R_X86_64_PC32,.Ltcp114-4\n"
+    ".reloc .Ltcp35+6348,R_X86_64_PC32,.Ltcp106-4\n"
+    ".reloc .Ltcp35+6383,R_X86_64_PC32,.Ltcp115-4\n"
+    ".reloc .Ltcp35+6418,R_X86_64_PC32,.Ltcp116-4\n"
+    ".reloc .Ltcp35+6453,R_X86_64_PC32,.Ltcp108-4\n"
+    ".reloc .Ltcp35+6488,R_X86_64_PC32,.Ltcp117-4\n"
+    ".reloc .Ltcp35+6998,R_X86_64_PLT32,.Ltcp79-4\n"
+    ".reloc .Ltcp35+7171,R_X86_64_PLT32,.Ltcp86-4\n"
+    ".reloc .Ltcp35+7212,R_X86_64_PC32,.Ltcp118-4\n"
+    ".reloc .Ltcp35+7230,R_X86_64_PLT32,.Ltcp79-4\n"
+    ".reloc .Ltcp35+7261,R_X86_64_PLT32,.Ltcp86-4\n"
+    ".reloc .Ltcp35+7297,R_X86_64_PC32,.Ltcp106-4\n"
+    ".reloc .Ltcp35+7311,R_X86_64_PC32,.Ltcp109-4\n"
+    ".reloc .Ltcp35+7320,R_X86_64_PC32,.Ltcp111-4\n"
+    ".reloc .Ltcp35+7608,R_X86_64_PC32,.Ltcp105-4\n"
+    ".reloc .Ltcp35+7717,R_X86_64_PC32,.Ltcp105-4\n"
+    ".reloc .Ltcp35+7754,R_X86_64_PC32,.Ltcp105-4\n"
+    ".reloc .Ltcp35+7877,R_X86_64_PC32,.Ltcp105-4\n"
+    ".reloc .Ltcp35+7997,R_X86_64_PC32,.Ltcp105-4\n"
+    ".reloc .Ltcp35+8129,R_X86_64_PC32,.Ltcp105-4\n"
+    ".reloc .Ltcp35+8166,R_X86_64_PC32,.Ltcp105-4\n"
+    ".reloc .Ltcp35+8222,R_X86_64_PC32,.Ltcp105-4\n"
+    ".reloc .Ltcp35+8352,R_X86_64_PC32,.Ltcp105-4\n"
+    ".reloc .Ltcp35+8442,R_X86_64_PC32,.Ltcp105-4\n"
+    ".reloc .Ltcp35+8479,R_X86_64_PC32,.Ltcp105-4\n"
+    ".reloc .Ltcp35+8790,R_X86_64_PC32,.Ltcp105-4\n"
+    ".reloc .Ltcp35+8854,R_X86_64_PLT32,.Ltcp86-4\n"
+    ".reloc .Ltcp35+9001,R_X86_64_PLT32,.Ltcp86-4\n"
+    ".reloc .Ltcp35+9040,R_X86_64_PLT32,.Ltcp86-4\n"
+    ".reloc .Ltcp35+9081,R_X86_64_PC32,.Ltcp100-4\n"
+    ".reloc .Ltcp35+9099,R_X86_64_PLT32,.Ltcp79-4\n"
+    ".reloc .Ltcp35+9127,R_X86_64_PLT32,.Ltcp86-4\n"
+    ".reloc .Ltcp35+9410,R_X86_64_PLT32,.Ltcp10-4\n"
+    ".reloc .Ltcp35+9458,R_X86_64_PLT32,.Ltcp83-4\n"
+    ".reloc .Ltcp35+9535,R_X86_64_PLT32,.Ltcp83-4\n"
+    ".reloc .Ltcp35+9565,R_X86_64_PLT32,.Ltcp86-4\n"
+    ".reloc .Ltcp35+9643,R_X86_64_PLT32,.Ltcp86-4\n"
+    ".section .rodata.tcp.36,\"a\",%progbits\n"
     ".balign 4\n"
-    ".Ltcp35:\n"
+    ".Ltcp36:\n"
     ".octa 0x0,0x0,0x0\n"
     ".octa 0x0,0x0,0x0\n"
     ".octa 0x0,0x0,0x0\n"
     ".quad 0x0\n"
     ".long 0x0\n"
-    ".reloc .Ltcp35+0,R_X86_64_PC32,.Ltcp34+1982\n"
-    ".reloc .Ltcp35+4,R_X86_64_PC32,.Ltcp34+2765\n"
-    ".reloc .Ltcp35+8,R_X86_64_PC32,.Ltcp34+2489\n"
-    ".reloc .Ltcp35+12,R_X86_64_PC32,.Ltcp34+2652\n"
-    ".reloc .Ltcp35+16,R_X86_64_PC32,.Ltcp34+2370\n"
-    ".reloc .Ltcp35+20,R_X86_64_PC32,.Ltcp34+2820\n"
-    ".reloc .Ltcp35+24,R_X86_64_PC32,.Ltcp34+2823\n"
-    ".reloc .Ltcp35+28,R_X86_64_PC32,.Ltcp34+3369\n"
-    ".reloc .Ltcp35+32,R_X86_64_PC32,.Ltcp34+3232\n"
-    ".reloc .Ltcp35+36,R_X86_64_PC32,.Ltcp34+3309\n"
-    ".reloc .Ltcp35+40,R_X86_64_PC32,.Ltcp34+5975\n"
-    ".reloc .Ltcp35+44,R_X86_64_PC32,.Ltcp34+6033\n"
-    ".reloc .Ltcp35+48,R_X86_64_PC32,.Ltcp34+6037\n"
-    ".reloc .Ltcp35+52,R_X86_64_PC32,.Ltcp34+6041\n"
-    ".reloc .Ltcp35+56,R_X86_64_PC32,.Ltcp34+6045\n"
-    ".reloc .Ltcp35+60,R_X86_64_PC32,.Ltcp34+6049\n"
-    ".reloc .Ltcp35+64,R_X86_64_PC32,.Ltcp34+6053\n"
-    ".reloc .Ltcp35+68,R_X86_64_PC32,.Ltcp34+6057\n"
-    ".reloc .Ltcp35+72,R_X86_64_PC32,.Ltcp34+6061\n"
-    ".reloc .Ltcp35+76,R_X86_64_PC32,.Ltcp34+6065\n"
-    ".reloc .Ltcp35+80,R_X86_64_PC32,.Ltcp34+6069\n"
-    ".reloc .Ltcp35+84,R_X86_64_PC32,.Ltcp34+6073\n"
-    ".reloc .Ltcp35+88,R_X86_64_PC32,.Ltcp34+6077\n"
-    ".reloc .Ltcp35+92,R_X86_64_PC32,.Ltcp34+6081\n"
-    ".reloc .Ltcp35+96,R_X86_64_PC32,.Ltcp34+7350\n"
-    ".reloc .Ltcp35+100,R_X86_64_PC32,.Ltcp34+6065\n"
-    ".reloc .Ltcp35+104,R_X86_64_PC32,.Ltcp34+7372\n"
-    ".reloc .Ltcp35+108,R_X86_64_PC32,.Ltcp34+6097\n"
-    ".reloc .Ltcp35+112,R_X86_64_PC32,.Ltcp34+7389\n"
-    ".reloc .Ltcp35+116,R_X86_64_PC32,.Ltcp34+6105\n"
-    ".reloc .Ltcp35+120,R_X86_64_PC32,.Ltcp34+6109\n"
-    ".reloc .Ltcp35+124,R_X86_64_PC32,.Ltcp34+6113\n"
-    ".reloc .Ltcp35+128,R_X86_64_PC32,.Ltcp34+6105\n"
-    ".reloc .Ltcp35+132,R_X86_64_PC32,.Ltcp34+662\n"
-    ".reloc .Ltcp35+136,R_X86_64_PC32,.Ltcp34+365\n"
-    ".reloc .Ltcp35+140,R_X86_64_PC32,.Ltcp34+369\n"
-    ".reloc .Ltcp35+144,R_X86_64_PC32,.Ltcp34+158\n"
-    ".reloc .Ltcp35+148,R_X86_64_PC32,.Ltcp34+162\n"
-    ".reloc .Ltcp35+152,R_X86_64_PC32,.Ltcp34+166\n"
-    ".section .text.tcp.36,\"ax\",%progbits\n"
+    ".reloc .Ltcp36+0,R_X86_64_PC32,.Ltcp35+1982\n"
+    ".reloc .Ltcp36+4,R_X86_64_PC32,.Ltcp35+2765\n"
+    ".reloc .Ltcp36+8,R_X86_64_PC32,.Ltcp35+2489\n"
+    ".reloc .Ltcp36+12,R_X86_64_PC32,.Ltcp35+2652\n"
+    ".reloc .Ltcp36+16,R_X86_64_PC32,.Ltcp35+2370\n"
+    ".reloc .Ltcp36+20,R_X86_64_PC32,.Ltcp35+2820\n"
+    ".reloc .Ltcp36+24,R_X86_64_PC32,.Ltcp35+2823\n"
+    ".reloc .Ltcp36+28,R_X86_64_PC32,.Ltcp35+3369\n"
+    ".reloc .Ltcp36+32,R_X86_64_PC32,.Ltcp35+3232\n"
+    ".reloc .Ltcp36+36,R_X86_64_PC32,.Ltcp35+3309\n"
+    ".reloc .Ltcp36+40,R_X86_64_PC32,.Ltcp35+5975\n"
+    ".reloc .Ltcp36+44,R_X86_64_PC32,.Ltcp35+6033\n"
+    ".reloc .Ltcp36+48,R_X86_64_PC32,.Ltcp35+6037\n"
+    ".reloc .Ltcp36+52,R_X86_64_PC32,.Ltcp35+6041\n"
+    ".reloc .Ltcp36+56,R_X86_64_PC32,.Ltcp35+6045\n"
+    ".reloc .Ltcp36+60,R_X86_64_PC32,.Ltcp35+6049\n"
+    ".reloc .Ltcp36+64,R_X86_64_PC32,.Ltcp35+6053\n"
+    ".reloc .Ltcp36+68,R_X86_64_PC32,.Ltcp35+6057\n"
+    ".reloc .Ltcp36+72,R_X86_64_PC32,.Ltcp35+6061\n"
+    ".reloc .Ltcp36+76,R_X86_64_PC32,.Ltcp35+6065\n"
+    ".reloc .Ltcp36+80,R_X86_64_PC32,.Ltcp35+6069\n"
+    ".reloc .Ltcp36+84,R_X86_64_PC32,.Ltcp35+6073\n"
+    ".reloc .Ltcp36+88,R_X86_64_PC32,.Ltcp35+6077\n"
+    ".reloc .Ltcp36+92,R_X86_64_PC32,.Ltcp35+6081\n"
+    ".reloc .Ltcp36+96,R_X86_64_PC32,.Ltcp35+7350\n"
+    ".reloc .Ltcp36+100,R_X86_64_PC32,.Ltcp35+6065\n"
+    ".reloc .Ltcp36+104,R_X86_64_PC32,.Ltcp35+7372\n"
+    ".reloc .Ltcp36+108,R_X86_64_PC32,.Ltcp35+6097\n"
+    ".reloc .Ltcp36+112,R_X86_64_PC32,.Ltcp35+7389\n"
+    ".reloc .Ltcp36+116,R_X86_64_PC32,.Ltcp35+6105\n"
+    ".reloc .Ltcp36+120,R_X86_64_PC32,.Ltcp35+6109\n"
+    ".reloc .Ltcp36+124,R_X86_64_PC32,.Ltcp35+6113\n"
+    ".reloc .Ltcp36+128,R_X86_64_PC32,.Ltcp35+6105\n"
+    ".reloc .Ltcp36+132,R_X86_64_PC32,.Ltcp35+662\n"
+    ".reloc .Ltcp36+136,R_X86_64_PC32,.Ltcp35+365\n"
+    ".reloc .Ltcp36+140,R_X86_64_PC32,.Ltcp35+369\n"
+    ".reloc .Ltcp36+144,R_X86_64_PC32,.Ltcp35+158\n"
+    ".reloc .Ltcp36+148,R_X86_64_PC32,.Ltcp35+162\n"
+    ".reloc .Ltcp36+152,R_X86_64_PC32,.Ltcp35+166\n"
+    ".section .text.tcp.37,\"ax\",%progbits\n"
     ".balign 16\n"
-    ".Ltcp36:\n"
+    ".Ltcp37:\n"
     ".type \"tcp_replay::world::step_at::<#092612425c726c7d>\",%function\n"
     ".size \"tcp_replay::world::step_at::<#092612425c726c7d>\",5853\n"
     "\"tcp_replay::world::step_at::<#092612425c726c7d>\":\n"
@@ -2061,53 +2094,53 @@ __asm__(
     ".octa 0x4c00000190249c8b4d0000018824948b,0xcc840fd4894d1cc3f6fffffe9de9ff89,0xc8b47fce68348de8948f08949fffffe\n"
     ".octa 0x3948ef75c6394c04c08349000c894606,0xc931c031fffffea3e9ffffff36840ff3\n"
     ".quad 0xffffeaf0e9ff894c\n"
-    ".reloc .Ltcp36+42,R_X86_64_PC32,.Ltcp37-4\n"
-    ".reloc .Ltcp36+621,R_X86_64_PC32,.Ltcp101-4\n"
-    ".reloc .Ltcp36+984,R_X86_64_PLT32,.Ltcp41-4\n"
-    ".reloc .Ltcp36+1246,R_X86_64_PLT32,.Ltcp43-4\n"
-    ".reloc .Ltcp36+1935,R_X86_64_PLT32,.Ltcp55-4\n"
-    ".reloc .Ltcp36+2203,R_X86_64_PC32,.Ltcp37+48\n"
-    ".reloc .Ltcp36+2258,R_X86_64_PLT32,.Ltcp41-4\n"
-    ".reloc .Ltcp36+2569,R_X86_64_PLT32,.Ltcp38-4\n"
-    ".reloc .Ltcp36+2609,R_X86_64_PLT32,.Ltcp38-4\n"
-    ".reloc .Ltcp36+3920,R_X86_64_PLT32,.Ltcp38-4\n"
-    ".reloc .Ltcp36+4000,R_X86_64_PLT32,.Ltcp38-4\n"
-    ".reloc .Ltcp36+4067,R_X86_64_PLT32,.Ltcp40-4\n"
-    ".reloc .Ltcp36+4368,R_X86_64_PLT32,.Ltcp55-4\n"
-    ".reloc .Ltcp36+5753,R_X86_64_PLT32,.Ltcp38-4\n"
-    ".section .rodata.tcp.37,\"a\",%progbits\n"
+    ".reloc .Ltcp37+42,R_X86_64_PC32,.Ltcp38-4\n"
+    ".reloc .Ltcp37+621,R_X86_64_PC32,.Ltcp102-4\n"
+    ".reloc .Ltcp37+984,R_X86_64_PLT32,.Ltcp42-4\n"
+    ".reloc .Ltcp37+1246,R_X86_64_PLT32,.Ltcp44-4\n"
+    ".reloc .Ltcp37+1935,R_X86_64_PLT32,.Ltcp56-4\n"
+    ".reloc .Ltcp37+2203,R_X86_64_PC32,.Ltcp38+48\n"
+    ".reloc .Ltcp37+2258,R_X86_64_PLT32,.Ltcp42-4\n"
+    ".reloc .Ltcp37+2569,R_X86_64_PLT32,.Ltcp39-4\n"
+    ".reloc .Ltcp37+2609,R_X86_64_PLT32,.Ltcp39-4\n"
+    ".reloc .Ltcp37+3920,R_X86_64_PLT32,.Ltcp39-4\n"
+    ".reloc .Ltcp37+4000,R_X86_64_PLT32,.Ltcp39-4\n"
+    ".reloc .Ltcp37+4067,R_X86_64_PLT32,.Ltcp41-4\n"
+    ".reloc .Ltcp37+4368,R_X86_64_PLT32,.Ltcp56-4\n"
+    ".reloc .Ltcp37+5753,R_X86_64_PLT32,.Ltcp39-4\n"
+    ".section .rodata.tcp.38,\"a\",%progbits\n"
     ".balign 4\n"
-    ".Ltcp37:\n"
+    ".Ltcp38:\n"
     ".octa 0x0,0x0,0x0\n"
     ".octa 0x0,0x0\n"
     ".quad 0x0\n"
     ".long 0x0\n"
-    ".reloc .Ltcp37+0,R_X86_64_PC32,.Ltcp36+55\n"
-    ".reloc .Ltcp37+4,R_X86_64_PC32,.Ltcp36+816\n"
-    ".reloc .Ltcp37+8,R_X86_64_PC32,.Ltcp36+411\n"
-    ".reloc .Ltcp37+12,R_X86_64_PC32,.Ltcp36+530\n"
-    ".reloc .Ltcp37+16,R_X86_64_PC32,.Ltcp36+238\n"
-    ".reloc .Ltcp37+20,R_X86_64_PC32,.Ltcp36+876\n"
-    ".reloc .Ltcp37+24,R_X86_64_PC32,.Ltcp36+1057\n"
-    ".reloc .Ltcp37+28,R_X86_64_PC32,.Ltcp36+712\n"
-    ".reloc .Ltcp37+32,R_X86_64_PC32,.Ltcp36+1260\n"
-    ".reloc .Ltcp37+36,R_X86_64_PC32,.Ltcp36+414\n"
-    ".reloc .Ltcp37+40,R_X86_64_PC32,.Ltcp36+1110\n"
-    ".reloc .Ltcp37+44,R_X86_64_PC32,.Ltcp36+173\n"
-    ".reloc .Ltcp37+48,R_X86_64_PC32,.Ltcp36+293\n"
-    ".reloc .Ltcp37+52,R_X86_64_PC32,.Ltcp36+2216\n"
-    ".reloc .Ltcp37+56,R_X86_64_PC32,.Ltcp36+2220\n"
-    ".reloc .Ltcp37+60,R_X86_64_PC32,.Ltcp36+3429\n"
-    ".reloc .Ltcp37+64,R_X86_64_PC32,.Ltcp36+3429\n"
-    ".reloc .Ltcp37+68,R_X86_64_PC32,.Ltcp36+3437\n"
-    ".reloc .Ltcp37+72,R_X86_64_PC32,.Ltcp36+3441\n"
-    ".reloc .Ltcp37+76,R_X86_64_PC32,.Ltcp36+3435\n"
-    ".reloc .Ltcp37+80,R_X86_64_PC32,.Ltcp36+3449\n"
-    ".reloc .Ltcp37+84,R_X86_64_PC32,.Ltcp36+3453\n"
-    ".reloc .Ltcp37+88,R_X86_64_PC32,.Ltcp36+3457\n"
-    ".section .text.tcp.38,\"ax\",%progbits\n"
+    ".reloc .Ltcp38+0,R_X86_64_PC32,.Ltcp37+55\n"
+    ".reloc .Ltcp38+4,R_X86_64_PC32,.Ltcp37+816\n"
+    ".reloc .Ltcp38+8,R_X86_64_PC32,.Ltcp37+411\n"
+    ".reloc .Ltcp38+12,R_X86_64_PC32,.Ltcp37+530\n"
+    ".reloc .Ltcp38+16,R_X86_64_PC32,.Ltcp37+238\n"
+    ".reloc .Ltcp38+20,R_X86_64_PC32,.Ltcp37+876\n"
+    ".reloc .Ltcp38+24,R_X86_64_PC32,.Ltcp37+1057\n"
+    ".reloc .Ltcp38+28,R_X86_64_PC32,.Ltcp37+712\n"
+    ".reloc .Ltcp38+32,R_X86_64_PC32,.Ltcp37+1260\n"
+    ".reloc .Ltcp38+36,R_X86_64_PC32,.Ltcp37+414\n"
+    ".reloc .Ltcp38+40,R_X86_64_PC32,.Ltcp37+1110\n"
+    ".reloc .Ltcp38+44,R_X86_64_PC32,.Ltcp37+173\n"
+    ".reloc .Ltcp38+48,R_X86_64_PC32,.Ltcp37+293\n"
+    ".reloc .Ltcp38+52,R_X86_64_PC32,.Ltcp37+2216\n"
+    ".reloc .Ltcp38+56,R_X86_64_PC32,.Ltcp37+2220\n"
+    ".reloc .Ltcp38+60,R_X86_64_PC32,.Ltcp37+3429\n"
+    ".reloc .Ltcp38+64,R_X86_64_PC32,.Ltcp37+3429\n"
+    ".reloc .Ltcp38+68,R_X86_64_PC32,.Ltcp37+3437\n"
+    ".reloc .Ltcp38+72,R_X86_64_PC32,.Ltcp37+3441\n"
+    ".reloc .Ltcp38+76,R_X86_64_PC32,.Ltcp37+3435\n"
+    ".reloc .Ltcp38+80,R_X86_64_PC32,.Ltcp37+3449\n"
+    ".reloc .Ltcp38+84,R_X86_64_PC32,.Ltcp37+3453\n"
+    ".reloc .Ltcp38+88,R_X86_64_PC32,.Ltcp37+3457\n"
+    ".section .text.tcp.39,\"ax\",%progbits\n"
     ".balign 16\n"
-    ".Ltcp38:\n"
+    ".Ltcp39:\n"
     ".type \"std_alloc::vec::Vec::grow_amortized::<#1c00de6245c6bd34>\",%function\n"
     ".size \"std_alloc::vec::Vec::grow_amortized::<#1c00de6245c6bd34>\",61\n"
     "\"std_alloc::vec::Vec::grow_amortized::<#1c00de6245c6bd34>\":\n"
@@ -2115,10 +2148,10 @@ __asm__(
     ".quad 0xe8f0450f\n"
     ".long 0x8c48348\n"
     ".byte 0xc3\n"
-    ".reloc .Ltcp38+52,R_X86_64_PLT32,.Ltcp39-4\n"
-    ".section .text.tcp.39,\"ax\",%progbits\n"
+    ".reloc .Ltcp39+52,R_X86_64_PLT32,.Ltcp40-4\n"
+    ".section .text.tcp.40,\"ax\",%progbits\n"
     ".balign 16\n"
-    ".Ltcp39:\n"
+    ".Ltcp40:\n"
     ".type \"std_alloc::vec::Vec::move_to::<#1c00de6245c6bd34>\",%function\n"
     ".size \"std_alloc::vec::Vec::move_to::<#1c00de6245c6bd34>\",536\n"
     "\"std_alloc::vec::Vec::move_to::<#1c00de6245c6bd34>\":\n"
@@ -2137,9 +2170,9 @@ __asm__(
     ".octa 0xf98348d12948ef75c9ff49c0ff490314,0x8842000cb60f429066fffffef6870ffc,0xb60f4201034c884201004cb60f42030c\n"
     ".octa 0x884203004cb60f4202034c884202004c,0xfffebce9cd75c2394c04c0834903034c\n"
     ".byte 0xff\n"
-    ".section .text.tcp.40,\"ax\",%progbits\n"
+    ".section .text.tcp.41,\"ax\",%progbits\n"
     ".balign 16\n"
-    ".Ltcp40:\n"
+    ".Ltcp41:\n"
     ".type \"tcp_reasm::ring::copy_behind\",%function\n"
     ".size \"tcp_reasm::ring::copy_behind\",383\n"
     "\"tcp_reasm::ring::copy_behind\":\n"
@@ -2159,9 +2192,9 @@ __asm__(
     ".octa 0xffce08348e0894cc18948fffffefc84,0x480e0489450e048b440000000000841f,0xffff52840fc43949ef75c8394804c183\n"
     ".long 0xfecbe9ff\n"
     ".short 0xffff\n"
-    ".section .text.tcp.41,\"ax\",%progbits\n"
+    ".section .text.tcp.42,\"ax\",%progbits\n"
     ".balign 16\n"
-    ".Ltcp41:\n"
+    ".Ltcp42:\n"
     ".type \"tcp_sendq::queue::SendQueue::release::<#4d7786d65df9050b>\",%function\n"
     ".size \"tcp_sendq::queue::SendQueue::release::<#4d7786d65df9050b>\",383\n"
     "\"tcp_sendq::queue::SendQueue::release::<#4d7786d65df9050b>\":\n"
@@ -2177,10 +2210,10 @@ __asm__(
     ".long 0x5b08c483\n"
     ".short 0x5e41\n"
     ".byte 0xc3\n"
-    ".reloc .Ltcp41+222,R_X86_64_PLT32,.Ltcp42-4\n"
-    ".section .text.tcp.42,\"ax\",%progbits\n"
+    ".reloc .Ltcp42+222,R_X86_64_PLT32,.Ltcp43-4\n"
+    ".section .text.tcp.43,\"ax\",%progbits\n"
     ".balign 16\n"
-    ".Ltcp42:\n"
+    ".Ltcp43:\n"
     ".type \"tcp_sendq::marks::Marks::remove_range::<#4d7786d65df9050b>\",%function\n"
     ".size \"tcp_sendq::marks::Marks::remove_range::<#4d7786d65df9050b>\",1137\n"
     "\"tcp_sendq::marks::Marks::remove_range::<#4d7786d65df9050b>\":\n"
@@ -2209,9 +2242,9 @@ __asm__(
     ".octa 0x75f13949c6ff48f8f054894df0148b4d,0xc08149f8c1748b4a2874c0854d2debef,0x841f0f2e666666fffffeff\n"
     ".octa 0xf075c2394dc8ff49000007f8c1b4894a,0x5f415e415b10478948085789480f8948\n"
     ".byte 0xc3\n"
-    ".section .text.tcp.43,\"ax\",%progbits\n"
+    ".section .text.tcp.44,\"ax\",%progbits\n"
     ".balign 16\n"
-    ".Ltcp43:\n"
+    ".Ltcp44:\n"
     ".type \"tcp_replay::party::Party::emit::<#244039bd4e0652a3>\",%function\n"
     ".size \"tcp_replay::party::Party::emit::<#244039bd4e0652a3>\",4876\n"
     "\"tcp_replay::party::Party::emit::<#244039bd4e0652a3>\":\n"
@@ -2326,26 +2359,26 @@ __asm__(
     ".octa 0xe8c93100000003ba7024448d,0x24894c08244489482024448b48c38948,0x7024548d48000000cc24b48bef894424\n"
     ".octa 0x28244c894c28244c8b4cf8894dd98948,0x2484896608c0c166d8894900000000e8,0x245c8b4c000000c024ac8b4c00000080\n"
     ".octa 0xffffeedbe92024748b482824548b4850\n"
-    ".reloc .Ltcp43+182,R_X86_64_PLT32,.Ltcp44-4\n"
-    ".reloc .Ltcp43+431,R_X86_64_PLT32,.Ltcp46-4\n"
-    ".reloc .Ltcp43+463,R_X86_64_PLT32,.Ltcp49-4\n"
-    ".reloc .Ltcp43+476,R_X86_64_PC32,.Ltcp101-4\n"
-    ".reloc .Ltcp43+817,R_X86_64_PLT32,.Ltcp52-4\n"
-    ".reloc .Ltcp43+1184,R_X86_64_PLT32,.Ltcp51-4\n"
-    ".reloc .Ltcp43+2094,R_X86_64_PLT32,.Ltcp52-4\n"
-    ".reloc .Ltcp43+2355,R_X86_64_PC32,.Ltcp0+860\n"
-    ".reloc .Ltcp43+2435,R_X86_64_PC32,.Ltcp0+876\n"
-    ".reloc .Ltcp43+2617,R_X86_64_PLT32,.Ltcp45-4\n"
-    ".reloc .Ltcp43+3253,R_X86_64_PC32,.Ltcp101-4\n"
-    ".reloc .Ltcp43+3517,R_X86_64_PLT32,.Ltcp38-4\n"
-    ".reloc .Ltcp43+3576,R_X86_64_PLT32,.Ltcp38-4\n"
-    ".reloc .Ltcp43+3975,R_X86_64_PLT32,.Ltcp53-4\n"
-    ".reloc .Ltcp43+4509,R_X86_64_PC32,.Ltcp101-4\n"
-    ".reloc .Ltcp43+4776,R_X86_64_PLT32,.Ltcp47-4\n"
-    ".reloc .Ltcp43+4829,R_X86_64_PLT32,.Ltcp53-4\n"
-    ".section .text.tcp.44,\"ax\",%progbits\n"
+    ".reloc .Ltcp44+182,R_X86_64_PLT32,.Ltcp45-4\n"
+    ".reloc .Ltcp44+431,R_X86_64_PLT32,.Ltcp47-4\n"
+    ".reloc .Ltcp44+463,R_X86_64_PLT32,.Ltcp50-4\n"
+    ".reloc .Ltcp44+476,R_X86_64_PC32,.Ltcp102-4\n"
+    ".reloc .Ltcp44+817,R_X86_64_PLT32,.Ltcp53-4\n"
+    ".reloc .Ltcp44+1184,R_X86_64_PLT32,.Ltcp52-4\n"
+    ".reloc .Ltcp44+2094,R_X86_64_PLT32,.Ltcp53-4\n"
+    ".reloc .Ltcp44+2355,R_X86_64_PC32,.Ltcp0+924\n"
+    ".reloc .Ltcp44+2435,R_X86_64_PC32,.Ltcp0+940\n"
+    ".reloc .Ltcp44+2617,R_X86_64_PLT32,.Ltcp46-4\n"
+    ".reloc .Ltcp44+3253,R_X86_64_PC32,.Ltcp102-4\n"
+    ".reloc .Ltcp44+3517,R_X86_64_PLT32,.Ltcp39-4\n"
+    ".reloc .Ltcp44+3576,R_X86_64_PLT32,.Ltcp39-4\n"
+    ".reloc .Ltcp44+3975,R_X86_64_PLT32,.Ltcp54-4\n"
+    ".reloc .Ltcp44+4509,R_X86_64_PC32,.Ltcp102-4\n"
+    ".reloc .Ltcp44+4776,R_X86_64_PLT32,.Ltcp48-4\n"
+    ".reloc .Ltcp44+4829,R_X86_64_PLT32,.Ltcp54-4\n"
+    ".section .text.tcp.45,\"ax\",%progbits\n"
     ".balign 16\n"
-    ".Ltcp44:\n"
+    ".Ltcp45:\n"
     ".type \"tcp_replay::growth::emit_alone::<#b999dbadf68999a9>\",%function\n"
     ".size \"tcp_replay::growth::emit_alone::<#b999dbadf68999a9>\",829\n"
     "\"tcp_replay::growth::emit_alone::<#b999dbadf68999a9>\":\n"
@@ -2375,13 +2408,13 @@ __asm__(
     ".long 0x88e93067\n"
     ".short 0xfffd\n"
     ".byte 0xff\n"
-    ".reloc .Ltcp44+362,R_X86_64_PLT32,.Ltcp51-4\n"
-    ".reloc .Ltcp44+424,R_X86_64_PLT32,.Ltcp45-4\n"
-    ".reloc .Ltcp44+606,R_X86_64_PC32,.Ltcp0+892\n"
-    ".reloc .Ltcp44+686,R_X86_64_PC32,.Ltcp0+908\n"
-    ".section .text.tcp.45,\"ax\",%progbits\n"
+    ".reloc .Ltcp45+362,R_X86_64_PLT32,.Ltcp52-4\n"
+    ".reloc .Ltcp45+424,R_X86_64_PLT32,.Ltcp46-4\n"
+    ".reloc .Ltcp45+606,R_X86_64_PC32,.Ltcp0+956\n"
+    ".reloc .Ltcp45+686,R_X86_64_PC32,.Ltcp0+972\n"
+    ".section .text.tcp.46,\"ax\",%progbits\n"
     ".balign 16\n"
-    ".Ltcp45:\n"
+    ".Ltcp46:\n"
     ".type \"std_alloc::vec::Vec::grow_amortized::<#d48bdf10996749c1>\",%function\n"
     ".size \"std_alloc::vec::Vec::grow_amortized::<#d48bdf10996749c1>\",890\n"
     "\"std_alloc::vec::Vec::grow_amortized::<#d48bdf10996749c1>\":\n"
@@ -2411,9 +2444,9 @@ __asm__(
     ".octa 0xf201054110f201654100f10164c100f,0x75d1394830c283481004110f10104c11\n"
     ".long 0xfd7be9db\n"
     ".short 0xffff\n"
-    ".section .text.tcp.46,\"ax\",%progbits\n"
+    ".section .text.tcp.47,\"ax\",%progbits\n"
     ".balign 16\n"
-    ".Ltcp46:\n"
+    ".Ltcp47:\n"
     ".type \"tcp_conn::endpoint::Endpoint::write_reset::<#4d7786d65df9050b>\",%function\n"
     ".size \"tcp_conn::endpoint::Endpoint::write_reset::<#4d7786d65df9050b>\",245\n"
     "\"tcp_conn::endpoint::Endpoint::write_reset::<#4d7786d65df9050b>\":\n"
@@ -2424,11 +2457,11 @@ __asm__(
     ".octa 0x892feec148f0af0f4880008001be0001,0xc289000100190532048dc62910e0c1f0,0xb810518966d0440fc08508c2c166d2f7\n"
     ".long 0x14\n"
     ".byte 0xc3\n"
-    ".reloc .Ltcp46+95,R_X86_64_PC32,.Ltcp0+924\n"
-    ".reloc .Ltcp46+156,R_X86_64_PC32,.Ltcp0+940\n"
-    ".section .text.tcp.47,\"ax\",%progbits\n"
+    ".reloc .Ltcp47+95,R_X86_64_PC32,.Ltcp0+988\n"
+    ".reloc .Ltcp47+156,R_X86_64_PC32,.Ltcp0+1004\n"
+    ".section .text.tcp.48,\"ax\",%progbits\n"
     ".balign 16\n"
-    ".Ltcp47:\n"
+    ".Ltcp48:\n"
     ".type \"tcp_wire::encoding::write_unsummed\",%function\n"
     ".size \"tcp_wire::encoding::write_unsummed\",1169\n"
     "\"tcp_wire::encoding::write_unsummed\":\n"
@@ -2463,24 +2496,24 @@ __asm__(
     ".octa 0x124089416608c0c1661047b70f000010,0x415d415c415b58c48348c88948e90148\n"
     ".long 0x5d5f415e\n"
     ".byte 0xc3\n"
-    ".reloc .Ltcp47+195,R_X86_64_PC32,.Ltcp48-4\n"
-    ".reloc .Ltcp47+299,R_X86_64_PC32,.Ltcp0+972\n"
-    ".reloc .Ltcp47+362,R_X86_64_PC32,.Ltcp0+956\n"
-    ".reloc .Ltcp47+859,R_X86_64_PC32,.Ltcp0+956\n"
-    ".section .rodata.tcp.48,\"a\",%progbits\n"
+    ".reloc .Ltcp48+195,R_X86_64_PC32,.Ltcp49-4\n"
+    ".reloc .Ltcp48+299,R_X86_64_PC32,.Ltcp0+1036\n"
+    ".reloc .Ltcp48+362,R_X86_64_PC32,.Ltcp0+1020\n"
+    ".reloc .Ltcp48+859,R_X86_64_PC32,.Ltcp0+1020\n"
+    ".section .rodata.tcp.49,\"a\",%progbits\n"
     ".balign 4\n"
-    ".Ltcp48:\n"
+    ".Ltcp49:\n"
     ".octa 0x0\n"
     ".quad 0x0\n"
-    ".reloc .Ltcp48+0,R_X86_64_PC32,.Ltcp47+208\n"
-    ".reloc .Ltcp48+4,R_X86_64_PC32,.Ltcp47+459\n"
-    ".reloc .Ltcp48+8,R_X86_64_PC32,.Ltcp47+126\n"
-    ".reloc .Ltcp48+12,R_X86_64_PC32,.Ltcp47+452\n"
-    ".reloc .Ltcp48+16,R_X86_64_PC32,.Ltcp47+234\n"
-    ".reloc .Ltcp48+20,R_X86_64_PC32,.Ltcp47+504\n"
-    ".section .text.tcp.49,\"ax\",%progbits\n"
+    ".reloc .Ltcp49+0,R_X86_64_PC32,.Ltcp48+208\n"
+    ".reloc .Ltcp49+4,R_X86_64_PC32,.Ltcp48+459\n"
+    ".reloc .Ltcp49+8,R_X86_64_PC32,.Ltcp48+126\n"
+    ".reloc .Ltcp49+12,R_X86_64_PC32,.Ltcp48+452\n"
+    ".reloc .Ltcp49+16,R_X86_64_PC32,.Ltcp48+234\n"
+    ".reloc .Ltcp49+20,R_X86_64_PC32,.Ltcp48+504\n"
+    ".section .text.tcp.50,\"ax\",%progbits\n"
     ".balign 16\n"
-    ".Ltcp49:\n"
+    ".Ltcp50:\n"
     ".type \"tcp_conn::endpoint::Endpoint::write_syn::<#4d7786d65df9050b>\",%function\n"
     ".size \"tcp_conn::endpoint::Endpoint::write_syn::<#4d7786d65df9050b>\",1168\n"
     "\"tcp_conn::endpoint::Endpoint::write_syn::<#4d7786d65df9050b>\":\n"
@@ -2521,12 +2554,12 @@ __asm__(
     ".octa 0xc1c166d1f7d189ca01f22910e6c1d689,0x270c48148104b8966ca440fd28508\n"
     ".quad 0x5f415e415c415b00\n"
     ".short 0xc35d\n"
-    ".reloc .Ltcp49+531,R_X86_64_PLT32,.Ltcp47-4\n"
-    ".reloc .Ltcp49+614,R_X86_64_PLT32,.Ltcp8-4\n"
-    ".reloc .Ltcp49+1069,R_X86_64_PC32,.Ltcp0+988\n"
-    ".section .text.tcp.50,\"ax\",%progbits\n"
+    ".reloc .Ltcp50+531,R_X86_64_PLT32,.Ltcp48-4\n"
+    ".reloc .Ltcp50+614,R_X86_64_PLT32,.Ltcp9-4\n"
+    ".reloc .Ltcp50+1069,R_X86_64_PC32,.Ltcp0+1052\n"
+    ".section .text.tcp.51,\"ax\",%progbits\n"
     ".balign 16\n"
-    ".Ltcp50:\n"
+    ".Ltcp51:\n"
     ".type \"tcp_sendq::ring::copy_over_end\",%function\n"
     ".size \"tcp_sendq::ring::copy_over_end\",577\n"
     "\"tcp_sendq::ring::copy_over_end\":\n"
@@ -2553,9 +2586,9 @@ __asm__(
     ".octa 0x415b08c48348f075c33948c0ff48070c\n"
     ".quad 0x5d5f415e415d415c\n"
     ".byte 0xc3\n"
-    ".section .text.tcp.51,\"ax\",%progbits\n"
+    ".section .text.tcp.52,\"ax\",%progbits\n"
     ".balign 16\n"
-    ".Ltcp51:\n"
+    ".Ltcp52:\n"
     ".type \"tcp_conn::endpoint::Endpoint::write_blocks::<#4d7786d65df9050b>\",%function\n"
     ".size \"tcp_conn::endpoint::Endpoint::write_blocks::<#4d7786d65df9050b>\",2671\n"
     "\"tcp_conn::endpoint::Endpoint::write_blocks::<#4d7786d65df9050b>\":\n"
@@ -2619,13 +2652,13 @@ __asm__(
     ".octa 0x840ff13949ef75d6394c04c28349101c\n"
     ".quad 0xfffbe8e9fffffc8f\n"
     ".byte 0xff\n"
-    ".reloc .Ltcp51+1817,R_X86_64_PLT32,.Ltcp47-4\n"
-    ".reloc .Ltcp51+1900,R_X86_64_PLT32,.Ltcp8-4\n"
-    ".reloc .Ltcp51+2365,R_X86_64_PC32,.Ltcp0+1004\n"
-    ".reloc .Ltcp51+2503,R_X86_64_PLT32,.Ltcp50-4\n"
-    ".section .text.tcp.52,\"ax\",%progbits\n"
+    ".reloc .Ltcp52+1817,R_X86_64_PLT32,.Ltcp48-4\n"
+    ".reloc .Ltcp52+1900,R_X86_64_PLT32,.Ltcp9-4\n"
+    ".reloc .Ltcp52+2365,R_X86_64_PC32,.Ltcp0+1068\n"
+    ".reloc .Ltcp52+2503,R_X86_64_PLT32,.Ltcp51-4\n"
+    ".section .text.tcp.53,\"ax\",%progbits\n"
     ".balign 16\n"
-    ".Ltcp52:\n"
+    ".Ltcp53:\n"
     ".type \"tcp_halves::sender::Sender::due::<#4d7786d65df9050b>\",%function\n"
     ".size \"tcp_halves::sender::Sender::due::<#4d7786d65df9050b>\",622\n"
     "\"tcp_halves::sender::Sender::due::<#4d7786d65df9050b>\":\n"
@@ -2645,9 +2678,9 @@ __asm__(
     ".quad 0x5d415c415b184789\n"
     ".long 0x5f415e41\n"
     ".short 0xc35d\n"
-    ".section .text.tcp.53,\"ax\",%progbits\n"
+    ".section .text.tcp.54,\"ax\",%progbits\n"
     ".balign 16\n"
-    ".Ltcp53:\n"
+    ".Ltcp54:\n"
     ".type \"tcp_numbers::parts::checksum_in_parts\",%function\n"
     ".size \"tcp_numbers::parts::checksum_in_parts\",2608\n"
     "\"tcp_numbers::parts::checksum_in_parts\":\n"
@@ -2706,20 +2739,21 @@ __asm__(
     ".octa 0xc40f660c24448b0824446e0f66c40141,0x500380f6603c0c40f6610e8c102c0,0xc1700f66c8fe0f66eec8700f66000000\n"
     ".octa 0x144e50145d801c07e0f66c1fe0f6655,0xe9c148c8af0f4880008001b906c083e8,0x440fd0f7c889c101d12910e2c1ca892f\n"
     ".octa 0xc35d5f415e415d415c415b18c48348c1\n"
-    ".reloc .Ltcp53+83,R_X86_64_PLT32,.Ltcp8-4\n"
-    ".reloc .Ltcp53+662,R_X86_64_PLT32,.Ltcp8-4\n"
-    ".reloc .Ltcp53+675,R_X86_64_PLT32,.Ltcp8-4\n"
-    ".reloc .Ltcp53+1165,R_X86_64_PLT32,.Ltcp8-4\n"
-    ".reloc .Ltcp53+2054,R_X86_64_PLT32,.Ltcp8-4\n"
-    ".reloc .Ltcp53+2527,R_X86_64_PC32,.Ltcp0+1020\n"
-    ".section .rodata.tcp.54,\"a\",%progbits\n"
+    ".reloc .Ltcp54+83,R_X86_64_PLT32,.Ltcp9-4\n"
+    ".reloc .Ltcp54+662,R_X86_64_PLT32,.Ltcp9-4\n"
+    ".reloc .Ltcp54+675,R_X86_64_PLT32,.Ltcp9-4\n"
+    ".reloc .Ltcp54+1165,R_X86_64_PLT32,.Ltcp9-4\n"
+    ".reloc .Ltcp54+2054,R_X86_64_PLT32,.Ltcp9-4\n"
+    ".reloc .Ltcp54+2527,R_X86_64_PC32,.Ltcp0+1084\n"
+    ".section .rodata.tcp.55,\"a\",%progbits\n"
     ".balign 4\n"
-    ".Ltcp54:\n"
-    ".octa 0x20202020746e6577656d616300000003,0x646e6573736e75726566696c206f7420,0x656e6f6e6b6361737663657274696d65\n"
-    ".long 0x20646e65\n"
-    ".section .text.tcp.55,\"ax\",%progbits\n"
-    ".balign 16\n"
     ".Ltcp55:\n"
+    ".octa 0x20202020746e6577656d616300000003,0x646e6573736e75726566696c206f7420,0x656e6f6e6b6361737663657274696d65\n"
+    ".octa 0x6d305b1b6575727465746f6e20646e65\n"
+    ".long 0x20666f20\n"
+    ".section .text.tcp.56,\"ax\",%progbits\n"
+    ".balign 16\n"
+    ".Ltcp56:\n"
     ".type \"tcp_replay::party::Party::take_in::<#244039bd4e0652a3>\",%function\n"
     ".size \"tcp_replay::party::Party::take_in::<#244039bd4e0652a3>\",2610\n"
     "\"tcp_replay::party::Party::take_in::<#244039bd4e0652a3>\":\n"
@@ -2779,48 +2813,48 @@ __asm__(
     ".octa 0x846f0f6600000000e8d98941c931d231,0xdb0f660000009024948b480000008024,0x10578948077f0ff3ef89480000000005\n"
     ".octa 0x5f415e415d415c415b000000b8c48148\n"
     ".short 0xc35d\n"
-    ".reloc .Ltcp55+105,R_X86_64_PC32,.Ltcp0+1036\n"
-    ".reloc .Ltcp55+187,R_X86_64_PLT32,.Ltcp8-4\n"
-    ".reloc .Ltcp55+652,R_X86_64_PC32,.Ltcp0+1052\n"
-    ".reloc .Ltcp55+708,R_X86_64_PC32,.Ltcp0+1068\n"
-    ".reloc .Ltcp55+758,R_X86_64_PC32,.Ltcp0+1084\n"
-    ".reloc .Ltcp55+1737,R_X86_64_PLT32,.Ltcp41-4\n"
-    ".reloc .Ltcp55+1934,R_X86_64_PLT32,.Ltcp58-4\n"
-    ".reloc .Ltcp55+1986,R_X86_64_PC32,.Ltcp56-4\n"
-    ".reloc .Ltcp55+2008,R_X86_64_PLT32,.Ltcp61-4\n"
-    ".reloc .Ltcp55+2046,R_X86_64_PC32,.Ltcp54-4\n"
-    ".reloc .Ltcp55+2484,R_X86_64_PLT32,.Ltcp57-4\n"
-    ".reloc .Ltcp55+2552,R_X86_64_PLT32,.Ltcp72-4\n"
-    ".reloc .Ltcp55+2577,R_X86_64_PC32,.Ltcp0+1116\n"
-    ".section .rodata.tcp.56,\"a\",%progbits\n"
+    ".reloc .Ltcp56+105,R_X86_64_PC32,.Ltcp0+1100\n"
+    ".reloc .Ltcp56+187,R_X86_64_PLT32,.Ltcp9-4\n"
+    ".reloc .Ltcp56+652,R_X86_64_PC32,.Ltcp0+1116\n"
+    ".reloc .Ltcp56+708,R_X86_64_PC32,.Ltcp0+1132\n"
+    ".reloc .Ltcp56+758,R_X86_64_PC32,.Ltcp0+1148\n"
+    ".reloc .Ltcp56+1737,R_X86_64_PLT32,.Ltcp42-4\n"
+    ".reloc .Ltcp56+1934,R_X86_64_PLT32,.Ltcp59-4\n"
+    ".reloc .Ltcp56+1986,R_X86_64_PC32,.Ltcp57-4\n"
+    ".reloc .Ltcp56+2008,R_X86_64_PLT32,.Ltcp62-4\n"
+    ".reloc .Ltcp56+2046,R_X86_64_PC32,.Ltcp55-4\n"
+    ".reloc .Ltcp56+2484,R_X86_64_PLT32,.Ltcp58-4\n"
+    ".reloc .Ltcp56+2552,R_X86_64_PLT32,.Ltcp73-4\n"
+    ".reloc .Ltcp56+2577,R_X86_64_PC32,.Ltcp0+1180\n"
+    ".section .rodata.tcp.57,\"a\",%progbits\n"
     ".balign 4\n"
-    ".Ltcp56:\n"
+    ".Ltcp57:\n"
     ".octa 0x0,0x0\n"
     ".quad 0x0\n"
     ".long 0x0\n"
-    ".reloc .Ltcp56+0,R_X86_64_PC32,.Ltcp55+1999\n"
-    ".reloc .Ltcp56+4,R_X86_64_PC32,.Ltcp55+2003\n"
-    ".reloc .Ltcp56+8,R_X86_64_PC32,.Ltcp55+2007\n"
-    ".reloc .Ltcp56+12,R_X86_64_PC32,.Ltcp55+2011\n"
-    ".reloc .Ltcp56+16,R_X86_64_PC32,.Ltcp55+2015\n"
-    ".reloc .Ltcp56+20,R_X86_64_PC32,.Ltcp55+2483\n"
-    ".reloc .Ltcp56+24,R_X86_64_PC32,.Ltcp55+2023\n"
-    ".reloc .Ltcp56+28,R_X86_64_PC32,.Ltcp55+2027\n"
-    ".reloc .Ltcp56+32,R_X86_64_PC32,.Ltcp55+2431\n"
-    ".reloc .Ltcp56+36,R_X86_64_PC32,.Ltcp55+2445\n"
-    ".reloc .Ltcp56+40,R_X86_64_PC32,.Ltcp55+2039\n"
-    ".section .text.tcp.57,\"ax\",%progbits\n"
+    ".reloc .Ltcp57+0,R_X86_64_PC32,.Ltcp56+1999\n"
+    ".reloc .Ltcp57+4,R_X86_64_PC32,.Ltcp56+2003\n"
+    ".reloc .Ltcp57+8,R_X86_64_PC32,.Ltcp56+2007\n"
+    ".reloc .Ltcp57+12,R_X86_64_PC32,.Ltcp56+2011\n"
+    ".reloc .Ltcp57+16,R_X86_64_PC32,.Ltcp56+2015\n"
+    ".reloc .Ltcp57+20,R_X86_64_PC32,.Ltcp56+2483\n"
+    ".reloc .Ltcp57+24,R_X86_64_PC32,.Ltcp56+2023\n"
+    ".reloc .Ltcp57+28,R_X86_64_PC32,.Ltcp56+2027\n"
+    ".reloc .Ltcp57+32,R_X86_64_PC32,.Ltcp56+2431\n"
+    ".reloc .Ltcp57+36,R_X86_64_PC32,.Ltcp56+2445\n"
+    ".reloc .Ltcp57+40,R_X86_64_PC32,.Ltcp56+2039\n"
+    ".section .text.tcp.58,\"ax\",%progbits\n"
     ".balign 16\n"
-    ".Ltcp57:\n"
+    ".Ltcp58:\n"
     ".type \"tcp_conn::endpoint::Endpoint::judge_syn_sent::<#4d7786d65df9050b>\",%function\n"
     ".size \"tcp_conn::endpoint::Endpoint::judge_syn_sent::<#4d7786d65df9050b>\",104\n"
     "\"tcp_conn::endpoint::Endpoint::judge_syn_sent::<#4d7786d65df9050b>\":\n"
     ".octa 0xce29c101084f8b40478b48187410c2f6,0x4c2f63d7548473b482a78f685f00148,0xc3040402e0c0c0940f12c2f6d2f60e75\n"
     ".octa 0xc1440f00000007b800000001b910c2f6,0xf029480000000100000000be48c931c3,0xf04c2f6c031c37448473b48c1420f48\n"
     ".quad 0xc3c0ff80048dc094\n"
-    ".section .text.tcp.58,\"ax\",%progbits\n"
+    ".section .text.tcp.59,\"ax\",%progbits\n"
     ".balign 16\n"
-    ".Ltcp58:\n"
+    ".Ltcp59:\n"
     ".type \"tcp_conn::endpoint::Endpoint::take_blocks::<#4d7786d65df9050b>\",%function\n"
     ".size \"tcp_conn::endpoint::Endpoint::take_blocks::<#4d7786d65df9050b>\",649\n"
     "\"tcp_conn::endpoint::Endpoint::take_blocks::<#4d7786d65df9050b>\":\n"
@@ -2840,13 +2874,13 @@ __asm__(
     ".octa 0x415b00000088c48148c6ebfffffe4b84\n"
     ".quad 0x5d5f415e415d415c\n"
     ".byte 0xc3\n"
-    ".reloc .Ltcp58+75,R_X86_64_PLT32,.Ltcp9-4\n"
-    ".reloc .Ltcp58+184,R_X86_64_PLT32,.Ltcp42-4\n"
-    ".reloc .Ltcp58+584,R_X86_64_PLT32,.Ltcp60-4\n"
-    ".reloc .Ltcp58+609,R_X86_64_PLT32,.Ltcp59-4\n"
-    ".section .text.tcp.59,\"ax\",%progbits\n"
+    ".reloc .Ltcp59+75,R_X86_64_PLT32,.Ltcp10-4\n"
+    ".reloc .Ltcp59+184,R_X86_64_PLT32,.Ltcp43-4\n"
+    ".reloc .Ltcp59+584,R_X86_64_PLT32,.Ltcp61-4\n"
+    ".reloc .Ltcp59+609,R_X86_64_PLT32,.Ltcp60-4\n"
+    ".section .text.tcp.60,\"ax\",%progbits\n"
     ".balign 16\n"
-    ".Ltcp59:\n"
+    ".Ltcp60:\n"
     ".type \"std_alloc::vec::Vec::grow_amortized::<#4a791bdeba1adbb6>\",%function\n"
     ".size \"std_alloc::vec::Vec::grow_amortized::<#4a791bdeba1adbb6>\",596\n"
     "\"std_alloc::vec::Vec::grow_amortized::<#4a791bdeba1adbb6>\":\n"
@@ -2867,9 +2901,9 @@ __asm__(
     ".quad 0xe075ed8440ff894c\n"
     ".long 0xfffea8e9\n"
     ".byte 0xff\n"
-    ".section .text.tcp.60,\"ax\",%progbits\n"
+    ".section .text.tcp.61,\"ax\",%progbits\n"
     ".balign 16\n"
-    ".Ltcp60:\n"
+    ".Ltcp61:\n"
     ".type \"std_alloc::vec::Vec::put_at::<#4a791bdeba1adbb6>\",%function\n"
     ".size \"std_alloc::vec::Vec::put_at::<#4a791bdeba1adbb6>\",708\n"
     "\"std_alloc::vec::Vec::put_at::<#4a791bdeba1adbb6>\":\n"
@@ -2889,10 +2923,10 @@ __asm__(
     ".octa 0xe075fb394cfcc78349f0fe4c110f43fe,0x90000000ffc18149d0294d1c74d33945,0x75c1394dc8ff49c014894ef8c0548b4e\n"
     ".octa 0x8948f0148948ca0948d28920e1c148ef,0x415b08477f0ff30000000005d40f6607\n"
     ".long 0xc35f415e\n"
-    ".reloc .Ltcp60+693,R_X86_64_PC32,.Ltcp0+1132\n"
-    ".section .text.tcp.61,\"ax\",%progbits\n"
+    ".reloc .Ltcp61+693,R_X86_64_PC32,.Ltcp0+1196\n"
+    ".section .text.tcp.62,\"ax\",%progbits\n"
     ".balign 16\n"
-    ".Ltcp61:\n"
+    ".Ltcp62:\n"
     ".type \"tcp_conn::endpoint::Endpoint::take_its_text::<#4d7786d65df9050b>\",%function\n"
     ".size \"tcp_conn::endpoint::Endpoint::take_its_text::<#4d7786d65df9050b>\",5460\n"
     "\"tcp_conn::endpoint::Endpoint::take_its_text::<#4d7786d65df9050b>\":\n"
@@ -3029,22 +3063,22 @@ __asm__(
     ".octa 0x48fffffcafe9f38944df89481024548b,0x814880914b60f41fffffeac840fcb39\n"
     ".long 0xebc1ff48\n"
     ".byte 0xea\n"
-    ".reloc .Ltcp61+416,R_X86_64_PLT32,.Ltcp63-4\n"
-    ".reloc .Ltcp61+1226,R_X86_64_PLT32,.Ltcp63-4\n"
-    ".reloc .Ltcp61+1425,R_X86_64_PLT32,.Ltcp63-4\n"
-    ".reloc .Ltcp61+3220,R_X86_64_PLT32,.Ltcp65-4\n"
-    ".reloc .Ltcp61+3394,R_X86_64_PLT32,.Ltcp62-4\n"
-    ".reloc .Ltcp61+4244,R_X86_64_PLT32,.Ltcp62-4\n"
-    ".reloc .Ltcp61+4268,R_X86_64_PLT32,.Ltcp62-4\n"
-    ".reloc .Ltcp61+4296,R_X86_64_PLT32,.Ltcp62-4\n"
-    ".reloc .Ltcp61+4580,R_X86_64_PLT32,.Ltcp62-4\n"
-    ".reloc .Ltcp61+4954,R_X86_64_PC32,.Ltcp101-4\n"
-    ".reloc .Ltcp61+4967,R_X86_64_PLT32,.Ltcp62-4\n"
-    ".reloc .Ltcp61+5087,R_X86_64_PLT32,.Ltcp64-4\n"
-    ".reloc .Ltcp61+5418,R_X86_64_PLT32,.Ltcp62-4\n"
-    ".section .text.tcp.62,\"ax\",%progbits\n"
+    ".reloc .Ltcp62+416,R_X86_64_PLT32,.Ltcp64-4\n"
+    ".reloc .Ltcp62+1226,R_X86_64_PLT32,.Ltcp64-4\n"
+    ".reloc .Ltcp62+1425,R_X86_64_PLT32,.Ltcp64-4\n"
+    ".reloc .Ltcp62+3220,R_X86_64_PLT32,.Ltcp66-4\n"
+    ".reloc .Ltcp62+3394,R_X86_64_PLT32,.Ltcp63-4\n"
+    ".reloc .Ltcp62+4244,R_X86_64_PLT32,.Ltcp63-4\n"
+    ".reloc .Ltcp62+4268,R_X86_64_PLT32,.Ltcp63-4\n"
+    ".reloc .Ltcp62+4296,R_X86_64_PLT32,.Ltcp63-4\n"
+    ".reloc .Ltcp62+4580,R_X86_64_PLT32,.Ltcp63-4\n"
+    ".reloc .Ltcp62+4954,R_X86_64_PC32,.Ltcp102-4\n"
+    ".reloc .Ltcp62+4967,R_X86_64_PLT32,.Ltcp63-4\n"
+    ".reloc .Ltcp62+5087,R_X86_64_PLT32,.Ltcp65-4\n"
+    ".reloc .Ltcp62+5418,R_X86_64_PLT32,.Ltcp63-4\n"
+    ".section .text.tcp.63,\"ax\",%progbits\n"
     ".balign 16\n"
-    ".Ltcp62:\n"
+    ".Ltcp63:\n"
     ".type \"tcp_reasm::ring::grow::<#4d7786d65df9050b>\",%function\n"
     ".size \"tcp_reasm::ring::grow::<#4d7786d65df9050b>\",590\n"
     "\"tcp_reasm::ring::grow::<#4d7786d65df9050b>\":\n"
@@ -3072,11 +3106,11 @@ __asm__(
     ".quad 0x25e9e2894ce98948\n"
     ".short 0xfffe\n"
     ".byte 0xff\n"
-    ".reloc .Ltcp62+492,R_X86_64_PLT32,.Ltcp38-4\n"
-    ".reloc .Ltcp62+536,R_X86_64_PLT32,.Ltcp38-4\n"
-    ".section .text.tcp.63,\"ax\",%progbits\n"
+    ".reloc .Ltcp63+492,R_X86_64_PLT32,.Ltcp39-4\n"
+    ".reloc .Ltcp63+536,R_X86_64_PLT32,.Ltcp39-4\n"
+    ".section .text.tcp.64,\"ax\",%progbits\n"
     ".balign 16\n"
-    ".Ltcp63:\n"
+    ".Ltcp64:\n"
     ".type \"tcp_reasm::lay::lay_between::<#4d7786d65df9050b>\",%function\n"
     ".size \"tcp_reasm::lay::lay_between::<#4d7786d65df9050b>\",2091\n"
     "\"tcp_reasm::lay::lay_between::<#4d7786d65df9050b>\":\n"
@@ -3137,13 +3171,13 @@ __asm__(
     ".quad 0x415d415c415b78c4\n"
     ".long 0x5d5f415e\n"
     ".byte 0xc3\n"
-    ".reloc .Ltcp63+1298,R_X86_64_PLT32,.Ltcp62-4\n"
-    ".reloc .Ltcp63+1983,R_X86_64_PLT32,.Ltcp62-4\n"
-    ".reloc .Ltcp63+2008,R_X86_64_PLT32,.Ltcp62-4\n"
-    ".reloc .Ltcp63+2043,R_X86_64_PLT32,.Ltcp62-4\n"
-    ".section .text.tcp.64,\"ax\",%progbits\n"
+    ".reloc .Ltcp64+1298,R_X86_64_PLT32,.Ltcp63-4\n"
+    ".reloc .Ltcp64+1983,R_X86_64_PLT32,.Ltcp63-4\n"
+    ".reloc .Ltcp64+2008,R_X86_64_PLT32,.Ltcp63-4\n"
+    ".reloc .Ltcp64+2043,R_X86_64_PLT32,.Ltcp63-4\n"
+    ".section .text.tcp.65,\"ax\",%progbits\n"
     ".balign 16\n"
-    ".Ltcp64:\n"
+    ".Ltcp65:\n"
     ".type \"tcp_reasm::rows::settle\",%function\n"
     ".size \"tcp_reasm::rows::settle\",132\n"
     "\"tcp_reasm::rows::settle\":\n"
@@ -3151,9 +3185,9 @@ __asm__(
     ".octa 0xf66d1fa0f66d13f380f66f0527e0ff3,0xd1fa0f66d13f380f66127e0ff3f052d6,0x75c1394820c2834802c0834812d60f66\n"
     ".octa 0x70c7e0ff304e0c1481c7401c6f640cf,0xf66c8fa0f66c83f380f6600c0700f66\n"
     ".long 0xc3070cd6\n"
-    ".section .text.tcp.65,\"ax\",%progbits\n"
+    ".section .text.tcp.66,\"ax\",%progbits\n"
     ".balign 16\n"
-    ".Ltcp65:\n"
+    ".Ltcp66:\n"
     ".type \"std_alloc::vec::Vec::grow_amortized::<#b976a99715059d0b>\",%function\n"
     ".size \"std_alloc::vec::Vec::grow_amortized::<#b976a99715059d0b>\",550\n"
     "\"std_alloc::vec::Vec::grow_amortized::<#b976a99715059d0b>\":\n"
@@ -3173,9 +3207,9 @@ __asm__(
     ".octa 0x44110f42f00644100f42e00344110f42,0x8c283480304110f420604100f42f003,0xfef3840fc985489575d0394880e88349\n"
     ".octa 0x3104e1c1da0148d6014804e2c148ffff,0x100f0000000000841f0f2e66666666c0,0xe9ef75c1394810c083480204110f0604\n"
     ".long 0xfffffec1\n"
-    ".section .text.tcp.66,\"ax\",%progbits\n"
+    ".section .text.tcp.67,\"ax\",%progbits\n"
     ".balign 16\n"
-    ".Ltcp66:\n"
+    ".Ltcp67:\n"
     ".type \"tcp_conn::endpoint::Endpoint::follow_other::<#4d7786d65df9050b>\",%function\n"
     ".size \"tcp_conn::endpoint::Endpoint::follow_other::<#4d7786d65df9050b>\",343\n"
     "\"tcp_conn::endpoint::Endpoint::follow_other::<#4d7786d65df9050b>\":\n"
@@ -3189,39 +3223,39 @@ __asm__(
     ".long 0x1588789\n"
     ".short 0x0\n"
     ".byte 0xc3\n"
-    ".reloc .Ltcp66+7,R_X86_64_PC32,.Ltcp67-4\n"
-    ".reloc .Ltcp66+120,R_X86_64_PLT32,.Ltcp41-4\n"
-    ".reloc .Ltcp66+201,R_X86_64_PLT32,.Ltcp68-4\n"
-    ".reloc .Ltcp66+209,R_X86_64_PLT32,.Ltcp70-4\n"
-    ".section .rodata.tcp.67,\"a\",%progbits\n"
+    ".reloc .Ltcp67+7,R_X86_64_PC32,.Ltcp68-4\n"
+    ".reloc .Ltcp67+120,R_X86_64_PLT32,.Ltcp42-4\n"
+    ".reloc .Ltcp67+201,R_X86_64_PLT32,.Ltcp69-4\n"
+    ".reloc .Ltcp67+209,R_X86_64_PLT32,.Ltcp71-4\n"
+    ".section .rodata.tcp.68,\"a\",%progbits\n"
     ".balign 4\n"
-    ".Ltcp67:\n"
+    ".Ltcp68:\n"
     ".octa 0x0,0x0,0x0\n"
     ".octa 0x0\n"
     ".quad 0x0\n"
     ".long 0x0\n"
-    ".reloc .Ltcp67+0,R_X86_64_PC32,.Ltcp66+20\n"
-    ".reloc .Ltcp67+4,R_X86_64_PC32,.Ltcp66+24\n"
-    ".reloc .Ltcp67+8,R_X86_64_PC32,.Ltcp66+165\n"
-    ".reloc .Ltcp67+12,R_X86_64_PC32,.Ltcp66+33\n"
-    ".reloc .Ltcp67+16,R_X86_64_PC32,.Ltcp66+36\n"
-    ".reloc .Ltcp67+20,R_X86_64_PC32,.Ltcp66+215\n"
-    ".reloc .Ltcp67+24,R_X86_64_PC32,.Ltcp66+45\n"
-    ".reloc .Ltcp67+28,R_X86_64_PC32,.Ltcp66+105\n"
-    ".reloc .Ltcp67+32,R_X86_64_PC32,.Ltcp66+237\n"
-    ".reloc .Ltcp67+36,R_X86_64_PC32,.Ltcp66+304\n"
-    ".reloc .Ltcp67+40,R_X86_64_PC32,.Ltcp66+117\n"
-    ".reloc .Ltcp67+44,R_X86_64_PC32,.Ltcp66+312\n"
-    ".reloc .Ltcp67+48,R_X86_64_PC32,.Ltcp66+316\n"
-    ".reloc .Ltcp67+52,R_X86_64_PC32,.Ltcp66+72\n"
-    ".reloc .Ltcp67+56,R_X86_64_PC32,.Ltcp66+324\n"
-    ".reloc .Ltcp67+60,R_X86_64_PC32,.Ltcp66+81\n"
-    ".reloc .Ltcp67+64,R_X86_64_PC32,.Ltcp66+277\n"
-    ".reloc .Ltcp67+68,R_X86_64_PC32,.Ltcp66+88\n"
-    ".reloc .Ltcp67+72,R_X86_64_PC32,.Ltcp66+92\n"
-    ".section .text.tcp.68,\"ax\",%progbits\n"
+    ".reloc .Ltcp68+0,R_X86_64_PC32,.Ltcp67+20\n"
+    ".reloc .Ltcp68+4,R_X86_64_PC32,.Ltcp67+24\n"
+    ".reloc .Ltcp68+8,R_X86_64_PC32,.Ltcp67+165\n"
+    ".reloc .Ltcp68+12,R_X86_64_PC32,.Ltcp67+33\n"
+    ".reloc .Ltcp68+16,R_X86_64_PC32,.Ltcp67+36\n"
+    ".reloc .Ltcp68+20,R_X86_64_PC32,.Ltcp67+215\n"
+    ".reloc .Ltcp68+24,R_X86_64_PC32,.Ltcp67+45\n"
+    ".reloc .Ltcp68+28,R_X86_64_PC32,.Ltcp67+105\n"
+    ".reloc .Ltcp68+32,R_X86_64_PC32,.Ltcp67+237\n"
+    ".reloc .Ltcp68+36,R_X86_64_PC32,.Ltcp67+304\n"
+    ".reloc .Ltcp68+40,R_X86_64_PC32,.Ltcp67+117\n"
+    ".reloc .Ltcp68+44,R_X86_64_PC32,.Ltcp67+312\n"
+    ".reloc .Ltcp68+48,R_X86_64_PC32,.Ltcp67+316\n"
+    ".reloc .Ltcp68+52,R_X86_64_PC32,.Ltcp67+72\n"
+    ".reloc .Ltcp68+56,R_X86_64_PC32,.Ltcp67+324\n"
+    ".reloc .Ltcp68+60,R_X86_64_PC32,.Ltcp67+81\n"
+    ".reloc .Ltcp68+64,R_X86_64_PC32,.Ltcp67+277\n"
+    ".reloc .Ltcp68+68,R_X86_64_PC32,.Ltcp67+88\n"
+    ".reloc .Ltcp68+72,R_X86_64_PC32,.Ltcp67+92\n"
+    ".section .text.tcp.69,\"ax\",%progbits\n"
     ".balign 16\n"
-    ".Ltcp68:\n"
+    ".Ltcp69:\n"
     ".type \"tcp_conn::endpoint::Endpoint::peer_opens::<#4d7786d65df9050b>\",%function\n"
     ".size \"tcp_conn::endpoint::Endpoint::peer_opens::<#4d7786d65df9050b>\",381\n"
     "\"tcp_conn::endpoint::Endpoint::peer_opens::<#4d7786d65df9050b>\":\n"
@@ -3236,23 +3270,23 @@ __asm__(
     ".quad 0x415d415c415b58c4\n"
     ".long 0x5d5f415e\n"
     ".byte 0xc3\n"
-    ".reloc .Ltcp68+81,R_X86_64_PLT32,.Ltcp9-4\n"
-    ".reloc .Ltcp68+139,R_X86_64_PLT32,.Ltcp9-4\n"
-    ".reloc .Ltcp68+158,R_X86_64_PC32,.Ltcp69-4\n"
-    ".section .rodata.tcp.69,\"a\",%progbits\n"
+    ".reloc .Ltcp69+81,R_X86_64_PLT32,.Ltcp10-4\n"
+    ".reloc .Ltcp69+139,R_X86_64_PLT32,.Ltcp10-4\n"
+    ".reloc .Ltcp69+158,R_X86_64_PC32,.Ltcp70-4\n"
+    ".section .rodata.tcp.70,\"a\",%progbits\n"
     ".balign 4\n"
-    ".Ltcp69:\n"
+    ".Ltcp70:\n"
     ".octa 0x0\n"
     ".quad 0x0\n"
-    ".reloc .Ltcp69+0,R_X86_64_PC32,.Ltcp68+128\n"
-    ".reloc .Ltcp69+4,R_X86_64_PC32,.Ltcp68+175\n"
-    ".reloc .Ltcp69+8,R_X86_64_PC32,.Ltcp68+197\n"
-    ".reloc .Ltcp69+12,R_X86_64_PC32,.Ltcp68+196\n"
-    ".reloc .Ltcp69+16,R_X86_64_PC32,.Ltcp68+144\n"
-    ".reloc .Ltcp69+20,R_X86_64_PC32,.Ltcp68+148\n"
-    ".section .text.tcp.70,\"ax\",%progbits\n"
+    ".reloc .Ltcp70+0,R_X86_64_PC32,.Ltcp69+128\n"
+    ".reloc .Ltcp70+4,R_X86_64_PC32,.Ltcp69+175\n"
+    ".reloc .Ltcp70+8,R_X86_64_PC32,.Ltcp69+197\n"
+    ".reloc .Ltcp70+12,R_X86_64_PC32,.Ltcp69+196\n"
+    ".reloc .Ltcp70+16,R_X86_64_PC32,.Ltcp69+144\n"
+    ".reloc .Ltcp70+20,R_X86_64_PC32,.Ltcp69+148\n"
+    ".section .text.tcp.71,\"ax\",%progbits\n"
     ".balign 16\n"
-    ".Ltcp70:\n"
+    ".Ltcp71:\n"
     ".type \"tcp_conn::endpoint::Endpoint::peer_accepts::<#4d7786d65df9050b>\",%function\n"
     ".size \"tcp_conn::endpoint::Endpoint::peer_accepts::<#4d7786d65df9050b>\",384\n"
     "\"tcp_conn::endpoint::Endpoint::peer_accepts::<#4d7786d65df9050b>\":\n"
@@ -3264,23 +3298,23 @@ __asm__(
     ".octa 0xf0000000eb90efa80d5b60f41ff3102,0xcf450fc9b60fd4b60f4101fc8041ca42,0x7b80f7b60f41cf440fd7440f012043f6\n"
     ".octa 0x403d4b883c53883a438966f7440f0022,0x484b8b480e46b70f41003f43c63e7388,0x8948000000c08389404b894804568b49\n"
     ".octa 0x1000000d083c604468b41000000c493,0x14083c766000000d48389c0ff,0xc35d5f415e415d415c415b58c4834801\n"
-    ".reloc .Ltcp70+71,R_X86_64_PLT32,.Ltcp9-4\n"
-    ".reloc .Ltcp70+123,R_X86_64_PLT32,.Ltcp9-4\n"
-    ".reloc .Ltcp70+142,R_X86_64_PC32,.Ltcp71-4\n"
-    ".section .rodata.tcp.71,\"a\",%progbits\n"
+    ".reloc .Ltcp71+71,R_X86_64_PLT32,.Ltcp10-4\n"
+    ".reloc .Ltcp71+123,R_X86_64_PLT32,.Ltcp10-4\n"
+    ".reloc .Ltcp71+142,R_X86_64_PC32,.Ltcp72-4\n"
+    ".section .rodata.tcp.72,\"a\",%progbits\n"
     ".balign 4\n"
-    ".Ltcp71:\n"
+    ".Ltcp72:\n"
     ".octa 0x0\n"
     ".quad 0x0\n"
-    ".reloc .Ltcp71+0,R_X86_64_PC32,.Ltcp70+112\n"
-    ".reloc .Ltcp71+4,R_X86_64_PC32,.Ltcp70+159\n"
-    ".reloc .Ltcp71+8,R_X86_64_PC32,.Ltcp70+185\n"
-    ".reloc .Ltcp71+12,R_X86_64_PC32,.Ltcp70+184\n"
-    ".reloc .Ltcp71+16,R_X86_64_PC32,.Ltcp70+128\n"
-    ".reloc .Ltcp71+20,R_X86_64_PC32,.Ltcp70+132\n"
-    ".section .text.tcp.72,\"ax\",%progbits\n"
+    ".reloc .Ltcp72+0,R_X86_64_PC32,.Ltcp71+112\n"
+    ".reloc .Ltcp72+4,R_X86_64_PC32,.Ltcp71+159\n"
+    ".reloc .Ltcp72+8,R_X86_64_PC32,.Ltcp71+185\n"
+    ".reloc .Ltcp72+12,R_X86_64_PC32,.Ltcp71+184\n"
+    ".reloc .Ltcp72+16,R_X86_64_PC32,.Ltcp71+128\n"
+    ".reloc .Ltcp72+20,R_X86_64_PC32,.Ltcp71+132\n"
+    ".section .text.tcp.73,\"ax\",%progbits\n"
     ".balign 16\n"
-    ".Ltcp72:\n"
+    ".Ltcp73:\n"
     ".type \"tcp_conn::endpoint::Endpoint::take_rarely::<#4d7786d65df9050b>\",%function\n"
     ".size \"tcp_conn::endpoint::Endpoint::take_rarely::<#4d7786d65df9050b>\",2141\n"
     "\"tcp_conn::endpoint::Endpoint::take_rarely::<#4d7786d65df9050b>\":\n"
@@ -3332,70 +3366,70 @@ __asm__(
     ".quad 0x63047c6fffffd29\n"
     ".long 0xfffe0fe9\n"
     ".byte 0xff\n"
-    ".reloc .Ltcp72+251,R_X86_64_PLT32,.Ltcp66-4\n"
-    ".reloc .Ltcp72+320,R_X86_64_PC32,.Ltcp73+84\n"
-    ".reloc .Ltcp72+366,R_X86_64_PC32,.Ltcp73+84\n"
-    ".reloc .Ltcp72+846,R_X86_64_PLT32,.Ltcp41-4\n"
-    ".reloc .Ltcp72+1082,R_X86_64_PLT32,.Ltcp41-4\n"
-    ".reloc .Ltcp72+1335,R_X86_64_PLT32,.Ltcp58-4\n"
-    ".reloc .Ltcp72+1392,R_X86_64_PC32,.Ltcp73-4\n"
-    ".reloc .Ltcp72+1463,R_X86_64_PC32,.Ltcp73+84\n"
-    ".reloc .Ltcp72+1561,R_X86_64_PLT32,.Ltcp58-4\n"
-    ".reloc .Ltcp72+1631,R_X86_64_PC32,.Ltcp73+40\n"
-    ".reloc .Ltcp72+1651,R_X86_64_PLT32,.Ltcp61-4\n"
-    ".reloc .Ltcp72+1786,R_X86_64_PC32,.Ltcp73+84\n"
-    ".reloc .Ltcp72+1898,R_X86_64_PC32,.Ltcp73+84\n"
-    ".reloc .Ltcp72+1970,R_X86_64_PC32,.Ltcp73+84\n"
-    ".section .rodata.tcp.73,\"a\",%progbits\n"
+    ".reloc .Ltcp73+251,R_X86_64_PLT32,.Ltcp67-4\n"
+    ".reloc .Ltcp73+320,R_X86_64_PC32,.Ltcp74+84\n"
+    ".reloc .Ltcp73+366,R_X86_64_PC32,.Ltcp74+84\n"
+    ".reloc .Ltcp73+846,R_X86_64_PLT32,.Ltcp42-4\n"
+    ".reloc .Ltcp73+1082,R_X86_64_PLT32,.Ltcp42-4\n"
+    ".reloc .Ltcp73+1335,R_X86_64_PLT32,.Ltcp59-4\n"
+    ".reloc .Ltcp73+1392,R_X86_64_PC32,.Ltcp74-4\n"
+    ".reloc .Ltcp73+1463,R_X86_64_PC32,.Ltcp74+84\n"
+    ".reloc .Ltcp73+1561,R_X86_64_PLT32,.Ltcp59-4\n"
+    ".reloc .Ltcp73+1631,R_X86_64_PC32,.Ltcp74+40\n"
+    ".reloc .Ltcp73+1651,R_X86_64_PLT32,.Ltcp62-4\n"
+    ".reloc .Ltcp73+1786,R_X86_64_PC32,.Ltcp74+84\n"
+    ".reloc .Ltcp73+1898,R_X86_64_PC32,.Ltcp74+84\n"
+    ".reloc .Ltcp73+1970,R_X86_64_PC32,.Ltcp74+84\n"
+    ".section .rodata.tcp.74,\"a\",%progbits\n"
     ".balign 4\n"
-    ".Ltcp73:\n"
+    ".Ltcp74:\n"
     ".octa 0x0,0x0,0x0\n"
     ".octa 0x0,0x0,0x0\n"
     ".octa 0x0,0x0,0x0\n"
     ".octa 0x0\n"
-    ".reloc .Ltcp73+0,R_X86_64_PC32,.Ltcp72+1405\n"
-    ".reloc .Ltcp73+4,R_X86_64_PC32,.Ltcp72+1409\n"
-    ".reloc .Ltcp73+8,R_X86_64_PC32,.Ltcp72+1413\n"
-    ".reloc .Ltcp73+12,R_X86_64_PC32,.Ltcp72+1417\n"
-    ".reloc .Ltcp73+16,R_X86_64_PC32,.Ltcp72+1421\n"
-    ".reloc .Ltcp73+20,R_X86_64_PC32,.Ltcp72+2143\n"
-    ".reloc .Ltcp73+24,R_X86_64_PC32,.Ltcp72+1429\n"
-    ".reloc .Ltcp73+28,R_X86_64_PC32,.Ltcp72+1433\n"
-    ".reloc .Ltcp73+32,R_X86_64_PC32,.Ltcp72+2041\n"
-    ".reloc .Ltcp73+36,R_X86_64_PC32,.Ltcp72+2063\n"
-    ".reloc .Ltcp73+40,R_X86_64_PC32,.Ltcp72+1445\n"
-    ".reloc .Ltcp73+44,R_X86_64_PC32,.Ltcp72+1644\n"
-    ".reloc .Ltcp73+48,R_X86_64_PC32,.Ltcp72+1648\n"
-    ".reloc .Ltcp73+52,R_X86_64_PC32,.Ltcp72+1652\n"
-    ".reloc .Ltcp73+56,R_X86_64_PC32,.Ltcp72+1656\n"
-    ".reloc .Ltcp73+60,R_X86_64_PC32,.Ltcp72+1660\n"
-    ".reloc .Ltcp73+64,R_X86_64_PC32,.Ltcp72+2152\n"
-    ".reloc .Ltcp73+68,R_X86_64_PC32,.Ltcp72+1668\n"
-    ".reloc .Ltcp73+72,R_X86_64_PC32,.Ltcp72+1672\n"
-    ".reloc .Ltcp73+76,R_X86_64_PC32,.Ltcp72+2050\n"
-    ".reloc .Ltcp73+80,R_X86_64_PC32,.Ltcp72+2111\n"
-    ".reloc .Ltcp73+84,R_X86_64_PC32,.Ltcp72+1684\n"
-    ".reloc .Ltcp73+88,R_X86_64_PC32,.Ltcp72+385\n"
-    ".reloc .Ltcp73+92,R_X86_64_PC32,.Ltcp72+387\n"
-    ".reloc .Ltcp73+96,R_X86_64_PC32,.Ltcp72+391\n"
-    ".reloc .Ltcp73+100,R_X86_64_PC32,.Ltcp72+397\n"
-    ".reloc .Ltcp73+104,R_X86_64_PC32,.Ltcp72+399\n"
-    ".reloc .Ltcp73+108,R_X86_64_PC32,.Ltcp72+403\n"
-    ".reloc .Ltcp73+112,R_X86_64_PC32,.Ltcp72+409\n"
-    ".reloc .Ltcp73+116,R_X86_64_PC32,.Ltcp72+411\n"
-    ".reloc .Ltcp73+120,R_X86_64_PC32,.Ltcp72+415\n"
-    ".reloc .Ltcp73+124,R_X86_64_PC32,.Ltcp72+421\n"
-    ".reloc .Ltcp73+128,R_X86_64_PC32,.Ltcp72+423\n"
-    ".reloc .Ltcp73+132,R_X86_64_PC32,.Ltcp72+427\n"
-    ".reloc .Ltcp73+136,R_X86_64_PC32,.Ltcp72+433\n"
-    ".reloc .Ltcp73+140,R_X86_64_PC32,.Ltcp72+435\n"
-    ".reloc .Ltcp73+144,R_X86_64_PC32,.Ltcp72+439\n"
-    ".reloc .Ltcp73+148,R_X86_64_PC32,.Ltcp72+443\n"
-    ".reloc .Ltcp73+152,R_X86_64_PC32,.Ltcp72+1867\n"
-    ".reloc .Ltcp73+156,R_X86_64_PC32,.Ltcp72+2065\n"
-    ".section .text.tcp.74,\"ax\",%progbits\n"
+    ".reloc .Ltcp74+0,R_X86_64_PC32,.Ltcp73+1405\n"
+    ".reloc .Ltcp74+4,R_X86_64_PC32,.Ltcp73+1409\n"
+    ".reloc .Ltcp74+8,R_X86_64_PC32,.Ltcp73+1413\n"
+    ".reloc .Ltcp74+12,R_X86_64_PC32,.Ltcp73+1417\n"
+    ".reloc .Ltcp74+16,R_X86_64_PC32,.Ltcp73+1421\n"
+    ".reloc .Ltcp74+20,R_X86_64_PC32,.Ltcp73+2143\n"
+    ".reloc .Ltcp74+24,R_X86_64_PC32,.Ltcp73+1429\n"
+    ".reloc .Ltcp74+28,R_X86_64_PC32,.Ltcp73+1433\n"
+    ".reloc .Ltcp74+32,R_X86_64_PC32,.Ltcp73+2041\n"
+    ".reloc .Ltcp74+36,R_X86_64_PC32,.Ltcp73+2063\n"
+    ".reloc .Ltcp74+40,R_X86_64_PC32,.Ltcp73+1445\n"
+    ".reloc .Ltcp74+44,R_X86_64_PC32,.Ltcp73+1644\n"
+    ".reloc .Ltcp74+48,R_X86_64_PC32,.Ltcp73+1648\n"
+    ".reloc .Ltcp74+52,R_X86_64_PC32,.Ltcp73+1652\n"
+    ".reloc .Ltcp74+56,R_X86_64_PC32,.Ltcp73+1656\n"
+    ".reloc .Ltcp74+60,R_X86_64_PC32,.Ltcp73+1660\n"
+    ".reloc .Ltcp74+64,R_X86_64_PC32,.Ltcp73+2152\n"
+    ".reloc .Ltcp74+68,R_X86_64_PC32,.Ltcp73+1668\n"
+    ".reloc .Ltcp74+72,R_X86_64_PC32,.Ltcp73+1672\n"
+    ".reloc .Ltcp74+76,R_X86_64_PC32,.Ltcp73+2050\n"
+    ".reloc .Ltcp74+80,R_X86_64_PC32,.Ltcp73+2111\n"
+    ".reloc .Ltcp74+84,R_X86_64_PC32,.Ltcp73+1684\n"
+    ".reloc .Ltcp74+88,R_X86_64_PC32,.Ltcp73+385\n"
+    ".reloc .Ltcp74+92,R_X86_64_PC32,.Ltcp73+387\n"
+    ".reloc .Ltcp74+96,R_X86_64_PC32,.Ltcp73+391\n"
+    ".reloc .Ltcp74+100,R_X86_64_PC32,.Ltcp73+397\n"
+    ".reloc .Ltcp74+104,R_X86_64_PC32,.Ltcp73+399\n"
+    ".reloc .Ltcp74+108,R_X86_64_PC32,.Ltcp73+403\n"
+    ".reloc .Ltcp74+112,R_X86_64_PC32,.Ltcp73+409\n"
+    ".reloc .Ltcp74+116,R_X86_64_PC32,.Ltcp73+411\n"
+    ".reloc .Ltcp74+120,R_X86_64_PC32,.Ltcp73+415\n"
+    ".reloc .Ltcp74+124,R_X86_64_PC32,.Ltcp73+421\n"
+    ".reloc .Ltcp74+128,R_X86_64_PC32,.Ltcp73+423\n"
+    ".reloc .Ltcp74+132,R_X86_64_PC32,.Ltcp73+427\n"
+    ".reloc .Ltcp74+136,R_X86_64_PC32,.Ltcp73+433\n"
+    ".reloc .Ltcp74+140,R_X86_64_PC32,.Ltcp73+435\n"
+    ".reloc .Ltcp74+144,R_X86_64_PC32,.Ltcp73+439\n"
+    ".reloc .Ltcp74+148,R_X86_64_PC32,.Ltcp73+443\n"
+    ".reloc .Ltcp74+152,R_X86_64_PC32,.Ltcp73+1867\n"
+    ".reloc .Ltcp74+156,R_X86_64_PC32,.Ltcp73+2065\n"
+    ".section .text.tcp.75,\"ax\",%progbits\n"
     ".balign 16\n"
-    ".Ltcp74:\n"
+    ".Ltcp75:\n"
     ".type \"kit_text::numbers::push_number_word::<#fc995fe602e3aacb>\",%function\n"
     ".size \"kit_text::numbers::push_number_word::<#fc995fe602e3aacb>\",437\n"
     "\"kit_text::numbers::push_number_word::<#fc995fe602e3aacb>\":\n"
@@ -3415,13 +3449,13 @@ __asm__(
     ".octa 0xc48148c0311063894c087b894c33894c,0x8948c35f415e415d415c415b00000080,0x1b0c18900000000e8d68948d58949df\n"
     ".octa 0xebea894c10638b4c087b8b4cd974c984\n"
     ".byte 0xac\n"
-    ".reloc .Ltcp74+146,R_X86_64_PC32,.Ltcp104-4\n"
-    ".reloc .Ltcp74+250,R_X86_64_PC32,.Ltcp104-4\n"
-    ".reloc .Ltcp74+289,R_X86_64_PC32,.Ltcp104-4\n"
-    ".reloc .Ltcp74+412,R_X86_64_PLT32,.Ltcp85-4\n"
-    ".section .text.tcp.75,\"ax\",%progbits\n"
+    ".reloc .Ltcp75+146,R_X86_64_PC32,.Ltcp105-4\n"
+    ".reloc .Ltcp75+250,R_X86_64_PC32,.Ltcp105-4\n"
+    ".reloc .Ltcp75+289,R_X86_64_PC32,.Ltcp105-4\n"
+    ".reloc .Ltcp75+412,R_X86_64_PLT32,.Ltcp86-4\n"
+    ".section .text.tcp.76,\"ax\",%progbits\n"
     ".balign 16\n"
-    ".Ltcp75:\n"
+    ".Ltcp76:\n"
     ".type \"kit_report::events::push_event::<#fc995fe602e3aacb>\",%function\n"
     ".size \"kit_report::events::push_event::<#fc995fe602e3aacb>\",1872\n"
     "\"kit_report::events::push_event::<#fc995fe602e3aacb>\":\n"
@@ -3470,76 +3504,76 @@ __asm__(
     ".octa 0xe7894800000000358d48fffffc08e9fa,0xfdb1850fc08400000000e800000001ba,0xe800000001bee78948fffffd94e9ffff\n"
     ".octa 0x24448b48fffffd97840fc08400000000,0x358d48fffffd5be910244c8b4808,0x8400000000e800000001bae789480000\n"
     ".octa 0xbee78948fffffed8e9fffffd6c850fc0,0xfffd52840fc08400000000e800000001,0xfffffe9fe910244c8b480824448b48ff\n"
-    ".reloc .Ltcp75+37,R_X86_64_PC32,.Ltcp76-4\n"
-    ".reloc .Ltcp75+53,R_X86_64_PC32,.Ltcp137-4\n"
-    ".reloc .Ltcp75+65,R_X86_64_PC32,.Ltcp146-4\n"
-    ".reloc .Ltcp75+77,R_X86_64_PC32,.Ltcp140-4\n"
-    ".reloc .Ltcp75+94,R_X86_64_PC32,.Ltcp147-4\n"
-    ".reloc .Ltcp75+103,R_X86_64_PC32,.Ltcp144-4\n"
-    ".reloc .Ltcp75+120,R_X86_64_PC32,.Ltcp54+24\n"
-    ".reloc .Ltcp75+129,R_X86_64_PC32,.Ltcp139-4\n"
-    ".reloc .Ltcp75+138,R_X86_64_PC32,.Ltcp143-4\n"
-    ".reloc .Ltcp75+152,R_X86_64_PC32,.Ltcp138-4\n"
-    ".reloc .Ltcp75+166,R_X86_64_PC32,.Ltcp141-4\n"
-    ".reloc .Ltcp75+180,R_X86_64_PC32,.Ltcp142-4\n"
-    ".reloc .Ltcp75+197,R_X86_64_PC32,.Ltcp145-4\n"
-    ".reloc .Ltcp75+214,R_X86_64_PC32,.Ltcp54+28\n"
-    ".reloc .Ltcp75+505,R_X86_64_PC32,.Ltcp76+48\n"
-    ".reloc .Ltcp75+545,R_X86_64_PC32,.Ltcp103-4\n"
-    ".reloc .Ltcp75+575,R_X86_64_PLT32,.Ltcp77-4\n"
-    ".reloc .Ltcp75+684,R_X86_64_PC32,.Ltcp183-4\n"
-    ".reloc .Ltcp75+695,R_X86_64_PC32,.Ltcp184-4\n"
-    ".reloc .Ltcp75+867,R_X86_64_PC32,.Ltcp103-4\n"
-    ".reloc .Ltcp75+1050,R_X86_64_PLT32,.Ltcp80-4\n"
-    ".reloc .Ltcp75+1159,R_X86_64_PLT32,.Ltcp80-4\n"
-    ".reloc .Ltcp75+1277,R_X86_64_PLT32,.Ltcp85-4\n"
-    ".reloc .Ltcp75+1327,R_X86_64_PLT32,.Ltcp85-4\n"
-    ".reloc .Ltcp75+1374,R_X86_64_PLT32,.Ltcp85-4\n"
-    ".reloc .Ltcp75+1547,R_X86_64_PLT32,.Ltcp81-4\n"
-    ".reloc .Ltcp75+1608,R_X86_64_PLT32,.Ltcp85-4\n"
-    ".reloc .Ltcp75+1652,R_X86_64_PLT32,.Ltcp85-4\n"
-    ".reloc .Ltcp75+1694,R_X86_64_PLT32,.Ltcp85-4\n"
-    ".reloc .Ltcp75+1737,R_X86_64_PC32,.Ltcp103-4\n"
-    ".reloc .Ltcp75+1750,R_X86_64_PLT32,.Ltcp78-4\n"
-    ".reloc .Ltcp75+1776,R_X86_64_PLT32,.Ltcp85-4\n"
-    ".reloc .Ltcp75+1806,R_X86_64_PC32,.Ltcp103-4\n"
-    ".reloc .Ltcp75+1819,R_X86_64_PLT32,.Ltcp78-4\n"
-    ".reloc .Ltcp75+1845,R_X86_64_PLT32,.Ltcp85-4\n"
-    ".section .rodata.tcp.76,\"a\",%progbits\n"
+    ".reloc .Ltcp76+37,R_X86_64_PC32,.Ltcp77-4\n"
+    ".reloc .Ltcp76+53,R_X86_64_PC32,.Ltcp138-4\n"
+    ".reloc .Ltcp76+65,R_X86_64_PC32,.Ltcp147-4\n"
+    ".reloc .Ltcp76+77,R_X86_64_PC32,.Ltcp141-4\n"
+    ".reloc .Ltcp76+94,R_X86_64_PC32,.Ltcp148-4\n"
+    ".reloc .Ltcp76+103,R_X86_64_PC32,.Ltcp145-4\n"
+    ".reloc .Ltcp76+120,R_X86_64_PC32,.Ltcp55+24\n"
+    ".reloc .Ltcp76+129,R_X86_64_PC32,.Ltcp140-4\n"
+    ".reloc .Ltcp76+138,R_X86_64_PC32,.Ltcp144-4\n"
+    ".reloc .Ltcp76+152,R_X86_64_PC32,.Ltcp139-4\n"
+    ".reloc .Ltcp76+166,R_X86_64_PC32,.Ltcp142-4\n"
+    ".reloc .Ltcp76+180,R_X86_64_PC32,.Ltcp143-4\n"
+    ".reloc .Ltcp76+197,R_X86_64_PC32,.Ltcp146-4\n"
+    ".reloc .Ltcp76+214,R_X86_64_PC32,.Ltcp55+28\n"
+    ".reloc .Ltcp76+505,R_X86_64_PC32,.Ltcp77+48\n"
+    ".reloc .Ltcp76+545,R_X86_64_PC32,.Ltcp104-4\n"
+    ".reloc .Ltcp76+575,R_X86_64_PLT32,.Ltcp78-4\n"
+    ".reloc .Ltcp76+684,R_X86_64_PC32,.Ltcp184-4\n"
+    ".reloc .Ltcp76+695,R_X86_64_PC32,.Ltcp185-4\n"
+    ".reloc .Ltcp76+867,R_X86_64_PC32,.Ltcp104-4\n"
+    ".reloc .Ltcp76+1050,R_X86_64_PLT32,.Ltcp81-4\n"
+    ".reloc .Ltcp76+1159,R_X86_64_PLT32,.Ltcp81-4\n"
+    ".reloc .Ltcp76+1277,R_X86_64_PLT32,.Ltcp86-4\n"
+    ".reloc .Ltcp76+1327,R_X86_64_PLT32,.Ltcp86-4\n"
+    ".reloc .Ltcp76+1374,R_X86_64_PLT32,.Ltcp86-4\n"
+    ".reloc .Ltcp76+1547,R_X86_64_PLT32,.Ltcp82-4\n"
+    ".reloc .Ltcp76+1608,R_X86_64_PLT32,.Ltcp86-4\n"
+    ".reloc .Ltcp76+1652,R_X86_64_PLT32,.Ltcp86-4\n"
+    ".reloc .Ltcp76+1694,R_X86_64_PLT32,.Ltcp86-4\n"
+    ".reloc .Ltcp76+1737,R_X86_64_PC32,.Ltcp104-4\n"
+    ".reloc .Ltcp76+1750,R_X86_64_PLT32,.Ltcp79-4\n"
+    ".reloc .Ltcp76+1776,R_X86_64_PLT32,.Ltcp86-4\n"
+    ".reloc .Ltcp76+1806,R_X86_64_PC32,.Ltcp104-4\n"
+    ".reloc .Ltcp76+1819,R_X86_64_PLT32,.Ltcp79-4\n"
+    ".reloc .Ltcp76+1845,R_X86_64_PLT32,.Ltcp86-4\n"
+    ".section .rodata.tcp.77,\"a\",%progbits\n"
     ".balign 4\n"
-    ".Ltcp76:\n"
+    ".Ltcp77:\n"
     ".octa 0x0,0x0,0x0\n"
     ".octa 0x0,0x0,0x0\n"
     ".quad 0x0\n"
-    ".reloc .Ltcp76+0,R_X86_64_PC32,.Ltcp75+50\n"
-    ".reloc .Ltcp76+4,R_X86_64_PC32,.Ltcp75+153\n"
-    ".reloc .Ltcp76+8,R_X86_64_PC32,.Ltcp75+125\n"
-    ".reloc .Ltcp76+12,R_X86_64_PC32,.Ltcp75+138\n"
-    ".reloc .Ltcp76+16,R_X86_64_PC32,.Ltcp75+90\n"
-    ".reloc .Ltcp76+20,R_X86_64_PC32,.Ltcp75+183\n"
-    ".reloc .Ltcp76+24,R_X86_64_PC32,.Ltcp75+201\n"
-    ".reloc .Ltcp76+28,R_X86_64_PC32,.Ltcp75+163\n"
-    ".reloc .Ltcp76+32,R_X86_64_PC32,.Ltcp75+243\n"
-    ".reloc .Ltcp76+36,R_X86_64_PC32,.Ltcp75+136\n"
-    ".reloc .Ltcp76+40,R_X86_64_PC32,.Ltcp75+234\n"
-    ".reloc .Ltcp76+44,R_X86_64_PC32,.Ltcp75+106\n"
-    ".reloc .Ltcp76+48,R_X86_64_PC32,.Ltcp75+139\n"
-    ".reloc .Ltcp76+52,R_X86_64_PC32,.Ltcp75+518\n"
-    ".reloc .Ltcp76+56,R_X86_64_PC32,.Ltcp75+522\n"
-    ".reloc .Ltcp76+60,R_X86_64_PC32,.Ltcp75+526\n"
-    ".reloc .Ltcp76+64,R_X86_64_PC32,.Ltcp75+550\n"
-    ".reloc .Ltcp76+68,R_X86_64_PC32,.Ltcp75+534\n"
-    ".reloc .Ltcp76+72,R_X86_64_PC32,.Ltcp75+538\n"
-    ".reloc .Ltcp76+76,R_X86_64_PC32,.Ltcp75+542\n"
-    ".reloc .Ltcp76+80,R_X86_64_PC32,.Ltcp75+667\n"
-    ".reloc .Ltcp76+84,R_X86_64_PC32,.Ltcp75+550\n"
-    ".reloc .Ltcp76+88,R_X86_64_PC32,.Ltcp75+554\n"
-    ".reloc .Ltcp76+92,R_X86_64_PC32,.Ltcp75+558\n"
-    ".reloc .Ltcp76+96,R_X86_64_PC32,.Ltcp75+582\n"
-    ".reloc .Ltcp76+100,R_X86_64_PC32,.Ltcp75+900\n"
-    ".section .text.tcp.77,\"ax\",%progbits\n"
+    ".reloc .Ltcp77+0,R_X86_64_PC32,.Ltcp76+50\n"
+    ".reloc .Ltcp77+4,R_X86_64_PC32,.Ltcp76+153\n"
+    ".reloc .Ltcp77+8,R_X86_64_PC32,.Ltcp76+125\n"
+    ".reloc .Ltcp77+12,R_X86_64_PC32,.Ltcp76+138\n"
+    ".reloc .Ltcp77+16,R_X86_64_PC32,.Ltcp76+90\n"
+    ".reloc .Ltcp77+20,R_X86_64_PC32,.Ltcp76+183\n"
+    ".reloc .Ltcp77+24,R_X86_64_PC32,.Ltcp76+201\n"
+    ".reloc .Ltcp77+28,R_X86_64_PC32,.Ltcp76+163\n"
+    ".reloc .Ltcp77+32,R_X86_64_PC32,.Ltcp76+243\n"
+    ".reloc .Ltcp77+36,R_X86_64_PC32,.Ltcp76+136\n"
+    ".reloc .Ltcp77+40,R_X86_64_PC32,.Ltcp76+234\n"
+    ".reloc .Ltcp77+44,R_X86_64_PC32,.Ltcp76+106\n"
+    ".reloc .Ltcp77+48,R_X86_64_PC32,.Ltcp76+139\n"
+    ".reloc .Ltcp77+52,R_X86_64_PC32,.Ltcp76+518\n"
+    ".reloc .Ltcp77+56,R_X86_64_PC32,.Ltcp76+522\n"
+    ".reloc .Ltcp77+60,R_X86_64_PC32,.Ltcp76+526\n"
+    ".reloc .Ltcp77+64,R_X86_64_PC32,.Ltcp76+550\n"
+    ".reloc .Ltcp77+68,R_X86_64_PC32,.Ltcp76+534\n"
+    ".reloc .Ltcp77+72,R_X86_64_PC32,.Ltcp76+538\n"
+    ".reloc .Ltcp77+76,R_X86_64_PC32,.Ltcp76+542\n"
+    ".reloc .Ltcp77+80,R_X86_64_PC32,.Ltcp76+667\n"
+    ".reloc .Ltcp77+84,R_X86_64_PC32,.Ltcp76+550\n"
+    ".reloc .Ltcp77+88,R_X86_64_PC32,.Ltcp76+554\n"
+    ".reloc .Ltcp77+92,R_X86_64_PC32,.Ltcp76+558\n"
+    ".reloc .Ltcp77+96,R_X86_64_PC32,.Ltcp76+582\n"
+    ".reloc .Ltcp77+100,R_X86_64_PC32,.Ltcp76+900\n"
+    ".section .text.tcp.78,\"ax\",%progbits\n"
     ".balign 16\n"
-    ".Ltcp77:\n"
+    ".Ltcp78:\n"
     ".type \"kit_text::numbers::push_word_number::<#fc995fe602e3aacb>\",%function\n"
     ".size \"kit_text::numbers::push_word_number::<#fc995fe602e3aacb>\",463\n"
     "\"kit_text::numbers::push_word_number::<#fc995fe602e3aacb>\":\n"
@@ -3559,13 +3593,13 @@ __asm__(
     ".octa 0xc48148c0311063894c087b894c2b894c,0x8948c35f415e415d415c415b00000080,0x1b0c18900000000e8d68948d58949df\n"
     ".octa 0xebea894c10638b4c087b8b4cd974c984\n"
     ".byte 0xad\n"
-    ".reloc .Ltcp77+149,R_X86_64_PC32,.Ltcp104-4\n"
-    ".reloc .Ltcp77+258,R_X86_64_PC32,.Ltcp104-4\n"
-    ".reloc .Ltcp77+298,R_X86_64_PC32,.Ltcp104-4\n"
-    ".reloc .Ltcp77+438,R_X86_64_PLT32,.Ltcp85-4\n"
-    ".section .text.tcp.78,\"ax\",%progbits\n"
+    ".reloc .Ltcp78+149,R_X86_64_PC32,.Ltcp105-4\n"
+    ".reloc .Ltcp78+258,R_X86_64_PC32,.Ltcp105-4\n"
+    ".reloc .Ltcp78+298,R_X86_64_PC32,.Ltcp105-4\n"
+    ".reloc .Ltcp78+438,R_X86_64_PLT32,.Ltcp86-4\n"
+    ".section .text.tcp.79,\"ax\",%progbits\n"
     ".balign 16\n"
-    ".Ltcp78:\n"
+    ".Ltcp79:\n"
     ".type \"core::fmt::formatter::Formatter::write_indented::<#66b2f40cbd927778>\",%function\n"
     ".size \"core::fmt::formatter::Formatter::write_indented::<#66b2f40cbd927778>\",306\n"
     "\"core::fmt::formatter::Formatter::write_indented::<#66b2f40cbd927778>\":\n"
@@ -3577,15 +3611,15 @@ __asm__(
     ".octa 0xe6014de375cbff482975c08400000000,0x8348ea894cf6894cff894c004047c641,0xe95d5f415e415d415c415b08c4\n"
     ".octa 0x5f415e415d415c415b08c4834801b000\n"
     ".short 0xc35d\n"
-    ".reloc .Ltcp78+66,R_X86_64_PLT32,.Ltcp79-4\n"
-    ".reloc .Ltcp78+147,R_X86_64_PC32,.Ltcp54+8\n"
-    ".reloc .Ltcp78+160,R_X86_64_PLT32,.Ltcp79-4\n"
-    ".reloc .Ltcp78+227,R_X86_64_PC32,.Ltcp54+8\n"
-    ".reloc .Ltcp78+240,R_X86_64_PLT32,.Ltcp79-4\n"
-    ".reloc .Ltcp78+285,R_X86_64_PLT32,.Ltcp79-4\n"
-    ".section .text.tcp.79,\"ax\",%progbits\n"
+    ".reloc .Ltcp79+66,R_X86_64_PLT32,.Ltcp80-4\n"
+    ".reloc .Ltcp79+147,R_X86_64_PC32,.Ltcp55+8\n"
+    ".reloc .Ltcp79+160,R_X86_64_PLT32,.Ltcp80-4\n"
+    ".reloc .Ltcp79+227,R_X86_64_PC32,.Ltcp55+8\n"
+    ".reloc .Ltcp79+240,R_X86_64_PLT32,.Ltcp80-4\n"
+    ".reloc .Ltcp79+285,R_X86_64_PLT32,.Ltcp80-4\n"
+    ".section .text.tcp.80,\"ax\",%progbits\n"
     ".balign 16\n"
-    ".Ltcp79:\n"
+    ".Ltcp80:\n"
     ".type \"core::fmt::formatter::Formatter::write_raw::<#66b2f40cbd927778>\",%function\n"
     ".size \"core::fmt::formatter::Formatter::write_raw::<#66b2f40cbd927778>\",706\n"
     "\"core::fmt::formatter::Formatter::write_raw::<#66b2f40cbd927778>\":\n"
@@ -3609,10 +3643,10 @@ __asm__(
     ".octa 0x48fffffedae9ffffff69840fc2394cef,0xe8d78949d68948f68949fb89,0x4cf6894cffffff54840fc98401b0c189\n"
     ".octa 0xfe70e9105b8b48084b8b48df8948fa89\n"
     ".short 0xffff\n"
-    ".reloc .Ltcp79+668,R_X86_64_PLT32,.Ltcp85-4\n"
-    ".section .text.tcp.80,\"ax\",%progbits\n"
+    ".reloc .Ltcp80+668,R_X86_64_PLT32,.Ltcp86-4\n"
+    ".section .text.tcp.81,\"ax\",%progbits\n"
     ".balign 16\n"
-    ".Ltcp80:\n"
+    ".Ltcp81:\n"
     ".type \"core::fmt::formatter::Formatter::write_piece::<#2411bf40c49e81b6>\",%function\n"
     ".size \"core::fmt::formatter::Formatter::write_piece::<#2411bf40c49e81b6>\",383\n"
     "\"core::fmt::formatter::Formatter::write_piece::<#2411bf40c49e81b6>\":\n"
@@ -3630,11 +3664,11 @@ __asm__(
     ".quad 0x894c107b8b4c0873\n"
     ".long 0xea894ce6\n"
     ".short 0xa3eb\n"
-    ".reloc .Ltcp80+336,R_X86_64_PLT32,.Ltcp78-4\n"
-    ".reloc .Ltcp80+355,R_X86_64_PLT32,.Ltcp85-4\n"
-    ".section .text.tcp.81,\"ax\",%progbits\n"
+    ".reloc .Ltcp81+336,R_X86_64_PLT32,.Ltcp79-4\n"
+    ".reloc .Ltcp81+355,R_X86_64_PLT32,.Ltcp86-4\n"
+    ".section .text.tcp.82,\"ax\",%progbits\n"
     ".balign 16\n"
-    ".Ltcp81:\n"
+    ".Ltcp82:\n"
     ".type \"core::fmt::formatter::Formatter::write_piece::<#fa26af870f156c24>\",%function\n"
     ".size \"core::fmt::formatter::Formatter::write_piece::<#fa26af870f156c24>\",319\n"
     "\"core::fmt::formatter::Formatter::write_piece::<#fa26af870f156c24>\":\n"
@@ -3651,11 +3685,11 @@ __asm__(
     ".quad 0x894c107b8b4c0873\n"
     ".long 0xea894ce6\n"
     ".short 0xa3eb\n"
-    ".reloc .Ltcp81+272,R_X86_64_PLT32,.Ltcp78-4\n"
-    ".reloc .Ltcp81+291,R_X86_64_PLT32,.Ltcp85-4\n"
-    ".section .text.tcp.82,\"ax\",%progbits\n"
+    ".reloc .Ltcp82+272,R_X86_64_PLT32,.Ltcp79-4\n"
+    ".reloc .Ltcp82+291,R_X86_64_PLT32,.Ltcp86-4\n"
+    ".section .text.tcp.83,\"ax\",%progbits\n"
     ".balign 16\n"
-    ".Ltcp82:\n"
+    ".Ltcp83:\n"
     ".type \"kit_text::options::push_block::<#fc995fe602e3aacb>\",%function\n"
     ".size \"kit_text::options::push_block::<#fc995fe602e3aacb>\",743\n"
     "\"kit_text::options::push_block::<#fc995fe602e3aacb>\":\n"
@@ -3678,16 +3712,16 @@ __asm__(
     ".octa 0xc48148c0311063894c087b894c33894c,0x8948c35f415e415d415c415b00000080,0x1b0c18900000000e8d68948d58949df\n"
     ".octa 0xebea894c10638b4c087b8b4cd974c984\n"
     ".byte 0xac\n"
-    ".reloc .Ltcp82+143,R_X86_64_PC32,.Ltcp104-4\n"
-    ".reloc .Ltcp82+272,R_X86_64_PC32,.Ltcp104-4\n"
-    ".reloc .Ltcp82+330,R_X86_64_PC32,.Ltcp104-4\n"
-    ".reloc .Ltcp82+464,R_X86_64_PC32,.Ltcp104-4\n"
-    ".reloc .Ltcp82+556,R_X86_64_PC32,.Ltcp104-4\n"
-    ".reloc .Ltcp82+595,R_X86_64_PC32,.Ltcp104-4\n"
-    ".reloc .Ltcp82+718,R_X86_64_PLT32,.Ltcp85-4\n"
-    ".section .text.tcp.83,\"ax\",%progbits\n"
+    ".reloc .Ltcp83+143,R_X86_64_PC32,.Ltcp105-4\n"
+    ".reloc .Ltcp83+272,R_X86_64_PC32,.Ltcp105-4\n"
+    ".reloc .Ltcp83+330,R_X86_64_PC32,.Ltcp105-4\n"
+    ".reloc .Ltcp83+464,R_X86_64_PC32,.Ltcp105-4\n"
+    ".reloc .Ltcp83+556,R_X86_64_PC32,.Ltcp105-4\n"
+    ".reloc .Ltcp83+595,R_X86_64_PC32,.Ltcp105-4\n"
+    ".reloc .Ltcp83+718,R_X86_64_PLT32,.Ltcp86-4\n"
+    ".section .text.tcp.84,\"ax\",%progbits\n"
     ".balign 16\n"
-    ".Ltcp83:\n"
+    ".Ltcp84:\n"
     ".type \"kit_text::faults::push_fault::<#fc995fe602e3aacb>\",%function\n"
     ".size \"kit_text::faults::push_fault::<#fc995fe602e3aacb>\",362\n"
     "\"kit_text::faults::push_fault::<#fc995fe602e3aacb>\":\n"
@@ -3701,12 +3735,12 @@ __asm__(
     ".octa 0x4801b00873894c9b76f1394c01b08a75\n"
     ".quad 0x415b00000088c481\n"
     ".short 0xc35e\n"
-    ".reloc .Ltcp83+122,R_X86_64_PC32,.Ltcp124-4\n"
-    ".reloc .Ltcp83+176,R_X86_64_PLT32,.Ltcp81-4\n"
-    ".reloc .Ltcp83+279,R_X86_64_PLT32,.Ltcp85-4\n"
-    ".section .text.tcp.84,\"ax\",%progbits\n"
+    ".reloc .Ltcp84+122,R_X86_64_PC32,.Ltcp125-4\n"
+    ".reloc .Ltcp84+176,R_X86_64_PLT32,.Ltcp82-4\n"
+    ".reloc .Ltcp84+279,R_X86_64_PLT32,.Ltcp86-4\n"
+    ".section .text.tcp.85,\"ax\",%progbits\n"
     ".balign 16\n"
-    ".Ltcp84:\n"
+    ".Ltcp85:\n"
     ".type \"kit_report::answers::push_refused::<#fc995fe602e3aacb>\",%function\n"
     ".size \"kit_report::answers::push_refused::<#fc995fe602e3aacb>\",337\n"
     "\"kit_report::answers::push_refused::<#fc995fe602e3aacb>\":\n"
@@ -3718,11 +3752,11 @@ __asm__(
     ".octa 0xe800000008be10247c8d48c35e41,0x2024448b4818244c8b480f74c0840000,0xf20244c280f102444280fffffff56e9\n"
     ".octa 0x3110f104b110f602444290f70244c29,0x9b76f1394c01b08a75f6854d084b8b48,0x5e415b00000088c4814801b00873894c\n"
     ".byte 0xc3\n"
-    ".reloc .Ltcp84+151,R_X86_64_PLT32,.Ltcp81-4\n"
-    ".reloc .Ltcp84+254,R_X86_64_PLT32,.Ltcp85-4\n"
-    ".section .text.tcp.85,\"ax\",%progbits\n"
+    ".reloc .Ltcp85+151,R_X86_64_PLT32,.Ltcp82-4\n"
+    ".reloc .Ltcp85+254,R_X86_64_PLT32,.Ltcp86-4\n"
+    ".section .text.tcp.86,\"ax\",%progbits\n"
     ".balign 16\n"
-    ".Ltcp85:\n"
+    ".Ltcp86:\n"
     ".type \"std_alloc::vec::Vec::grow_amortized::<#774cccd130ef0a54>\",%function\n"
     ".size \"std_alloc::vec::Vec::grow_amortized::<#774cccd130ef0a54>\",544\n"
     "\"std_alloc::vec::Vec::grow_amortized::<#774cccd130ef0a54>\":\n"
@@ -3741,9 +3775,9 @@ __asm__(
     ".octa 0x801f0fc189481b7403e08349c1,0xc8ff49c1ff480b0c88440e0cb60f4400,0x66ffffff14870ffcf88348d02948ef75\n"
     ".octa 0xb4488010e44b60f0b04880e04b60f90,0x88030e44b60f020b4488020e44b60f01,0xfffee2e9d575ca394804c18348030b44\n"
     ".byte 0xff\n"
-    ".section .text.tcp.86,\"ax\",%progbits\n"
+    ".section .text.tcp.87,\"ax\",%progbits\n"
     ".balign 16\n"
-    ".Ltcp86:\n"
+    ".Ltcp87:\n"
     ".type \"core::fmt::formatter::Formatter::write_piece::<#ab7f6a11be6e0e81>\",%function\n"
     ".size \"core::fmt::formatter::Formatter::write_piece::<#ab7f6a11be6e0e81>\",356\n"
     "\"core::fmt::formatter::Formatter::write_piece::<#ab7f6a11be6e0e81>\":\n"
@@ -3760,11 +3794,11 @@ __asm__(
     ".quad 0x894c107b8b4c0873\n"
     ".long 0xea894ce6\n"
     ".short 0xa3eb\n"
-    ".reloc .Ltcp86+309,R_X86_64_PLT32,.Ltcp78-4\n"
-    ".reloc .Ltcp86+328,R_X86_64_PLT32,.Ltcp85-4\n"
-    ".section .text.tcp.87,\"ax\",%progbits\n"
+    ".reloc .Ltcp87+309,R_X86_64_PLT32,.Ltcp79-4\n"
+    ".reloc .Ltcp87+328,R_X86_64_PLT32,.Ltcp86-4\n"
+    ".section .text.tcp.88,\"ax\",%progbits\n"
     ".balign 16\n"
-    ".Ltcp87:\n"
+    ".Ltcp88:\n"
     ".type \"std_alloc::string::String::write_fmt::<#43545b4072f2aa1d>\",%function\n"
     ".size \"std_alloc::string::String::write_fmt::<#43545b4072f2aa1d>\",652\n"
     "\"std_alloc::string::String::write_fmt::<#43545b4072f2aa1d>\":\n"
@@ -3786,11 +3820,11 @@ __asm__(
     ".octa 0x44290f60244c290f10244c280f240428,0xff854d084b8b4803110f104b110f5024,0x7b894c0676f9394c01b0fffffefa850f\n"
     ".octa 0x5f415e415d415c415b78c4834801b008\n"
     ".short 0xc35d\n"
-    ".reloc .Ltcp87+315,R_X86_64_PLT32,.Ltcp86-4\n"
-    ".reloc .Ltcp87+556,R_X86_64_PLT32,.Ltcp85-4\n"
-    ".section .text.tcp.88,\"ax\",%progbits\n"
+    ".reloc .Ltcp88+315,R_X86_64_PLT32,.Ltcp87-4\n"
+    ".reloc .Ltcp88+556,R_X86_64_PLT32,.Ltcp86-4\n"
+    ".section .text.tcp.89,\"ax\",%progbits\n"
     ".balign 16\n"
-    ".Ltcp88:\n"
+    ".Ltcp89:\n"
     ".type \"std_alloc::string::String::write_fmt::<#8ef6768b53a45598>\",%function\n"
     ".size \"std_alloc::string::String::write_fmt::<#8ef6768b53a45598>\",1137\n"
     "\"std_alloc::string::String::write_fmt::<#8ef6768b53a45598>\":\n"
@@ -3827,13 +3861,13 @@ __asm__(
     ".octa 0x24648b4c0824448b48fffffcf1840fc0\n"
     ".long 0xfd83e910\n"
     ".short 0xffff\n"
-    ".reloc .Ltcp88+331,R_X86_64_PLT32,.Ltcp86-4\n"
-    ".reloc .Ltcp88+878,R_X86_64_PLT32,.Ltcp85-4\n"
-    ".reloc .Ltcp88+936,R_X86_64_PLT32,.Ltcp78-4\n"
-    ".reloc .Ltcp88+1110,R_X86_64_PLT32,.Ltcp85-4\n"
-    ".section .text.tcp.89,\"ax\",%progbits\n"
+    ".reloc .Ltcp89+331,R_X86_64_PLT32,.Ltcp87-4\n"
+    ".reloc .Ltcp89+878,R_X86_64_PLT32,.Ltcp86-4\n"
+    ".reloc .Ltcp89+936,R_X86_64_PLT32,.Ltcp79-4\n"
+    ".reloc .Ltcp89+1110,R_X86_64_PLT32,.Ltcp86-4\n"
+    ".section .text.tcp.90,\"ax\",%progbits\n"
     ".balign 16\n"
-    ".Ltcp89:\n"
+    ".Ltcp90:\n"
     ".type \"tcp_web::exports::put_fault::<#96589b6357422c20>\",%function\n"
     ".size \"tcp_web::exports::put_fault::<#96589b6357422c20>\",1955\n"
     "\"tcp_web::exports::put_fault::<#96589b6357422c20>\":\n"
@@ -3887,32 +3921,32 @@ __asm__(
     ".octa 0x24548b4824348b48e7894cfffff8b685,0x830f702454394800000004b817894908\n"
     ".quad 0xfff892e9fffffd44\n"
     ".byte 0xff\n"
-    ".reloc .Ltcp89+158,R_X86_64_PLT32,.Ltcp92-4\n"
-    ".reloc .Ltcp89+200,R_X86_64_PC32,.Ltcp0+1260\n"
-    ".reloc .Ltcp89+223,R_X86_64_PC32,.Ltcp0+1164\n"
-    ".reloc .Ltcp89+317,R_X86_64_PLT32,.Ltcp92-4\n"
-    ".reloc .Ltcp89+364,R_X86_64_PC32,.Ltcp172-4\n"
-    ".reloc .Ltcp89+422,R_X86_64_PC32,.Ltcp0+1260\n"
-    ".reloc .Ltcp89+664,R_X86_64_PC32,.Ltcp135-4\n"
-    ".reloc .Ltcp89+671,R_X86_64_PC32,.Ltcp136-4\n"
-    ".reloc .Ltcp89+1006,R_X86_64_PLT32,.Ltcp92-4\n"
-    ".reloc .Ltcp89+1514,R_X86_64_PLT32,.Ltcp90-4\n"
-    ".reloc .Ltcp89+1540,R_X86_64_PLT32,.Ltcp90-4\n"
-    ".reloc .Ltcp89+1566,R_X86_64_PLT32,.Ltcp92-4\n"
-    ".reloc .Ltcp89+1617,R_X86_64_PLT32,.Ltcp92-4\n"
-    ".reloc .Ltcp89+1659,R_X86_64_PC32,.Ltcp103-4\n"
-    ".reloc .Ltcp89+1672,R_X86_64_PLT32,.Ltcp90-4\n"
-    ".reloc .Ltcp89+1699,R_X86_64_PC32,.Ltcp100-4\n"
-    ".reloc .Ltcp89+1712,R_X86_64_PLT32,.Ltcp90-4\n"
-    ".reloc .Ltcp89+1743,R_X86_64_PLT32,.Ltcp92-4\n"
-    ".reloc .Ltcp89+1786,R_X86_64_PLT32,.Ltcp92-4\n"
-    ".reloc .Ltcp89+1818,R_X86_64_PLT32,.Ltcp90-4\n"
-    ".reloc .Ltcp89+1851,R_X86_64_PLT32,.Ltcp92-4\n"
-    ".reloc .Ltcp89+1887,R_X86_64_PC32,.Ltcp100-4\n"
-    ".reloc .Ltcp89+1900,R_X86_64_PLT32,.Ltcp90-4\n"
-    ".section .text.tcp.90,\"ax\",%progbits\n"
+    ".reloc .Ltcp90+158,R_X86_64_PLT32,.Ltcp93-4\n"
+    ".reloc .Ltcp90+200,R_X86_64_PC32,.Ltcp0+2268\n"
+    ".reloc .Ltcp90+223,R_X86_64_PC32,.Ltcp0+1228\n"
+    ".reloc .Ltcp90+317,R_X86_64_PLT32,.Ltcp93-4\n"
+    ".reloc .Ltcp90+364,R_X86_64_PC32,.Ltcp173-4\n"
+    ".reloc .Ltcp90+422,R_X86_64_PC32,.Ltcp0+2268\n"
+    ".reloc .Ltcp90+664,R_X86_64_PC32,.Ltcp136-4\n"
+    ".reloc .Ltcp90+671,R_X86_64_PC32,.Ltcp137-4\n"
+    ".reloc .Ltcp90+1006,R_X86_64_PLT32,.Ltcp93-4\n"
+    ".reloc .Ltcp90+1514,R_X86_64_PLT32,.Ltcp91-4\n"
+    ".reloc .Ltcp90+1540,R_X86_64_PLT32,.Ltcp91-4\n"
+    ".reloc .Ltcp90+1566,R_X86_64_PLT32,.Ltcp93-4\n"
+    ".reloc .Ltcp90+1617,R_X86_64_PLT32,.Ltcp93-4\n"
+    ".reloc .Ltcp90+1659,R_X86_64_PC32,.Ltcp104-4\n"
+    ".reloc .Ltcp90+1672,R_X86_64_PLT32,.Ltcp91-4\n"
+    ".reloc .Ltcp90+1699,R_X86_64_PC32,.Ltcp101-4\n"
+    ".reloc .Ltcp90+1712,R_X86_64_PLT32,.Ltcp91-4\n"
+    ".reloc .Ltcp90+1743,R_X86_64_PLT32,.Ltcp93-4\n"
+    ".reloc .Ltcp90+1786,R_X86_64_PLT32,.Ltcp93-4\n"
+    ".reloc .Ltcp90+1818,R_X86_64_PLT32,.Ltcp91-4\n"
+    ".reloc .Ltcp90+1851,R_X86_64_PLT32,.Ltcp93-4\n"
+    ".reloc .Ltcp90+1887,R_X86_64_PC32,.Ltcp101-4\n"
+    ".reloc .Ltcp90+1900,R_X86_64_PLT32,.Ltcp91-4\n"
+    ".section .text.tcp.91,\"ax\",%progbits\n"
     ".balign 16\n"
-    ".Ltcp90:\n"
+    ".Ltcp91:\n"
     ".type \"core::fmt::formatter::Formatter::write_indented::<#b0b7e8f0682f909d>\",%function\n"
     ".size \"core::fmt::formatter::Formatter::write_indented::<#b0b7e8f0682f909d>\",306\n"
     "\"core::fmt::formatter::Formatter::write_indented::<#b0b7e8f0682f909d>\":\n"
@@ -3924,15 +3958,15 @@ __asm__(
     ".octa 0xe6014de375cbff482975c08400000000,0x8348ea894cf6894cff894c004047c641,0xe95d5f415e415d415c415b08c4\n"
     ".octa 0x5f415e415d415c415b08c4834801b000\n"
     ".short 0xc35d\n"
-    ".reloc .Ltcp90+66,R_X86_64_PLT32,.Ltcp91-4\n"
-    ".reloc .Ltcp90+147,R_X86_64_PC32,.Ltcp54+8\n"
-    ".reloc .Ltcp90+160,R_X86_64_PLT32,.Ltcp91-4\n"
-    ".reloc .Ltcp90+227,R_X86_64_PC32,.Ltcp54+8\n"
-    ".reloc .Ltcp90+240,R_X86_64_PLT32,.Ltcp91-4\n"
-    ".reloc .Ltcp90+285,R_X86_64_PLT32,.Ltcp91-4\n"
-    ".section .text.tcp.91,\"ax\",%progbits\n"
+    ".reloc .Ltcp91+66,R_X86_64_PLT32,.Ltcp92-4\n"
+    ".reloc .Ltcp91+147,R_X86_64_PC32,.Ltcp55+8\n"
+    ".reloc .Ltcp91+160,R_X86_64_PLT32,.Ltcp92-4\n"
+    ".reloc .Ltcp91+227,R_X86_64_PC32,.Ltcp55+8\n"
+    ".reloc .Ltcp91+240,R_X86_64_PLT32,.Ltcp92-4\n"
+    ".reloc .Ltcp91+285,R_X86_64_PLT32,.Ltcp92-4\n"
+    ".section .text.tcp.92,\"ax\",%progbits\n"
     ".balign 16\n"
-    ".Ltcp91:\n"
+    ".Ltcp92:\n"
     ".type \"core::fmt::formatter::Formatter::write_raw::<#b0b7e8f0682f909d>\",%function\n"
     ".size \"core::fmt::formatter::Formatter::write_raw::<#b0b7e8f0682f909d>\",706\n"
     "\"core::fmt::formatter::Formatter::write_raw::<#b0b7e8f0682f909d>\":\n"
@@ -3956,10 +3990,10 @@ __asm__(
     ".octa 0x48fffffedae9ffffff69840fc2394cef,0xe8d78949d68948f68949fb89,0x4cf6894cffffff54840fc98401b0c189\n"
     ".octa 0xfe70e9105b8b48084b8b48df8948fa89\n"
     ".short 0xffff\n"
-    ".reloc .Ltcp91+668,R_X86_64_PLT32,.Ltcp92-4\n"
-    ".section .text.tcp.92,\"ax\",%progbits\n"
+    ".reloc .Ltcp92+668,R_X86_64_PLT32,.Ltcp93-4\n"
+    ".section .text.tcp.93,\"ax\",%progbits\n"
     ".balign 16\n"
-    ".Ltcp92:\n"
+    ".Ltcp93:\n"
     ".type \"std_alloc::vec::Vec::grow_amortized::<#d75ad40d6e24f1b1>\",%function\n"
     ".size \"std_alloc::vec::Vec::grow_amortized::<#d75ad40d6e24f1b1>\",544\n"
     "\"std_alloc::vec::Vec::grow_amortized::<#d75ad40d6e24f1b1>\":\n"
@@ -3978,9 +4012,9 @@ __asm__(
     ".octa 0x801f0fc189481b7403e08349c1,0xc8ff49c1ff480b0c88440e0cb60f4400,0x66ffffff14870ffcf88348d02948ef75\n"
     ".octa 0xb4488010e44b60f0b04880e04b60f90,0x88030e44b60f020b4488020e44b60f01,0xfffee2e9d575ca394804c18348030b44\n"
     ".byte 0xff\n"
-    ".section .text.tcp.93,\"ax\",%progbits\n"
+    ".section .text.tcp.94,\"ax\",%progbits\n"
     ".balign 16\n"
-    ".Ltcp93:\n"
+    ".Ltcp94:\n"
     ".type \"kit_report::report::push_end_line::<#fc995fe602e3aacb>\",%function\n"
     ".size \"kit_report::report::push_end_line::<#fc995fe602e3aacb>\",248\n"
     "\"kit_report::report::push_end_line::<#fc995fe602e3aacb>\":\n"
@@ -3990,14 +4024,14 @@ __asm__(
     ".octa 0x48052454b60f3875c08401b540000000,0x8b482475c08400000000e8f6894cdf89,0x4c6138b482274c13948104b8b480843\n"
     ".octa 0x104b894808438948138948c0ff480a02,0x1bec35d5e415b50c48348e889ed31,0x8b48e474c08400000000e8df89480000\n"
     ".quad 0xc3eb104b8b480843\n"
-    ".reloc .Ltcp93+54,R_X86_64_PC32,.Ltcp54+44\n"
-    ".reloc .Ltcp93+85,R_X86_64_PC32,.Ltcp103-4\n"
-    ".reloc .Ltcp93+143,R_X86_64_PLT32,.Ltcp94-4\n"
-    ".reloc .Ltcp93+166,R_X86_64_PLT32,.Ltcp95-4\n"
-    ".reloc .Ltcp93+230,R_X86_64_PLT32,.Ltcp85-4\n"
-    ".section .text.tcp.94,\"ax\",%progbits\n"
+    ".reloc .Ltcp94+54,R_X86_64_PC32,.Ltcp55+44\n"
+    ".reloc .Ltcp94+85,R_X86_64_PC32,.Ltcp104-4\n"
+    ".reloc .Ltcp94+143,R_X86_64_PLT32,.Ltcp95-4\n"
+    ".reloc .Ltcp94+166,R_X86_64_PLT32,.Ltcp96-4\n"
+    ".reloc .Ltcp94+230,R_X86_64_PLT32,.Ltcp86-4\n"
+    ".section .text.tcp.95,\"ax\",%progbits\n"
     ".balign 16\n"
-    ".Ltcp94:\n"
+    ".Ltcp95:\n"
     ".type \"std_alloc::string::String::write_fmt::<#63f633939ab7fc33>\",%function\n"
     ".size \"std_alloc::string::String::write_fmt::<#63f633939ab7fc33>\",2548\n"
     "\"std_alloc::string::String::write_fmt::<#63f633939ab7fc33>\":\n"
@@ -4073,26 +4107,26 @@ __asm__(
     ".quad 0xb008728948fffffc\n"
     ".long 0xfc25e901\n"
     ".short 0xffff\n"
-    ".reloc .Ltcp94+434,R_X86_64_PC32,.Ltcp135-4\n"
-    ".reloc .Ltcp94+441,R_X86_64_PC32,.Ltcp136-4\n"
-    ".reloc .Ltcp94+800,R_X86_64_PC32,.Ltcp185-4\n"
-    ".reloc .Ltcp94+811,R_X86_64_PC32,.Ltcp186-4\n"
-    ".reloc .Ltcp94+1318,R_X86_64_PC32,.Ltcp102+60\n"
-    ".reloc .Ltcp94+1329,R_X86_64_PC32,.Ltcp187-4\n"
-    ".reloc .Ltcp94+1758,R_X86_64_PLT32,.Ltcp85-4\n"
-    ".reloc .Ltcp94+1805,R_X86_64_PLT32,.Ltcp78-4\n"
-    ".reloc .Ltcp94+1836,R_X86_64_PLT32,.Ltcp85-4\n"
-    ".reloc .Ltcp94+1882,R_X86_64_PLT32,.Ltcp78-4\n"
-    ".reloc .Ltcp94+2039,R_X86_64_PLT32,.Ltcp85-4\n"
-    ".reloc .Ltcp94+2075,R_X86_64_PLT32,.Ltcp78-4\n"
-    ".reloc .Ltcp94+2110,R_X86_64_PLT32,.Ltcp85-4\n"
-    ".reloc .Ltcp94+2160,R_X86_64_PLT32,.Ltcp78-4\n"
-    ".reloc .Ltcp94+2310,R_X86_64_PLT32,.Ltcp85-4\n"
-    ".reloc .Ltcp94+2347,R_X86_64_PLT32,.Ltcp78-4\n"
-    ".reloc .Ltcp94+2410,R_X86_64_PLT32,.Ltcp85-4\n"
-    ".section .text.tcp.95,\"ax\",%progbits\n"
+    ".reloc .Ltcp95+434,R_X86_64_PC32,.Ltcp136-4\n"
+    ".reloc .Ltcp95+441,R_X86_64_PC32,.Ltcp137-4\n"
+    ".reloc .Ltcp95+800,R_X86_64_PC32,.Ltcp186-4\n"
+    ".reloc .Ltcp95+811,R_X86_64_PC32,.Ltcp187-4\n"
+    ".reloc .Ltcp95+1318,R_X86_64_PC32,.Ltcp103+60\n"
+    ".reloc .Ltcp95+1329,R_X86_64_PC32,.Ltcp188-4\n"
+    ".reloc .Ltcp95+1758,R_X86_64_PLT32,.Ltcp86-4\n"
+    ".reloc .Ltcp95+1805,R_X86_64_PLT32,.Ltcp79-4\n"
+    ".reloc .Ltcp95+1836,R_X86_64_PLT32,.Ltcp86-4\n"
+    ".reloc .Ltcp95+1882,R_X86_64_PLT32,.Ltcp79-4\n"
+    ".reloc .Ltcp95+2039,R_X86_64_PLT32,.Ltcp86-4\n"
+    ".reloc .Ltcp95+2075,R_X86_64_PLT32,.Ltcp79-4\n"
+    ".reloc .Ltcp95+2110,R_X86_64_PLT32,.Ltcp86-4\n"
+    ".reloc .Ltcp95+2160,R_X86_64_PLT32,.Ltcp79-4\n"
+    ".reloc .Ltcp95+2310,R_X86_64_PLT32,.Ltcp86-4\n"
+    ".reloc .Ltcp95+2347,R_X86_64_PLT32,.Ltcp79-4\n"
+    ".reloc .Ltcp95+2410,R_X86_64_PLT32,.Ltcp86-4\n"
+    ".section .text.tcp.96,\"ax\",%progbits\n"
     ".balign 16\n"
-    ".Ltcp95:\n"
+    ".Ltcp96:\n"
     ".type \"kit_report::report::push_counts::<#fc995fe602e3aacb>\",%function\n"
     ".size \"kit_report::report::push_counts::<#fc995fe602e3aacb>\",2133\n"
     "\"kit_report::report::push_counts::<#fc995fe602e3aacb>\":\n"
@@ -4147,44 +4181,44 @@ __asm__(
     ".octa 0x4803110f104b110f70244c290f602444,0x4c01b01574cd39491a74ed854d084b8b,0x97fbf293c80420b8b4819761b72e939\n"
     ".octa 0x4801b0086b894c0676e9394c01b00deb,0x5d5f415e415d415c415b00000168c481\n"
     ".byte 0xc3\n"
-    ".reloc .Ltcp95+119,R_X86_64_PC32,.Ltcp156-4\n"
-    ".reloc .Ltcp95+126,R_X86_64_PC32,.Ltcp157-4\n"
-    ".reloc .Ltcp95+140,R_X86_64_PC32,.Ltcp177-4\n"
-    ".reloc .Ltcp95+183,R_X86_64_PC32,.Ltcp178-4\n"
-    ".reloc .Ltcp95+226,R_X86_64_PC32,.Ltcp179-4\n"
-    ".reloc .Ltcp95+266,R_X86_64_PC32,.Ltcp180-4\n"
-    ".reloc .Ltcp95+306,R_X86_64_PC32,.Ltcp181-4\n"
-    ".reloc .Ltcp95+349,R_X86_64_PC32,.Ltcp182-4\n"
-    ".reloc .Ltcp95+578,R_X86_64_PLT32,.Ltcp80-4\n"
-    ".reloc .Ltcp95+750,R_X86_64_PLT32,.Ltcp80-4\n"
-    ".reloc .Ltcp95+850,R_X86_64_PC32,.Ltcp179-4\n"
-    ".reloc .Ltcp95+903,R_X86_64_PLT32,.Ltcp96-4\n"
-    ".reloc .Ltcp95+1003,R_X86_64_PC32,.Ltcp180-4\n"
-    ".reloc .Ltcp95+1054,R_X86_64_PLT32,.Ltcp96-4\n"
-    ".reloc .Ltcp95+1154,R_X86_64_PC32,.Ltcp181-4\n"
-    ".reloc .Ltcp95+1197,R_X86_64_PLT32,.Ltcp85-4\n"
-    ".reloc .Ltcp95+1227,R_X86_64_PC32,.Ltcp178-4\n"
-    ".reloc .Ltcp95+1240,R_X86_64_PLT32,.Ltcp78-4\n"
-    ".reloc .Ltcp95+1266,R_X86_64_PLT32,.Ltcp85-4\n"
-    ".reloc .Ltcp95+1296,R_X86_64_PC32,.Ltcp179-4\n"
-    ".reloc .Ltcp95+1309,R_X86_64_PLT32,.Ltcp78-4\n"
-    ".reloc .Ltcp95+1364,R_X86_64_PLT32,.Ltcp80-4\n"
-    ".reloc .Ltcp95+1464,R_X86_64_PC32,.Ltcp182-4\n"
-    ".reloc .Ltcp95+1504,R_X86_64_PLT32,.Ltcp85-4\n"
-    ".reloc .Ltcp95+1534,R_X86_64_PC32,.Ltcp180-4\n"
-    ".reloc .Ltcp95+1547,R_X86_64_PLT32,.Ltcp78-4\n"
-    ".reloc .Ltcp95+1729,R_X86_64_PLT32,.Ltcp85-4\n"
-    ".reloc .Ltcp95+1814,R_X86_64_PC32,.Ltcp181-4\n"
-    ".reloc .Ltcp95+1827,R_X86_64_PLT32,.Ltcp78-4\n"
-    ".reloc .Ltcp95+1853,R_X86_64_PLT32,.Ltcp85-4\n"
-    ".reloc .Ltcp95+1883,R_X86_64_PC32,.Ltcp182-4\n"
-    ".reloc .Ltcp95+1896,R_X86_64_PLT32,.Ltcp78-4\n"
-    ".reloc .Ltcp95+1922,R_X86_64_PLT32,.Ltcp85-4\n"
-    ".reloc .Ltcp95+1960,R_X86_64_PLT32,.Ltcp78-4\n"
-    ".reloc .Ltcp95+2013,R_X86_64_PLT32,.Ltcp85-4\n"
-    ".section .text.tcp.96,\"ax\",%progbits\n"
+    ".reloc .Ltcp96+119,R_X86_64_PC32,.Ltcp157-4\n"
+    ".reloc .Ltcp96+126,R_X86_64_PC32,.Ltcp158-4\n"
+    ".reloc .Ltcp96+140,R_X86_64_PC32,.Ltcp178-4\n"
+    ".reloc .Ltcp96+183,R_X86_64_PC32,.Ltcp179-4\n"
+    ".reloc .Ltcp96+226,R_X86_64_PC32,.Ltcp180-4\n"
+    ".reloc .Ltcp96+266,R_X86_64_PC32,.Ltcp181-4\n"
+    ".reloc .Ltcp96+306,R_X86_64_PC32,.Ltcp182-4\n"
+    ".reloc .Ltcp96+349,R_X86_64_PC32,.Ltcp183-4\n"
+    ".reloc .Ltcp96+578,R_X86_64_PLT32,.Ltcp81-4\n"
+    ".reloc .Ltcp96+750,R_X86_64_PLT32,.Ltcp81-4\n"
+    ".reloc .Ltcp96+850,R_X86_64_PC32,.Ltcp180-4\n"
+    ".reloc .Ltcp96+903,R_X86_64_PLT32,.Ltcp97-4\n"
+    ".reloc .Ltcp96+1003,R_X86_64_PC32,.Ltcp181-4\n"
+    ".reloc .Ltcp96+1054,R_X86_64_PLT32,.Ltcp97-4\n"
+    ".reloc .Ltcp96+1154,R_X86_64_PC32,.Ltcp182-4\n"
+    ".reloc .Ltcp96+1197,R_X86_64_PLT32,.Ltcp86-4\n"
+    ".reloc .Ltcp96+1227,R_X86_64_PC32,.Ltcp179-4\n"
+    ".reloc .Ltcp96+1240,R_X86_64_PLT32,.Ltcp79-4\n"
+    ".reloc .Ltcp96+1266,R_X86_64_PLT32,.Ltcp86-4\n"
+    ".reloc .Ltcp96+1296,R_X86_64_PC32,.Ltcp180-4\n"
+    ".reloc .Ltcp96+1309,R_X86_64_PLT32,.Ltcp79-4\n"
+    ".reloc .Ltcp96+1364,R_X86_64_PLT32,.Ltcp81-4\n"
+    ".reloc .Ltcp96+1464,R_X86_64_PC32,.Ltcp183-4\n"
+    ".reloc .Ltcp96+1504,R_X86_64_PLT32,.Ltcp86-4\n"
+    ".reloc .Ltcp96+1534,R_X86_64_PC32,.Ltcp181-4\n"
+    ".reloc .Ltcp96+1547,R_X86_64_PLT32,.Ltcp79-4\n"
+    ".reloc .Ltcp96+1729,R_X86_64_PLT32,.Ltcp86-4\n"
+    ".reloc .Ltcp96+1814,R_X86_64_PC32,.Ltcp182-4\n"
+    ".reloc .Ltcp96+1827,R_X86_64_PLT32,.Ltcp79-4\n"
+    ".reloc .Ltcp96+1853,R_X86_64_PLT32,.Ltcp86-4\n"
+    ".reloc .Ltcp96+1883,R_X86_64_PC32,.Ltcp183-4\n"
+    ".reloc .Ltcp96+1896,R_X86_64_PLT32,.Ltcp79-4\n"
+    ".reloc .Ltcp96+1922,R_X86_64_PLT32,.Ltcp86-4\n"
+    ".reloc .Ltcp96+1960,R_X86_64_PLT32,.Ltcp79-4\n"
+    ".reloc .Ltcp96+2013,R_X86_64_PLT32,.Ltcp86-4\n"
+    ".section .text.tcp.97,\"ax\",%progbits\n"
     ".balign 16\n"
-    ".Ltcp96:\n"
+    ".Ltcp97:\n"
     ".type \"core::fmt::formatter::Formatter::write_piece::<#9759a26100429c7f>\",%function\n"
     ".size \"core::fmt::formatter::Formatter::write_piece::<#9759a26100429c7f>\",367\n"
     "\"core::fmt::formatter::Formatter::write_piece::<#9759a26100429c7f>\":\n"
@@ -4202,11 +4236,11 @@ __asm__(
     ".quad 0x894c107b8b4c0873\n"
     ".long 0xea894ce6\n"
     ".short 0xa3eb\n"
-    ".reloc .Ltcp96+320,R_X86_64_PLT32,.Ltcp78-4\n"
-    ".reloc .Ltcp96+339,R_X86_64_PLT32,.Ltcp85-4\n"
-    ".section .text.tcp.97,\"ax\",%progbits\n"
+    ".reloc .Ltcp97+320,R_X86_64_PLT32,.Ltcp79-4\n"
+    ".reloc .Ltcp97+339,R_X86_64_PLT32,.Ltcp86-4\n"
+    ".section .text.tcp.98,\"ax\",%progbits\n"
     ".balign 16\n"
-    ".Ltcp97:\n"
+    ".Ltcp98:\n"
     ".globl tcp_web_list\n"
     ".hidden tcp_web_list\n"
     ".type tcp_web_list,%function\n"
@@ -4296,37 +4330,37 @@ __asm__(
     ".octa 0xfd04850fca3948ef75c1394804c08348\n"
     ".quad 0xfffb2de9c031ffff\n"
     ".byte 0xff\n"
-    ".reloc .Ltcp97+200,R_X86_64_PC32,.Ltcp0+1180\n"
-    ".reloc .Ltcp97+345,R_X86_64_PLT32,.Ltcp1-4\n"
-    ".reloc .Ltcp97+566,R_X86_64_PLT32,.Ltcp2-4\n"
-    ".reloc .Ltcp97+677,R_X86_64_PLT32,.Ltcp2-4\n"
-    ".reloc .Ltcp97+746,R_X86_64_PLT32,.Ltcp5-4\n"
-    ".reloc .Ltcp97+786,R_X86_64_PLT32,.Ltcp5-4\n"
-    ".reloc .Ltcp97+830,R_X86_64_PLT32,.Ltcp7-4\n"
-    ".reloc .Ltcp97+889,R_X86_64_PC32,.Ltcp103-4\n"
-    ".reloc .Ltcp97+997,R_X86_64_PLT32,.Ltcp11-4\n"
-    ".reloc .Ltcp97+1148,R_X86_64_PLT32,.Ltcp14-4\n"
-    ".reloc .Ltcp97+1251,R_X86_64_PLT32,.Ltcp1-4\n"
-    ".reloc .Ltcp97+1336,R_X86_64_PLT32,.Ltcp2-4\n"
-    ".reloc .Ltcp97+1356,R_X86_64_PC32,.Ltcp103-4\n"
-    ".reloc .Ltcp97+1369,R_X86_64_PLT32,.Ltcp12-4\n"
-    ".reloc .Ltcp97+1431,R_X86_64_PLT32,.Ltcp25-4\n"
-    ".reloc .Ltcp97+1469,R_X86_64_PLT32,.Ltcp25-4\n"
-    ".reloc .Ltcp97+1520,R_X86_64_PC32,.Ltcp130-4\n"
-    ".reloc .Ltcp97+1563,R_X86_64_PC32,.Ltcp131-4\n"
-    ".reloc .Ltcp97+1606,R_X86_64_PC32,.Ltcp100-4\n"
-    ".reloc .Ltcp97+2110,R_X86_64_PLT32,.Ltcp11-4\n"
-    ".reloc .Ltcp97+2304,R_X86_64_PLT32,.Ltcp11-4\n"
-    ".reloc .Ltcp97+2690,R_X86_64_PLT32,.Ltcp25-4\n"
-    ".reloc .Ltcp97+3057,R_X86_64_PC32,.Ltcp131-4\n"
-    ".reloc .Ltcp97+3070,R_X86_64_PLT32,.Ltcp12-4\n"
-    ".reloc .Ltcp97+3096,R_X86_64_PLT32,.Ltcp25-4\n"
-    ".reloc .Ltcp97+3153,R_X86_64_PC32,.Ltcp100-4\n"
-    ".reloc .Ltcp97+3166,R_X86_64_PLT32,.Ltcp12-4\n"
-    ".reloc .Ltcp97+3246,R_X86_64_PLT32,.Ltcp25-4\n"
-    ".section .text.tcp.98,\"ax\",%progbits\n"
+    ".reloc .Ltcp98+200,R_X86_64_PC32,.Ltcp0+2188\n"
+    ".reloc .Ltcp98+345,R_X86_64_PLT32,.Ltcp1-4\n"
+    ".reloc .Ltcp98+566,R_X86_64_PLT32,.Ltcp2-4\n"
+    ".reloc .Ltcp98+677,R_X86_64_PLT32,.Ltcp2-4\n"
+    ".reloc .Ltcp98+746,R_X86_64_PLT32,.Ltcp6-4\n"
+    ".reloc .Ltcp98+786,R_X86_64_PLT32,.Ltcp6-4\n"
+    ".reloc .Ltcp98+830,R_X86_64_PLT32,.Ltcp8-4\n"
+    ".reloc .Ltcp98+889,R_X86_64_PC32,.Ltcp104-4\n"
+    ".reloc .Ltcp98+997,R_X86_64_PLT32,.Ltcp12-4\n"
+    ".reloc .Ltcp98+1148,R_X86_64_PLT32,.Ltcp15-4\n"
+    ".reloc .Ltcp98+1251,R_X86_64_PLT32,.Ltcp1-4\n"
+    ".reloc .Ltcp98+1336,R_X86_64_PLT32,.Ltcp2-4\n"
+    ".reloc .Ltcp98+1356,R_X86_64_PC32,.Ltcp104-4\n"
+    ".reloc .Ltcp98+1369,R_X86_64_PLT32,.Ltcp13-4\n"
+    ".reloc .Ltcp98+1431,R_X86_64_PLT32,.Ltcp26-4\n"
+    ".reloc .Ltcp98+1469,R_X86_64_PLT32,.Ltcp26-4\n"
+    ".reloc .Ltcp98+1520,R_X86_64_PC32,.Ltcp131-4\n"
+    ".reloc .Ltcp98+1563,R_X86_64_PC32,.Ltcp132-4\n"
+    ".reloc .Ltcp98+1606,R_X86_64_PC32,.Ltcp101-4\n"
+    ".reloc .Ltcp98+2110,R_X86_64_PLT32,.Ltcp12-4\n"
+    ".reloc .Ltcp98+2304,R_X86_64_PLT32,.Ltcp12-4\n"
+    ".reloc .Ltcp98+2690,R_X86_64_PLT32,.Ltcp26-4\n"
+    ".reloc .Ltcp98+3057,R_X86_64_PC32,.Ltcp132-4\n"
+    ".reloc .Ltcp98+3070,R_X86_64_PLT32,.Ltcp13-4\n"
+    ".reloc .Ltcp98+3096,R_X86_64_PLT32,.Ltcp26-4\n"
+    ".reloc .Ltcp98+3153,R_X86_64_PC32,.Ltcp101-4\n"
+    ".reloc .Ltcp98+3166,R_X86_64_PLT32,.Ltcp13-4\n"
+    ".reloc .Ltcp98+3246,R_X86_64_PLT32,.Ltcp26-4\n"
+    ".section .text.tcp.99,\"ax\",%progbits\n"
     ".balign 16\n"
-    ".Ltcp98:\n"
+    ".Ltcp99:\n"
     ".globl tcp_web_replay\n"
     ".hidden tcp_web_replay\n"
     ".type tcp_web_replay,%function\n"
@@ -4373,495 +4407,496 @@ __asm__(
     ".octa 0x20c08349010c110f42f00144110f4210,0x46840f1cc2f6b674c23948e175c0394c,0x48b44fce08348d08948c18948ffffff\n"
     ".octa 0x3948ef75c8394804c183480f0489440e\n"
     ".quad 0xffffff21e98d74c2\n"
-    ".reloc .Ltcp98+176,R_X86_64_PLT32,.Ltcp26-4\n"
-    ".reloc .Ltcp98+378,R_X86_64_PLT32,.Ltcp33-4\n"
-    ".reloc .Ltcp98+439,R_X86_64_PLT32,.Ltcp33-4\n"
-    ".reloc .Ltcp98+695,R_X86_64_PLT32,.Ltcp34-4\n"
-    ".reloc .Ltcp98+760,R_X86_64_PLT32,.Ltcp93-4\n"
-    ".reloc .Ltcp98+790,R_X86_64_PLT32,.Ltcp93-4\n"
-    ".reloc .Ltcp98+858,R_X86_64_PLT32,.Ltcp89-4\n"
-    ".section .rodata.tcp.99,\"a\",%progbits\n"
-    ".balign 1\n"
-    ".Ltcp99:\n"
-    ".byte 0x2d\n"
+    ".reloc .Ltcp99+176,R_X86_64_PLT32,.Ltcp27-4\n"
+    ".reloc .Ltcp99+378,R_X86_64_PLT32,.Ltcp34-4\n"
+    ".reloc .Ltcp99+439,R_X86_64_PLT32,.Ltcp34-4\n"
+    ".reloc .Ltcp99+695,R_X86_64_PLT32,.Ltcp35-4\n"
+    ".reloc .Ltcp99+760,R_X86_64_PLT32,.Ltcp94-4\n"
+    ".reloc .Ltcp99+790,R_X86_64_PLT32,.Ltcp94-4\n"
+    ".reloc .Ltcp99+858,R_X86_64_PLT32,.Ltcp90-4\n"
     ".section .rodata.tcp.100,\"a\",%progbits\n"
     ".balign 1\n"
     ".Ltcp100:\n"
-    ".byte 0xa\n"
+    ".byte 0x2d\n"
     ".section .rodata.tcp.101,\"a\",%progbits\n"
     ".balign 1\n"
     ".Ltcp101:\n"
+    ".byte 0xa\n"
     ".section .rodata.tcp.102,\"a\",%progbits\n"
-    ".balign 8\n"
+    ".balign 1\n"
     ".Ltcp102:\n"
+    ".section .rodata.tcp.103,\"a\",%progbits\n"
+    ".balign 8\n"
+    ".Ltcp103:\n"
     ".octa 0x34312065766f62612074666968732061,0x29332e32202c33323337204346522820,0x20657265687765736c652d7465736572\n"
     ".octa 0x646e6f636573202c342e372e30312e33,0x70000000000000009,0x70000000000000005\n"
-    ".section .rodata.tcp.103,\"a\",%progbits\n"
-    ".balign 1\n"
-    ".Ltcp103:\n"
-    ".byte 0x20\n"
     ".section .rodata.tcp.104,\"a\",%progbits\n"
     ".balign 1\n"
     ".Ltcp104:\n"
+    ".byte 0x20\n"
+    ".section .rodata.tcp.105,\"a\",%progbits\n"
+    ".balign 1\n"
+    ".Ltcp105:\n"
     ".octa 0x37303630353034303330323031303030,0x35313431333132313131303139303830,0x33323232313230323931383137313631\n"
     ".octa 0x31333033393238323732363235323432,0x39333833373336333533343333333233,0x37343634353434343334323431343034\n"
     ".octa 0x35353435333532353135303539343834,0x33363236313630363935383537353635,0x31373037393638363736363635363436\n"
     ".octa 0x39373837373736373537343733373237,0x37383638353834383338323831383038,0x35393439333932393139303939383838\n"
     ".quad 0x3939383937393639\n"
-    ".section .rodata.tcp.105,\"a\",%progbits\n"
-    ".balign 1\n"
-    ".Ltcp105:\n"
-    ".short 0x4341\n"
-    ".byte 0x4b\n"
     ".section .rodata.tcp.106,\"a\",%progbits\n"
     ".balign 1\n"
     ".Ltcp106:\n"
-    ".long 0x2c4b4341\n"
-    ".short 0x5350\n"
-    ".byte 0x48\n"
+    ".short 0x4341\n"
+    ".byte 0x4b\n"
     ".section .rodata.tcp.107,\"a\",%progbits\n"
     ".balign 1\n"
     ".Ltcp107:\n"
-    ".short 0x5953\n"
-    ".byte 0x4e\n"
+    ".long 0x2c4b4341\n"
+    ".short 0x5350\n"
+    ".byte 0x48\n"
     ".section .rodata.tcp.108,\"a\",%progbits\n"
     ".balign 1\n"
     ".Ltcp108:\n"
-    ".long 0x2c4b4341\n"
     ".short 0x5953\n"
     ".byte 0x4e\n"
     ".section .rodata.tcp.109,\"a\",%progbits\n"
     ".balign 1\n"
     ".Ltcp109:\n"
     ".long 0x2c4b4341\n"
-    ".short 0x4946\n"
+    ".short 0x5953\n"
     ".byte 0x4e\n"
     ".section .rodata.tcp.110,\"a\",%progbits\n"
     ".balign 1\n"
     ".Ltcp110:\n"
     ".long 0x2c4b4341\n"
-    ".short 0x5352\n"
-    ".byte 0x54\n"
+    ".short 0x4946\n"
+    ".byte 0x4e\n"
     ".section .rodata.tcp.111,\"a\",%progbits\n"
     ".balign 1\n"
     ".Ltcp111:\n"
-    ".short 0x5743\n"
-    ".byte 0x52\n"
+    ".long 0x2c4b4341\n"
+    ".short 0x5352\n"
+    ".byte 0x54\n"
     ".section .rodata.tcp.112,\"a\",%progbits\n"
     ".balign 1\n"
     ".Ltcp112:\n"
-    ".short 0x4345\n"
-    ".byte 0x45\n"
+    ".short 0x5743\n"
+    ".byte 0x52\n"
     ".section .rodata.tcp.113,\"a\",%progbits\n"
     ".balign 1\n"
     ".Ltcp113:\n"
-    ".short 0x5255\n"
-    ".byte 0x47\n"
+    ".short 0x4345\n"
+    ".byte 0x45\n"
     ".section .rodata.tcp.114,\"a\",%progbits\n"
     ".balign 1\n"
     ".Ltcp114:\n"
-    ".short 0x5350\n"
-    ".byte 0x48\n"
+    ".short 0x5255\n"
+    ".byte 0x47\n"
     ".section .rodata.tcp.115,\"a\",%progbits\n"
     ".balign 1\n"
     ".Ltcp115:\n"
-    ".short 0x5352\n"
-    ".byte 0x54\n"
+    ".short 0x5350\n"
+    ".byte 0x48\n"
     ".section .rodata.tcp.116,\"a\",%progbits\n"
     ".balign 1\n"
     ".Ltcp116:\n"
-    ".short 0x4946\n"
-    ".byte 0x4e\n"
+    ".short 0x5352\n"
+    ".byte 0x54\n"
     ".section .rodata.tcp.117,\"a\",%progbits\n"
     ".balign 1\n"
     ".Ltcp117:\n"
-    ".byte 0x2c\n"
+    ".short 0x4946\n"
+    ".byte 0x4e\n"
     ".section .rodata.tcp.118,\"a\",%progbits\n"
     ".balign 1\n"
     ".Ltcp118:\n"
-    ".octa 0x332074696b70637420776f646e697720,0x74696177656d6974322074696b706374,0x4b43412d5453414c544e45532d4e5953\n"
-    ".octa 0x20646575657571202074616570657220,0x20646165726e752020746867696c6620\n"
+    ".byte 0x2c\n"
     ".section .rodata.tcp.119,\"a\",%progbits\n"
     ".balign 1\n"
     ".Ltcp119:\n"
-    ".quad 0x736e6f6974706f20\n"
-    ".byte 0x20\n"
+    ".octa 0x332074696b70637420776f646e697720,0x74696177656d6974322074696b706374,0x4b43412d5453414c544e45532d4e5953\n"
+    ".octa 0x20646575657571202074616570657220,0x20646165726e752020746867696c6620,0x223a22646e65222c207374656b636170\n"
+    ".octa 0x6b636f6c42646c4f3a22656d6974222c,0x3a2273646e65222c20747361656c202c\n"
     ".section .rodata.tcp.120,\"a\",%progbits\n"
     ".balign 1\n"
     ".Ltcp120:\n"
-    ".short 0x6f6e\n"
-    ".byte 0x70\n"
+    ".quad 0x736e6f6974706f20\n"
+    ".byte 0x20\n"
     ".section .rodata.tcp.121,\"a\",%progbits\n"
     ".balign 1\n"
     ".Ltcp121:\n"
-    ".short 0x7377\n"
-    ".byte 0x3a\n"
+    ".short 0x6f6e\n"
+    ".byte 0x70\n"
     ".section .rodata.tcp.122,\"a\",%progbits\n"
     ".balign 1\n"
     ".Ltcp122:\n"
-    ".long 0x6b636173\n"
-    ".short 0x6b6f\n"
+    ".short 0x7377\n"
+    ".byte 0x3a\n"
     ".section .rodata.tcp.123,\"a\",%progbits\n"
     ".balign 1\n"
     ".Ltcp123:\n"
     ".long 0x6b636173\n"
-    ".byte 0x3a\n"
+    ".short 0x6b6f\n"
     ".section .rodata.tcp.124,\"a\",%progbits\n"
     ".balign 1\n"
     ".Ltcp124:\n"
-    ".quad 0x656d726f666c616d\n"
-    ".short 0x2064\n"
+    ".long 0x6b636173\n"
+    ".byte 0x3a\n"
     ".section .rodata.tcp.125,\"a\",%progbits\n"
     ".balign 1\n"
     ".Ltcp125:\n"
-    ".long 0x4c6f6f54\n"
-    ".short 0x6e6f\n"
-    ".byte 0x67\n"
+    ".quad 0x656d726f666c616d\n"
+    ".short 0x2064\n"
     ".section .rodata.tcp.126,\"a\",%progbits\n"
     ".balign 1\n"
     ".Ltcp126:\n"
-    ".quad 0x6b63656843646142\n"
-    ".short 0x7573\n"
-    ".byte 0x6d\n"
+    ".long 0x4c6f6f54\n"
+    ".short 0x6e6f\n"
+    ".byte 0x67\n"
     ".section .rodata.tcp.127,\"a\",%progbits\n"
     ".balign 1\n"
     ".Ltcp127:\n"
-    ".quad 0x657366664f646142\n"
-    ".byte 0x74\n"
+    ".quad 0x6b63656843646142\n"
+    ".short 0x7573\n"
+    ".byte 0x6d\n"
     ".section .rodata.tcp.128,\"a\",%progbits\n"
     ".balign 1\n"
     ".Ltcp128:\n"
-    ".quad 0x6f6974704f646142\n"
-    ".long 0x7461206e\n"
-    ".byte 0x20\n"
+    ".quad 0x657366664f646142\n"
+    ".byte 0x74\n"
     ".section .rodata.tcp.129,\"a\",%progbits\n"
     ".balign 1\n"
     ".Ltcp129:\n"
-    ".quad 0x6964646150646142\n"
-    ".long 0x6120676e\n"
-    ".short 0x2074\n"
+    ".quad 0x6f6974704f646142\n"
+    ".long 0x7461206e\n"
+    ".byte 0x20\n"
     ".section .rodata.tcp.130,\"a\",%progbits\n"
     ".balign 1\n"
     ".Ltcp130:\n"
-    ".long 0x61746f74\n"
-    ".short 0x206c\n"
+    ".quad 0x6964646150646142\n"
+    ".long 0x6120676e\n"
+    ".short 0x2074\n"
     ".section .rodata.tcp.131,\"a\",%progbits\n"
     ".balign 1\n"
     ".Ltcp131:\n"
-    ".quad 0x6d726f666c616d20\n"
-    ".short 0x6465\n"
-    ".byte 0x20\n"
+    ".long 0x61746f74\n"
+    ".short 0x206c\n"
     ".section .rodata.tcp.132,\"a\",%progbits\n"
     ".balign 1\n"
     ".Ltcp132:\n"
-    ".long 0x666e6f63\n"
-    ".short 0x6769\n"
+    ".quad 0x6d726f666c616d20\n"
+    ".short 0x6465\n"
+    ".byte 0x20\n"
     ".section .rodata.tcp.133,\"a\",%progbits\n"
     ".balign 1\n"
     ".Ltcp133:\n"
-    ".long 0x65706572\n"
-    ".short 0x7461\n"
+    ".long 0x666e6f63\n"
+    ".short 0x6769\n"
     ".section .rodata.tcp.134,\"a\",%progbits\n"
     ".balign 1\n"
     ".Ltcp134:\n"
-    ".long 0x696d696c\n"
-    ".byte 0x74\n"
+    ".long 0x65706572\n"
+    ".short 0x7461\n"
     ".section .rodata.tcp.135,\"a\",%progbits\n"
     ".balign 1\n"
     ".Ltcp135:\n"
-    ".byte 0x41\n"
+    ".long 0x696d696c\n"
+    ".byte 0x74\n"
     ".section .rodata.tcp.136,\"a\",%progbits\n"
     ".balign 1\n"
     ".Ltcp136:\n"
-    ".byte 0x42\n"
+    ".byte 0x41\n"
     ".section .rodata.tcp.137,\"a\",%progbits\n"
     ".balign 1\n"
     ".Ltcp137:\n"
-    ".long 0x6e6e6f63\n"
-    ".short 0x6365\n"
-    ".byte 0x74\n"
+    ".byte 0x42\n"
     ".section .rodata.tcp.138,\"a\",%progbits\n"
     ".balign 1\n"
     ".Ltcp138:\n"
-    ".long 0x7473696c\n"
-    ".short 0x6e65\n"
+    ".long 0x6e6e6f63\n"
+    ".short 0x6365\n"
+    ".byte 0x74\n"
     ".section .rodata.tcp.139,\"a\",%progbits\n"
     ".balign 1\n"
     ".Ltcp139:\n"
-    ".long 0x65636572\n"
-    ".short 0x7669\n"
-    ".byte 0x65\n"
+    ".long 0x7473696c\n"
+    ".short 0x6e65\n"
     ".section .rodata.tcp.140,\"a\",%progbits\n"
     ".balign 1\n"
     ".Ltcp140:\n"
-    ".long 0x736f6c63\n"
+    ".long 0x65636572\n"
+    ".short 0x7669\n"
     ".byte 0x65\n"
     ".section .rodata.tcp.141,\"a\",%progbits\n"
     ".balign 1\n"
     ".Ltcp141:\n"
-    ".long 0x726f6261\n"
-    ".byte 0x74\n"
+    ".long 0x736f6c63\n"
+    ".byte 0x65\n"
     ".section .rodata.tcp.142,\"a\",%progbits\n"
     ".balign 1\n"
     ".Ltcp142:\n"
-    ".quad 0x656c776f6e6b6361\n"
-    ".short 0x6764\n"
-    ".byte 0x65\n"
+    ".long 0x726f6261\n"
+    ".byte 0x74\n"
     ".section .rodata.tcp.143,\"a\",%progbits\n"
     ".balign 1\n"
     ".Ltcp143:\n"
-    ".long 0x656d6974\n"
-    ".byte 0x72\n"
+    ".quad 0x656c776f6e6b6361\n"
+    ".short 0x6764\n"
+    ".byte 0x65\n"
     ".section .rodata.tcp.144,\"a\",%progbits\n"
     ".balign 1\n"
     ".Ltcp144:\n"
-    ".octa 0x656764656c776f6e6b63612d74696d65\n"
-    ".long 0x746e656d\n"
+    ".long 0x656d6974\n"
+    ".byte 0x72\n"
     ".section .rodata.tcp.145,\"a\",%progbits\n"
     ".balign 1\n"
     ".Ltcp145:\n"
-    ".quad 0x662d646e65736572\n"
-    ".long 0x74737269\n"
+    ".octa 0x656764656c776f6e6b63612d74696d65\n"
+    ".long 0x746e656d\n"
     ".section .rodata.tcp.146,\"a\",%progbits\n"
     ".balign 1\n"
     ".Ltcp146:\n"
-    ".long 0x696c6564\n"
-    ".short 0x6576\n"
-    ".byte 0x72\n"
+    ".quad 0x662d646e65736572\n"
+    ".long 0x74737269\n"
     ".section .rodata.tcp.147,\"a\",%progbits\n"
     ".balign 1\n"
     ".Ltcp147:\n"
-    ".long 0x616d6164\n"
-    ".short 0x6567\n"
+    ".long 0x696c6564\n"
+    ".short 0x6576\n"
+    ".byte 0x72\n"
     ".section .rodata.tcp.148,\"a\",%progbits\n"
     ".balign 1\n"
     ".Ltcp148:\n"
-    ".quad 0x6d736e6172746572\n"
-    ".short 0x7469\n"
+    ".long 0x616d6164\n"
+    ".short 0x6567\n"
     ".section .rodata.tcp.149,\"a\",%progbits\n"
     ".balign 1\n"
     ".Ltcp149:\n"
-    ".long 0x726f6572\n"
-    ".short 0x6564\n"
-    ".byte 0x72\n"
+    ".quad 0x6d736e6172746572\n"
+    ".short 0x7469\n"
     ".section .rodata.tcp.150,\"a\",%progbits\n"
     ".balign 1\n"
     ".Ltcp150:\n"
-    ".long 0x66696873\n"
-    ".byte 0x74\n"
+    ".long 0x726f6572\n"
+    ".short 0x6564\n"
+    ".byte 0x72\n"
     ".section .rodata.tcp.151,\"a\",%progbits\n"
     ".balign 1\n"
     ".Ltcp151:\n"
-    ".short 0x6b6f\n"
-    ".byte 0x20\n"
+    ".long 0x66696873\n"
+    ".byte 0x74\n"
     ".section .rodata.tcp.152,\"a\",%progbits\n"
     ".balign 1\n"
     ".Ltcp152:\n"
-    ".long 0x6b6f6f74\n"
+    ".short 0x6b6f\n"
     ".byte 0x20\n"
     ".section .rodata.tcp.153,\"a\",%progbits\n"
     ".balign 1\n"
     ".Ltcp153:\n"
-    ".long 0x65747962\n"
-    ".short 0x2073\n"
+    ".long 0x6b6f6f74\n"
+    ".byte 0x20\n"
     ".section .rodata.tcp.154,\"a\",%progbits\n"
     ".balign 1\n"
     ".Ltcp154:\n"
-    ".long 0x68746f6e\n"
-    ".short 0x6e69\n"
-    ".byte 0x67\n"
+    ".long 0x65747962\n"
+    ".short 0x2073\n"
     ".section .rodata.tcp.155,\"a\",%progbits\n"
     ".balign 1\n"
     ".Ltcp155:\n"
-    ".short 0x6e65\n"
-    ".byte 0x64\n"
+    ".long 0x68746f6e\n"
+    ".short 0x6e69\n"
+    ".byte 0x67\n"
     ".section .rodata.tcp.156,\"a\",%progbits\n"
     ".balign 1\n"
     ".Ltcp156:\n"
-    ".short 0x6579\n"
-    ".byte 0x73\n"
+    ".short 0x6e65\n"
+    ".byte 0x64\n"
     ".section .rodata.tcp.157,\"a\",%progbits\n"
     ".balign 1\n"
     ".Ltcp157:\n"
-    ".short 0x6f6e\n"
+    ".short 0x6579\n"
+    ".byte 0x73\n"
     ".section .rodata.tcp.158,\"a\",%progbits\n"
     ".balign 1\n"
     ".Ltcp158:\n"
-    ".long 0x67616c66\n"
-    ".short 0x2073\n"
+    ".short 0x6f6e\n"
     ".section .rodata.tcp.159,\"a\",%progbits\n"
     ".balign 1\n"
     ".Ltcp159:\n"
-    ".long 0x706f7264\n"
-    ".short 0x6570\n"
-    ".byte 0x64\n"
+    ".long 0x67616c66\n"
+    ".short 0x2073\n"
     ".section .rodata.tcp.160,\"a\",%progbits\n"
     ".balign 1\n"
     ".Ltcp160:\n"
-    ".quad 0x65737365636f7270\n"
+    ".long 0x706f7264\n"
+    ".short 0x6570\n"
     ".byte 0x64\n"
     ".section .rodata.tcp.161,\"a\",%progbits\n"
     ".balign 1\n"
     ".Ltcp161:\n"
-    ".long 0x534f4c43\n"
-    ".short 0x4445\n"
+    ".quad 0x65737365636f7270\n"
+    ".byte 0x64\n"
     ".section .rodata.tcp.162,\"a\",%progbits\n"
     ".balign 1\n"
     ".Ltcp162:\n"
-    ".long 0x5453494c\n"
-    ".short 0x4e45\n"
+    ".long 0x534f4c43\n"
+    ".short 0x4445\n"
     ".section .rodata.tcp.163,\"a\",%progbits\n"
     ".balign 1\n"
     ".Ltcp163:\n"
-    ".quad 0x454345522d4e5953\n"
-    ".long 0x44455649\n"
+    ".long 0x5453494c\n"
+    ".short 0x4e45\n"
     ".section .rodata.tcp.164,\"a\",%progbits\n"
     ".balign 1\n"
     ".Ltcp164:\n"
-    ".quad 0x53494c4241545345\n"
-    ".short 0x4548\n"
-    ".byte 0x44\n"
+    ".quad 0x454345522d4e5953\n"
+    ".long 0x44455649\n"
     ".section .rodata.tcp.165,\"a\",%progbits\n"
     ".balign 1\n"
     ".Ltcp165:\n"
-    ".quad 0x544941572d4e4946\n"
-    ".short 0x312d\n"
+    ".quad 0x53494c4241545345\n"
+    ".short 0x4548\n"
+    ".byte 0x44\n"
     ".section .rodata.tcp.166,\"a\",%progbits\n"
     ".balign 1\n"
     ".Ltcp166:\n"
     ".quad 0x544941572d4e4946\n"
-    ".short 0x322d\n"
+    ".short 0x312d\n"
     ".section .rodata.tcp.167,\"a\",%progbits\n"
     ".balign 1\n"
     ".Ltcp167:\n"
-    ".quad 0x41572d45534f4c43\n"
-    ".short 0x5449\n"
+    ".quad 0x544941572d4e4946\n"
+    ".short 0x322d\n"
     ".section .rodata.tcp.168,\"a\",%progbits\n"
     ".balign 1\n"
     ".Ltcp168:\n"
-    ".long 0x534f4c43\n"
-    ".short 0x4e49\n"
-    ".byte 0x47\n"
+    ".quad 0x41572d45534f4c43\n"
+    ".short 0x5449\n"
     ".section .rodata.tcp.169,\"a\",%progbits\n"
     ".balign 1\n"
     ".Ltcp169:\n"
-    ".quad 0x4941572d454d4954\n"
-    ".byte 0x54\n"
+    ".long 0x534f4c43\n"
+    ".short 0x4e49\n"
+    ".byte 0x47\n"
     ".section .rodata.tcp.170,\"a\",%progbits\n"
     ".balign 1\n"
     ".Ltcp170:\n"
-    ".quad 0x6465737566657220\n"
-    ".byte 0x20\n"
+    ".quad 0x4941572d454d4954\n"
+    ".byte 0x54\n"
     ".section .rodata.tcp.171,\"a\",%progbits\n"
     ".balign 1\n"
     ".Ltcp171:\n"
-    ".long 0x656e6f64\n"
+    ".quad 0x6465737566657220\n"
     ".byte 0x20\n"
     ".section .rodata.tcp.172,\"a\",%progbits\n"
     ".balign 1\n"
     ".Ltcp172:\n"
-    ".quad 0x203a74696b706374\n"
-    ".long 0x666e6f63\n"
-    ".short 0x6769\n"
+    ".long 0x656e6f64\n"
     ".byte 0x20\n"
     ".section .rodata.tcp.173,\"a\",%progbits\n"
     ".balign 1\n"
     ".Ltcp173:\n"
-    ".quad 0x65646e652d746f6e\n"
-    ".byte 0x64\n"
+    ".quad 0x203a74696b706374\n"
+    ".long 0x666e6f63\n"
+    ".short 0x6769\n"
+    ".byte 0x20\n"
     ".section .rodata.tcp.174,\"a\",%progbits\n"
     ".balign 1\n"
     ".Ltcp174:\n"
-    ".long 0x6564726f\n"
-    ".short 0x6c72\n"
-    ".byte 0x79\n"
+    ".quad 0x65646e652d746f6e\n"
+    ".byte 0x64\n"
     ".section .rodata.tcp.175,\"a\",%progbits\n"
     ".balign 1\n"
     ".Ltcp175:\n"
-    ".long 0x65736572\n"
-    ".byte 0x74\n"
+    ".long 0x6564726f\n"
+    ".short 0x6c72\n"
+    ".byte 0x79\n"
     ".section .rodata.tcp.176,\"a\",%progbits\n"
     ".balign 1\n"
     ".Ltcp176:\n"
-    ".long 0x726f6261\n"
-    ".short 0x6574\n"
-    ".byte 0x64\n"
+    ".long 0x65736572\n"
+    ".byte 0x74\n"
     ".section .rodata.tcp.177,\"a\",%progbits\n"
     ".balign 1\n"
     ".Ltcp177:\n"
-    ".quad 0x6574706563636120\n"
-    ".short 0x2064\n"
+    ".long 0x726f6261\n"
+    ".short 0x6574\n"
+    ".byte 0x64\n"
     ".section .rodata.tcp.178,\"a\",%progbits\n"
     ".balign 1\n"
     ".Ltcp178:\n"
-    ".quad 0x726576696c656420\n"
-    ".short 0x6465\n"
-    ".byte 0x20\n"
+    ".quad 0x6574706563636120\n"
+    ".short 0x2064\n"
     ".section .rodata.tcp.179,\"a\",%progbits\n"
     ".balign 1\n"
     ".Ltcp179:\n"
-    ".quad 0x657361656c657220\n"
-    ".short 0x2064\n"
+    ".quad 0x726576696c656420\n"
+    ".short 0x6465\n"
+    ".byte 0x20\n"
     ".section .rodata.tcp.180,\"a\",%progbits\n"
     ".balign 1\n"
     ".Ltcp180:\n"
-    ".quad 0x6465726564726f20\n"
-    ".byte 0x20\n"
+    ".quad 0x657361656c657220\n"
+    ".short 0x2064\n"
     ".section .rodata.tcp.181,\"a\",%progbits\n"
     ".balign 1\n"
     ".Ltcp181:\n"
-    ".long 0x6e657320\n"
-    ".short 0x2074\n"
+    ".quad 0x6465726564726f20\n"
+    ".byte 0x20\n"
     ".section .rodata.tcp.182,\"a\",%progbits\n"
     ".balign 1\n"
     ".Ltcp182:\n"
+    ".long 0x6e657320\n"
+    ".short 0x2074\n"
+    ".section .rodata.tcp.183,\"a\",%progbits\n"
+    ".balign 1\n"
+    ".Ltcp183:\n"
     ".long 0x646e6520\n"
     ".short 0x6465\n"
     ".byte 0x20\n"
-    ".section .rodata.tcp.183,\"a\",%progbits\n"
-    ".balign 8\n"
-    ".Ltcp183:\n"
-    ".octa 0x7000000000000000a\n"
-    ".quad 0x8\n"
-    ".section .data.rel.ro.tcp.184,\"aw\",%progbits\n"
+    ".section .rodata.tcp.184,\"a\",%progbits\n"
     ".balign 8\n"
     ".Ltcp184:\n"
-    ".octa 0x0\n"
-    ".quad 0x0\n"
-    ".reloc .Ltcp184+0,R_X86_64_64,.Ltcp148+0\n"
-    ".reloc .Ltcp184+8,R_X86_64_64,.Ltcp149+0\n"
-    ".reloc .Ltcp184+16,R_X86_64_64,.Ltcp118+24\n"
-    ".section .rodata.tcp.185,\"a\",%progbits\n"
+    ".octa 0x7000000000000000a\n"
+    ".quad 0x8\n"
+    ".section .data.rel.ro.tcp.185,\"aw\",%progbits\n"
     ".balign 8\n"
     ".Ltcp185:\n"
+    ".octa 0x0\n"
+    ".quad 0x0\n"
+    ".reloc .Ltcp185+0,R_X86_64_64,.Ltcp149+0\n"
+    ".reloc .Ltcp185+8,R_X86_64_64,.Ltcp150+0\n"
+    ".reloc .Ltcp185+16,R_X86_64_64,.Ltcp119+24\n"
+    ".section .rodata.tcp.186,\"a\",%progbits\n"
+    ".balign 8\n"
+    ".Ltcp186:\n"
     ".octa 0x60000000000000006,0xc0000000000000008,0xa000000000000000b\n"
     ".octa 0xa000000000000000a,0x80000000000000007\n"
     ".quad 0x9\n"
-    ".section .data.rel.ro.tcp.186,\"aw\",%progbits\n"
-    ".balign 8\n"
-    ".Ltcp186:\n"
-    ".octa 0x0,0x0,0x0\n"
-    ".octa 0x0,0x0\n"
-    ".quad 0x0\n"
-    ".reloc .Ltcp186+0,R_X86_64_64,.Ltcp161+0\n"
-    ".reloc .Ltcp186+8,R_X86_64_64,.Ltcp162+0\n"
-    ".reloc .Ltcp186+16,R_X86_64_64,.Ltcp118+32\n"
-    ".reloc .Ltcp186+24,R_X86_64_64,.Ltcp163+0\n"
-    ".reloc .Ltcp186+32,R_X86_64_64,.Ltcp164+0\n"
-    ".reloc .Ltcp186+40,R_X86_64_64,.Ltcp165+0\n"
-    ".reloc .Ltcp186+48,R_X86_64_64,.Ltcp166+0\n"
-    ".reloc .Ltcp186+56,R_X86_64_64,.Ltcp167+0\n"
-    ".reloc .Ltcp186+64,R_X86_64_64,.Ltcp168+0\n"
-    ".reloc .Ltcp186+72,R_X86_64_64,.Ltcp118+40\n"
-    ".reloc .Ltcp186+80,R_X86_64_64,.Ltcp169+0\n"
     ".section .data.rel.ro.tcp.187,\"aw\",%progbits\n"
     ".balign 8\n"
     ".Ltcp187:\n"
+    ".octa 0x0,0x0,0x0\n"
     ".octa 0x0,0x0\n"
-    ".reloc .Ltcp187+0,R_X86_64_64,.Ltcp173+0\n"
-    ".reloc .Ltcp187+8,R_X86_64_64,.Ltcp174+0\n"
-    ".reloc .Ltcp187+16,R_X86_64_64,.Ltcp175+0\n"
-    ".reloc .Ltcp187+24,R_X86_64_64,.Ltcp176+0\n"
+    ".quad 0x0\n"
+    ".reloc .Ltcp187+0,R_X86_64_64,.Ltcp162+0\n"
+    ".reloc .Ltcp187+8,R_X86_64_64,.Ltcp163+0\n"
+    ".reloc .Ltcp187+16,R_X86_64_64,.Ltcp119+32\n"
+    ".reloc .Ltcp187+24,R_X86_64_64,.Ltcp164+0\n"
+    ".reloc .Ltcp187+32,R_X86_64_64,.Ltcp165+0\n"
+    ".reloc .Ltcp187+40,R_X86_64_64,.Ltcp166+0\n"
+    ".reloc .Ltcp187+48,R_X86_64_64,.Ltcp167+0\n"
+    ".reloc .Ltcp187+56,R_X86_64_64,.Ltcp168+0\n"
+    ".reloc .Ltcp187+64,R_X86_64_64,.Ltcp169+0\n"
+    ".reloc .Ltcp187+72,R_X86_64_64,.Ltcp119+40\n"
+    ".reloc .Ltcp187+80,R_X86_64_64,.Ltcp170+0\n"
+    ".section .data.rel.ro.tcp.188,\"aw\",%progbits\n"
+    ".balign 8\n"
+    ".Ltcp188:\n"
+    ".octa 0x0,0x0\n"
+    ".reloc .Ltcp188+0,R_X86_64_64,.Ltcp174+0\n"
+    ".reloc .Ltcp188+8,R_X86_64_64,.Ltcp175+0\n"
+    ".reloc .Ltcp188+16,R_X86_64_64,.Ltcp176+0\n"
+    ".reloc .Ltcp188+24,R_X86_64_64,.Ltcp177+0\n"
     ".popsection\n"
 );
 #elif defined(MACHINE_X86_64)
@@ -4887,6 +4922,24 @@ __asm__(
     ".octa 0x5b400001388000000020200000a,0x10000000000000000,0x20000000000000000\n"
     ".octa 0x30000000000000000,0x3,0xff00000000000000ff\n"
     ".octa 0x1,0x676465202d2074786e202d20616e7520,0x20656e696c203134203a74696b706374\n"
+    ".octa 0x7373696d20657261207374656b636170,0x65687720646570706f7264203a676e69,0x6177206572757470616320656874206e\n"
+    ".octa 0x6f206e6920726f202c6e656b61742073,0x622074656b636170206574656c6f7362,0x657261206863696877202c736b636f6c\n"
+    ".octa 0x435420666f20746e656d676573206f6e,0x4920726f2034765049207265766f2050,0xff00000000000000ff\n"
+    ".octa 0x207461687720746e65732073646e6520,0x616877202c73646962726f6620504354,0x726f7774656e20656874207265766574\n"
+    ".octa 0x7461687720746e657320646e65206f4e,0x20746168742073656c75722065687420,0x6962726f662064656972742065726577\n"
+    ".octa 0x6764756a2073617720676e6968746f4e,0x65727574706163223a22646e696b227b,0xffffffffffffffffff00000000000000\n"
+    ".octa 0xffffffffffffffffffffffffffffff,0x3f3f3fff,0x808080f0\n"
+    ".octa 0xf000f000fffff,0x80008000800080008000800080008000,0x8009800980091fff\n"
+    ".octa 0x30303030,0x57575757,0x65626d756e2065766974616c65725b20\n"
+    ".octa 0x202c676e6968746f6e20746e6573203a,0xf0e0d0c0b0a09080706050401000203,0x6d75736b636568635f676e6f7277222c\n"
+    ".octa 0x6f6e206863696877202c736b636f6c62,0x7020656d61632074616874204e595320,0x303220434652282064657474696d7265\n"
+    ".octa 0x69772073726577736e61204e59532061,0x6c61637320776f646e69772061206874,0x666f204e5953206f6e20746168742065\n"
+    ".octa 0x2c333233372043465228206465726566,0x74207075204e494620726f2074786574,0x7461204e49462065687420646e61202c\n"
+    ".octa 0x29342e33202c33393239204346522820,0x333932392043465228204b4341206f6e,0x34312065766f62612074666968732061\n"
+    ".octa 0x29332e32202c33323337204346522820,0x4e595320666f206e6f6974706f206e61,0x67657320726568746f6e61206e692073\n"
+    ".octa 0x202c33393239204346522820746e656d,0x6220746120676e696464617020656874,0x736e69676562206e6f6974706f206f6e\n"
+    ".octa 0x2074657366666f206174616420656874,0x207369206d75736b6365686320656874,0x74612073616820746e656d6765732061\n"
+    ".octa 0x657479622035313535362074736f6d20,0x29312e33202c33393239204346522820,0x70206e6920747372696620656874202c\n"
     ".octa 0x29312e33202c33393239204346522820,0x29342e33202c33393239204346522820,0x66656463626139383736353433323130\n"
     ".octa 0x20656e696c203134203a74696b706374\n"
     ".section .text.tcp.1,\"ax\",%progbits\n"
@@ -4936,15 +4989,23 @@ __asm__(
     ".section .text.tcp.4,\"ax\",%progbits\n"
     ".balign 16\n"
     ".Ltcp4:\n"
+    ".type \"core::slice::scan::any_in_quarters::<#953750c03e87c3e2>\",%function\n"
+    ".size \"core::slice::scan::any_in_quarters::<#953750c03e87c3e2>\",114\n"
+    "\"core::slice::scan::any_in_quarters::<#953750c03e87c3e2>\":\n"
+    ".octa 0x420f4800000008b908f88348f8428d48,0xf3c0420f4c00000010b84110f88348c8,0x7e0f42f3c86c0f660f7e0ff30f047e0f\n"
+    ".octa 0x147e0ff3c26c0f66f817547e0ff30704,0xf42f3d9740f66da6c0f661e7e0ff30e,0x740f66ca6c0f66f816547e0ff3060c7e\n"
+    ".octa 0x950f0000ffff35c1d70f66cbdb0f66c8\n"
+    ".short 0xc3c0\n"
+    ".section .text.tcp.5,\"ax\",%progbits\n"
+    ".balign 16\n"
+    ".Ltcp5:\n"
     ".type \"core::cmp::slices::groups_equal::<i8,31'core::cmp::numbers::U8PartialEq{}>\",%function\n"
-    ".size \"core::cmp::slices::groups_equal::<i8,31'core::cmp::numbers::U8PartialEq{}>\",523\n"
+    ".size \"core::cmp::slices::groups_equal::<i8,31'core::cmp::numbers::U8PartialEq{}>\",427\n"
     "\"core::cmp::slices::groups_equal::<i8,31'core::cmp::numbers::U8PartialEq{}>\":\n"
     ".octa 0xf6e0f66fc37446e0f662e7708fe8348,0xf66126e0f66fc32446e0f66c8620f66,0xe9c83948d17e0f4866c87e0f4866d062\n"
-    ".octa 0x8348f8468d486e7720fe8348000001d1,0x4110f88348c8420f4800000008b908f8,0xff30f047e0ff3c0420f4c00000010b8\n"
-    ".octa 0x547e0ff307047e0f42f3c86c0f660f7e,0x661a7e0ff30a147e0ff3c26c0f66f837,0x7e0ff3020c7e0f42f3d9740f66da6c0f\n"
-    ".octa 0x66cbdb0f66c8740f66ca6c0f66f83254,0xff34f7341fe834800000158e9c1d70f,0xf3d0740f66126f0ff3104f6f0ff3076f\n"
-    ".octa 0xff3e0374c6f0ff3c1740f6610426f0f,0xf66e1740f66e032646f0ff3f0375c6f,0xc8db0f66cb740f66f0324c6f0ff3e2db\n"
-    ".octa 0x48c03100000103e9c1d70f66ccdb0f66,0x841f0f2e6666666666f189,0x7546f0ff310074c6f0ff307046f0ff3\n"
+    ".octa 0x8948f0894850167720fe834800000171,0xc3013408c4834800000000e8c28948d6,0xf3104f6f0ff3076f0ff34f7341fe8348\n"
+    ".octa 0xc1740f6610426f0ff3d0740f66126f0f,0x646f0ff3f0375c6f0ff3e0374c6f0ff3,0xf0324c6f0ff3e2db0f66e1740f66e032\n"
+    ".octa 0xc1d70f66ccdb0f66c8db0f66cb740f66,0x441f0f66f18948c031000000fbe9,0x7546f0ff310074c6f0ff307046f0ff3\n"
     ".octa 0xe0740f6602246f0ff330075c6f0ff320,0x20024c6f0ff3c1740f661002446f0ff3,0xf663002546f0ff3ccdb0f66ca740f66\n"
     ".octa 0x41c2d70f4466d1db0f66d0db0f66d374,0xc0c1834840c083480e750000fffff881,0x48f189485c7220f983489a773ff98348\n"
     ".octa 0x841f0f2e6666666666c129,0x2146f0ff310074c6f0ff307046f0ff3,0xf66c1740f661002446f0ff3d0740f66\n"
@@ -4953,9 +5014,10 @@ __asm__(
     ".quad 0xc0950f0000ffff35\n"
     ".short 0x134\n"
     ".byte 0xc3\n"
-    ".section .text.tcp.5,\"ax\",%progbits\n"
+    ".reloc .Ltcp5+69,R_X86_64_PLT32,.Ltcp4-4\n"
+    ".section .text.tcp.6,\"ax\",%progbits\n"
     ".balign 16\n"
-    ".Ltcp5:\n"
+    ".Ltcp6:\n"
     ".type \"kit_text::addresses::read_addr\",%function\n"
     ".size \"kit_text::addresses::read_addr\",782\n"
     "\"kit_text::addresses::read_addr\":\n"
@@ -4978,16 +5040,16 @@ __asm__(
     ".quad 0x143c70003\n"
     ".long 0xfdf3e900\n"
     ".short 0xffff\n"
-    ".reloc .Ltcp5+87,R_X86_64_PLT32,.Ltcp2-4\n"
-    ".reloc .Ltcp5+199,R_X86_64_PLT32,.Ltcp2-4\n"
-    ".reloc .Ltcp5+343,R_X86_64_PLT32,.Ltcp2-4\n"
-    ".reloc .Ltcp5+546,R_X86_64_PLT32,.Ltcp6-4\n"
-    ".reloc .Ltcp5+568,R_X86_64_PLT32,.Ltcp6-4\n"
-    ".reloc .Ltcp5+593,R_X86_64_PLT32,.Ltcp6-4\n"
-    ".reloc .Ltcp5+730,R_X86_64_PLT32,.Ltcp2-4\n"
-    ".section .text.tcp.6,\"ax\",%progbits\n"
+    ".reloc .Ltcp6+87,R_X86_64_PLT32,.Ltcp2-4\n"
+    ".reloc .Ltcp6+199,R_X86_64_PLT32,.Ltcp2-4\n"
+    ".reloc .Ltcp6+343,R_X86_64_PLT32,.Ltcp2-4\n"
+    ".reloc .Ltcp6+546,R_X86_64_PLT32,.Ltcp7-4\n"
+    ".reloc .Ltcp6+568,R_X86_64_PLT32,.Ltcp7-4\n"
+    ".reloc .Ltcp6+593,R_X86_64_PLT32,.Ltcp7-4\n"
+    ".reloc .Ltcp6+730,R_X86_64_PLT32,.Ltcp2-4\n"
+    ".section .text.tcp.7,\"ax\",%progbits\n"
     ".balign 16\n"
-    ".Ltcp6:\n"
+    ".Ltcp7:\n"
     ".type \"kit_text::addresses::read_octet\",%function\n"
     ".size \"kit_text::addresses::read_octet\",121\n"
     "\"kit_text::addresses::read_octet\":\n"
@@ -4996,9 +5058,9 @@ __asm__(
     ".octa 0xf4800000100bac0920f00000100f981\n"
     ".quad 0xd231c3d6430fd142\n"
     ".byte 0xc3\n"
-    ".section .text.tcp.7,\"ax\",%progbits\n"
+    ".section .text.tcp.8,\"ax\",%progbits\n"
     ".balign 16\n"
-    ".Ltcp7:\n"
+    ".Ltcp8:\n"
     ".type \"kit_text::bytes::read_bytes::<#244039bd4e0652a3>\",%function\n"
     ".size \"kit_text::bytes::read_bytes::<#244039bd4e0652a3>\",812\n"
     "\"kit_text::bytes::read_bytes::<#244039bd4e0652a3>\":\n"
@@ -5025,16 +5087,16 @@ __asm__(
     ".quad 0xf1894cc2014cdf01\n"
     ".long 0xfffdabe9\n"
     ".byte 0xff\n"
-    ".reloc .Ltcp7+465,R_X86_64_PC32,.Ltcp0+76\n"
-    ".reloc .Ltcp7+485,R_X86_64_PC32,.Ltcp0+92\n"
-    ".reloc .Ltcp7+501,R_X86_64_PC32,.Ltcp0+108\n"
-    ".reloc .Ltcp7+517,R_X86_64_PC32,.Ltcp0+124\n"
-    ".reloc .Ltcp7+545,R_X86_64_PC32,.Ltcp0+140\n"
-    ".reloc .Ltcp7+585,R_X86_64_PC32,.Ltcp0+156\n"
-    ".reloc .Ltcp7+663,R_X86_64_PC32,.Ltcp0+172\n"
-    ".section .text.tcp.8,\"ax\",%progbits\n"
+    ".reloc .Ltcp8+465,R_X86_64_PC32,.Ltcp0+76\n"
+    ".reloc .Ltcp8+485,R_X86_64_PC32,.Ltcp0+92\n"
+    ".reloc .Ltcp8+501,R_X86_64_PC32,.Ltcp0+108\n"
+    ".reloc .Ltcp8+517,R_X86_64_PC32,.Ltcp0+124\n"
+    ".reloc .Ltcp8+545,R_X86_64_PC32,.Ltcp0+140\n"
+    ".reloc .Ltcp8+585,R_X86_64_PC32,.Ltcp0+156\n"
+    ".reloc .Ltcp8+663,R_X86_64_PC32,.Ltcp0+172\n"
+    ".section .text.tcp.9,\"ax\",%progbits\n"
     ".balign 16\n"
-    ".Ltcp8:\n"
+    ".Ltcp9:\n"
     ".type \"tcp_numbers::sums::long_sum\",%function\n"
     ".size \"tcp_numbers::sums::long_sum\",884\n"
     "\"tcp_numbers::sums::long_sum\":\n"
@@ -5058,40 +5120,39 @@ __asm__(
     ".octa 0x8348c93145c07e0f4166fcc6834804c7,0xb70f4508c1c141660fb70f44157202fe,0x1c00144ca0144fec6834802c78348c9\n"
     ".octa 0x89c20108e2c117b60f0a7501fe8348d0\n"
     ".long 0xc3c801d0\n"
-    ".section .text.tcp.9,\"ax\",%progbits\n"
+    ".section .text.tcp.10,\"ax\",%progbits\n"
     ".balign 16\n"
-    ".Ltcp9:\n"
-    ".type \"tcp_wire::options_left::OptionsLeft::next\",%function\n"
-    ".size \"tcp_wire::options_left::OptionsLeft::next\",662\n"
-    "\"tcp_wire::options_left::OptionsLeft::next\":\n"
-    ".octa 0x2444c748d02444290fc0570f50535641,0xec840fc0854808468b4800000000e0,0x83415874c9854d09b60f440e8b480000\n"
-    ".octa 0x902444c748802444290f637501f9,0x45db31c93145db314500000001ba0000,0x8948d02948d10148ce8945d23145c031\n"
-    ".octa 0xfe0244489489024448b48084689480e,0x894d00000001b8d02444290f80244428,0x45cb8945c8894cc0314500000098e9d1\n"
-    ".octa 0x51b60f717401f8834800000085e9ce89,0xc2920f41d03948c0920f4102fa834801,0x44290ffe528d4c02418d4c5975c20845\n"
-    ".octa 0xc38341cb8945000000002404c748f024,0x1d8d4800000142870f03fb8341fe,0xf04fa83e3ff41db01499b1c634e0000\n"
-    ".octa 0x1b34108c3c16618b70f410000012885,0xc03100000170e9c93145c03145d23145,0x8948db31f63145db3145c93145c03145\n"
-    ".octa 0x47894c0a5f896609778844085f884407,0x8b482047110fd02444280f184f894c10,0x4dc35e415b08c4834830478948e02444\n"
-    ".octa 0x3145d2314503b341000000c5850fd285,0xdb894cf65a8d4c00000113e9c93145c0,0x290f0000009f830f04fb83483dc3c148\n"
-    ".octa 0xc02444c748a02444290fb02444,0xbe820f0afa8000000000bbd2314500,0x4dc3ff4900000089840f03ebc1490000\n"
-    ".octa 0x4708b45188b41c93145fee28349da89,0x49a0cc5c894acb0f48f3094c20e3c148,0xc708b4508588b41c0245c894801598d\n"
-    ".octa 0x49a8cc5c894acb0f48f3094c20e3c148,0x75ca394d10c08349c0244c894c02c183,0xf450f7503fa834deb317501c3f641b8\n"
-    ".octa 0x44290f5febc03145d2314502b34108b6,0xdb3105b34100000000902444c7488024,0x4904408b45108b45c93145fffffe20e9\n"
-    ".octa 0xff49a0cc54894eca0f49c2094d20e2c1,0xa824548b4ca0245c8b48c0244c894cc1,0x290fb02444280f2404894cc024448b4c\n"
-    ".octa 0x8b4cdb31d88949c9314504b341f02444,0x2444290ff02444280f902474894c2434\n"
-    ".long 0xfdbfe980\n"
-    ".short 0xffff\n"
-    ".reloc .Ltcp9+222,R_X86_64_PC32,.Ltcp10-4\n"
-    ".section .rodata.tcp.10,\"a\",%progbits\n"
-    ".balign 4\n"
     ".Ltcp10:\n"
-    ".octa 0x0\n"
-    ".reloc .Ltcp10+0,R_X86_64_PC32,.Ltcp9+236\n"
-    ".reloc .Ltcp10+4,R_X86_64_PC32,.Ltcp9+525\n"
-    ".reloc .Ltcp10+8,R_X86_64_PC32,.Ltcp9+343\n"
-    ".reloc .Ltcp10+12,R_X86_64_PC32,.Ltcp9+373\n"
-    ".section .text.tcp.11,\"ax\",%progbits\n"
-    ".balign 16\n"
+    ".type \"tcp_wire::options_left::OptionsLeft::next\",%function\n"
+    ".size \"tcp_wire::options_left::OptionsLeft::next\",590\n"
+    "\"tcp_wire::options_left::OptionsLeft::next\":\n"
+    ".octa 0x2444c748d02444290fc0570f50535641,0xec840fc0854808468b4800000000e0,0x83415874d2854d11b60f440e8b480000\n"
+    ".octa 0x902444c748802444290f637501fa,0x45db31d23145db314500000001ba0000,0x8948d02948d10148d68945c93145c031\n"
+    ".octa 0xfe0244489489024448b48084689480e,0x894d00000001b8d02444290f80244428,0x45d38945d0894cc0314500000098e9ca\n"
+    ".octa 0x51b60f717401f8834800000085e9d689,0xc1920f41d03948c0920f4102fa834801,0x44290ffe4a8d4c02418d4c5975c10845\n"
+    ".octa 0xc38341d38945000000002404c748f024,0x1d8d480000015b870f03fb8341fe,0xf04fa83e3ff41db01499b1c634e0000\n"
+    ".octa 0x1b34108c3c16618b70f410000014185,0xc03100000110e9d23145c03145c93145,0x8948db31f63145db3145d23145c03145\n"
+    ".octa 0x47894c0a5f896609778844085f884407,0x8b482047110fd02444280f1857894c10,0x4dc35e415b08c4834830478948e02444\n"
+    ".octa 0x3145c9314503b341000000de850fc985,0xefe38341d38941000000b3e9d23145c0,0xa02444290fb02444290f3a750afb8341\n"
+    ".octa 0xb841db3100000000c02444c748,0x95850f03fa8368eb2f730afa8000,0x6cebc03145c9314502b34110b60f4500\n"
+    ".octa 0xb02444290f7b7522fa83057412fa8348,0xfac1548b4600000001b841a02444290f,0x4eca0f49da094d20e2c149fec15c8b46\n"
+    ".octa 0xc0ff49f8c18349c02444894c98c45489,0xa8245c8b48a024448b4cd57707f98349,0x290fb02444280f240c894cc0244c8b4c\n"
+    ".octa 0x8b4cdb31d98949d2314504b341f02444,0x2444290ff02444280f902474894c2434,0x902444c748802444290ffffffe1fe980\n"
+    ".quad 0x3105b34100000000\n"
+    ".long 0xfe07e9db\n"
+    ".short 0xffff\n"
+    ".reloc .Ltcp10+222,R_X86_64_PC32,.Ltcp11-4\n"
+    ".section .rodata.tcp.11,\"a\",%progbits\n"
+    ".balign 4\n"
     ".Ltcp11:\n"
+    ".octa 0x0\n"
+    ".reloc .Ltcp11+0,R_X86_64_PC32,.Ltcp10+236\n"
+    ".reloc .Ltcp11+4,R_X86_64_PC32,.Ltcp10+412\n"
+    ".reloc .Ltcp11+8,R_X86_64_PC32,.Ltcp10+343\n"
+    ".reloc .Ltcp11+12,R_X86_64_PC32,.Ltcp10+373\n"
+    ".section .text.tcp.12,\"ax\",%progbits\n"
+    ".balign 16\n"
+    ".Ltcp12:\n"
     ".type \"core::fmt::formatter::Formatter::write_piece::<#a46843f377dcc739>\",%function\n"
     ".size \"core::fmt::formatter::Formatter::write_piece::<#a46843f377dcc739>\",383\n"
     "\"core::fmt::formatter::Formatter::write_piece::<#a46843f377dcc739>\":\n"
@@ -5109,11 +5170,11 @@ __asm__(
     ".quad 0x894c107b8b4c0873\n"
     ".long 0xea894ce6\n"
     ".short 0xa3eb\n"
-    ".reloc .Ltcp11+336,R_X86_64_PLT32,.Ltcp12-4\n"
-    ".reloc .Ltcp11+355,R_X86_64_PLT32,.Ltcp25-4\n"
-    ".section .text.tcp.12,\"ax\",%progbits\n"
+    ".reloc .Ltcp12+336,R_X86_64_PLT32,.Ltcp13-4\n"
+    ".reloc .Ltcp12+355,R_X86_64_PLT32,.Ltcp26-4\n"
+    ".section .text.tcp.13,\"ax\",%progbits\n"
     ".balign 16\n"
-    ".Ltcp12:\n"
+    ".Ltcp13:\n"
     ".type \"core::fmt::formatter::Formatter::write_indented::<#bc6dd3c8388e7ac9>\",%function\n"
     ".size \"core::fmt::formatter::Formatter::write_indented::<#bc6dd3c8388e7ac9>\",306\n"
     "\"core::fmt::formatter::Formatter::write_indented::<#bc6dd3c8388e7ac9>\":\n"
@@ -5125,15 +5186,15 @@ __asm__(
     ".octa 0xe6014de375cbff482975c08400000000,0x8348ea894cf6894cff894c004047c641,0xe95d5f415e415d415c415b08c4\n"
     ".octa 0x5f415e415d415c415b08c4834801b000\n"
     ".short 0xc35d\n"
-    ".reloc .Ltcp12+66,R_X86_64_PLT32,.Ltcp13-4\n"
-    ".reloc .Ltcp12+147,R_X86_64_PC32,.Ltcp54+8\n"
-    ".reloc .Ltcp12+160,R_X86_64_PLT32,.Ltcp13-4\n"
-    ".reloc .Ltcp12+227,R_X86_64_PC32,.Ltcp54+8\n"
-    ".reloc .Ltcp12+240,R_X86_64_PLT32,.Ltcp13-4\n"
-    ".reloc .Ltcp12+285,R_X86_64_PLT32,.Ltcp13-4\n"
-    ".section .text.tcp.13,\"ax\",%progbits\n"
+    ".reloc .Ltcp13+66,R_X86_64_PLT32,.Ltcp14-4\n"
+    ".reloc .Ltcp13+147,R_X86_64_PC32,.Ltcp55+8\n"
+    ".reloc .Ltcp13+160,R_X86_64_PLT32,.Ltcp14-4\n"
+    ".reloc .Ltcp13+227,R_X86_64_PC32,.Ltcp55+8\n"
+    ".reloc .Ltcp13+240,R_X86_64_PLT32,.Ltcp14-4\n"
+    ".reloc .Ltcp13+285,R_X86_64_PLT32,.Ltcp14-4\n"
+    ".section .text.tcp.14,\"ax\",%progbits\n"
     ".balign 16\n"
-    ".Ltcp13:\n"
+    ".Ltcp14:\n"
     ".type \"core::fmt::formatter::Formatter::write_raw::<#bc6dd3c8388e7ac9>\",%function\n"
     ".size \"core::fmt::formatter::Formatter::write_raw::<#bc6dd3c8388e7ac9>\",706\n"
     "\"core::fmt::formatter::Formatter::write_raw::<#bc6dd3c8388e7ac9>\":\n"
@@ -5157,10 +5218,10 @@ __asm__(
     ".octa 0x48fffffedae9ffffff69840fc2394cef,0xe8d78949d68948f68949fb89,0x4cf6894cffffff54840fc98401b0c189\n"
     ".octa 0xfe70e9105b8b48084b8b48df8948fa89\n"
     ".short 0xffff\n"
-    ".reloc .Ltcp13+668,R_X86_64_PLT32,.Ltcp25-4\n"
-    ".section .text.tcp.14,\"ax\",%progbits\n"
+    ".reloc .Ltcp14+668,R_X86_64_PLT32,.Ltcp26-4\n"
+    ".section .text.tcp.15,\"ax\",%progbits\n"
     ".balign 16\n"
-    ".Ltcp14:\n"
+    ".Ltcp15:\n"
     ".type \"kit_text::meaning::push_meaning::<#244039bd4e0652a3>\",%function\n"
     ".size \"kit_text::meaning::push_meaning::<#244039bd4e0652a3>\",7135\n"
     "\"kit_text::meaning::push_meaning::<#244039bd4e0652a3>\":\n"
@@ -5333,118 +5394,118 @@ __asm__(
     ".octa 0x3e860fffffe744820fc839481d74c139,0xffe730e90e7fbf083c80038b48ffffe7,0x1ee9084b8948ffffe727860fc83948ff\n"
     ".short 0xffe7\n"
     ".byte 0xff\n"
-    ".reloc .Ltcp14+124,R_X86_64_PLT32,.Ltcp8-4\n"
-    ".reloc .Ltcp14+720,R_X86_64_PC32,.Ltcp124-4\n"
-    ".reloc .Ltcp14+757,R_X86_64_PLT32,.Ltcp21-4\n"
-    ".reloc .Ltcp14+819,R_X86_64_PC32,.Ltcp15+88\n"
-    ".reloc .Ltcp14+882,R_X86_64_PC32,.Ltcp128-4\n"
-    ".reloc .Ltcp14+950,R_X86_64_PC32,.Ltcp126-4\n"
-    ".reloc .Ltcp14+1025,R_X86_64_PC32,.Ltcp127-4\n"
-    ".reloc .Ltcp14+1088,R_X86_64_PC32,.Ltcp125-4\n"
-    ".reloc .Ltcp14+1133,R_X86_64_PC32,.Ltcp129-4\n"
-    ".reloc .Ltcp14+1173,R_X86_64_PLT32,.Ltcp24-4\n"
-    ".reloc .Ltcp14+1272,R_X86_64_PLT32,.Ltcp16-4\n"
-    ".reloc .Ltcp14+1424,R_X86_64_PLT32,.Ltcp16-4\n"
-    ".reloc .Ltcp14+1461,R_X86_64_PLT32,.Ltcp16-4\n"
-    ".reloc .Ltcp14+1498,R_X86_64_PLT32,.Ltcp16-4\n"
-    ".reloc .Ltcp14+1535,R_X86_64_PLT32,.Ltcp16-4\n"
-    ".reloc .Ltcp14+1798,R_X86_64_PC32,.Ltcp104-4\n"
-    ".reloc .Ltcp14+1910,R_X86_64_PC32,.Ltcp104-4\n"
-    ".reloc .Ltcp14+1952,R_X86_64_PC32,.Ltcp104-4\n"
-    ".reloc .Ltcp14+2073,R_X86_64_PC32,.Ltcp104-4\n"
-    ".reloc .Ltcp14+2178,R_X86_64_PC32,.Ltcp104-4\n"
-    ".reloc .Ltcp14+2220,R_X86_64_PC32,.Ltcp104-4\n"
-    ".reloc .Ltcp14+2333,R_X86_64_PC32,.Ltcp104-4\n"
-    ".reloc .Ltcp14+2451,R_X86_64_PC32,.Ltcp104-4\n"
-    ".reloc .Ltcp14+2711,R_X86_64_PC32,.Ltcp104-4\n"
-    ".reloc .Ltcp14+2791,R_X86_64_PC32,.Ltcp104-4\n"
-    ".reloc .Ltcp14+2853,R_X86_64_PC32,.Ltcp104-4\n"
-    ".reloc .Ltcp14+2878,R_X86_64_PC32,.Ltcp104-4\n"
-    ".reloc .Ltcp14+3060,R_X86_64_PLT32,.Ltcp16-4\n"
-    ".reloc .Ltcp14+3254,R_X86_64_PC32,.Ltcp104-4\n"
-    ".reloc .Ltcp14+3387,R_X86_64_PC32,.Ltcp15-4\n"
-    ".reloc .Ltcp14+3403,R_X86_64_PC32,.Ltcp107-4\n"
-    ".reloc .Ltcp14+3415,R_X86_64_PC32,.Ltcp109-4\n"
-    ".reloc .Ltcp14+3427,R_X86_64_PC32,.Ltcp106-4\n"
-    ".reloc .Ltcp14+3634,R_X86_64_PC32,.Ltcp111-4\n"
-    ".reloc .Ltcp14+3659,R_X86_64_PC32,.Ltcp112-4\n"
-    ".reloc .Ltcp14+3693,R_X86_64_PC32,.Ltcp113-4\n"
-    ".reloc .Ltcp14+3728,R_X86_64_PC32,.Ltcp105-4\n"
-    ".reloc .Ltcp14+3763,R_X86_64_PC32,.Ltcp114-4\n"
-    ".reloc .Ltcp14+3798,R_X86_64_PC32,.Ltcp115-4\n"
-    ".reloc .Ltcp14+3833,R_X86_64_PC32,.Ltcp107-4\n"
-    ".reloc .Ltcp14+3868,R_X86_64_PC32,.Ltcp116-4\n"
-    ".reloc .Ltcp14+4326,R_X86_64_PLT32,.Ltcp17-4\n"
-    ".reloc .Ltcp14+4507,R_X86_64_PLT32,.Ltcp16-4\n"
-    ".reloc .Ltcp14+4550,R_X86_64_PC32,.Ltcp117-4\n"
-    ".reloc .Ltcp14+4571,R_X86_64_PLT32,.Ltcp17-4\n"
-    ".reloc .Ltcp14+4615,R_X86_64_PLT32,.Ltcp16-4\n"
-    ".reloc .Ltcp14+4658,R_X86_64_PC32,.Ltcp105-4\n"
-    ".reloc .Ltcp14+4667,R_X86_64_PC32,.Ltcp108-4\n"
-    ".reloc .Ltcp14+4676,R_X86_64_PC32,.Ltcp110-4\n"
-    ".reloc .Ltcp14+4922,R_X86_64_PC32,.Ltcp104-4\n"
-    ".reloc .Ltcp14+5044,R_X86_64_PC32,.Ltcp104-4\n"
-    ".reloc .Ltcp14+5117,R_X86_64_PC32,.Ltcp104-4\n"
-    ".reloc .Ltcp14+5164,R_X86_64_PC32,.Ltcp104-4\n"
-    ".reloc .Ltcp14+5211,R_X86_64_PC32,.Ltcp104-4\n"
-    ".reloc .Ltcp14+5285,R_X86_64_PC32,.Ltcp104-4\n"
-    ".reloc .Ltcp14+5591,R_X86_64_PC32,.Ltcp119-4\n"
-    ".reloc .Ltcp14+5766,R_X86_64_PLT32,.Ltcp9-4\n"
-    ".reloc .Ltcp14+5851,R_X86_64_PLT32,.Ltcp19-4\n"
-    ".reloc .Ltcp14+5890,R_X86_64_PLT32,.Ltcp9-4\n"
-    ".reloc .Ltcp14+5995,R_X86_64_PLT32,.Ltcp19-4\n"
-    ".reloc .Ltcp14+6017,R_X86_64_PLT32,.Ltcp16-4\n"
-    ".reloc .Ltcp14+6397,R_X86_64_PC32,.Ltcp104-4\n"
-    ".reloc .Ltcp14+6630,R_X86_64_PLT32,.Ltcp23-4\n"
-    ".reloc .Ltcp14+6662,R_X86_64_PLT32,.Ltcp16-4\n"
-    ".reloc .Ltcp14+6706,R_X86_64_PLT32,.Ltcp16-4\n"
-    ".reloc .Ltcp14+6743,R_X86_64_PLT32,.Ltcp16-4\n"
-    ".reloc .Ltcp14+6789,R_X86_64_PLT32,.Ltcp16-4\n"
-    ".reloc .Ltcp14+6843,R_X86_64_PC32,.Ltcp104-4\n"
-    ".reloc .Ltcp14+6883,R_X86_64_PLT32,.Ltcp16-4\n"
-    ".reloc .Ltcp14+6923,R_X86_64_PLT32,.Ltcp16-4\n"
-    ".reloc .Ltcp14+6954,R_X86_64_PC32,.Ltcp99-4\n"
-    ".reloc .Ltcp14+6969,R_X86_64_PLT32,.Ltcp17-4\n"
-    ".reloc .Ltcp14+6999,R_X86_64_PLT32,.Ltcp16-4\n"
-    ".section .rodata.tcp.15,\"a\",%progbits\n"
+    ".reloc .Ltcp15+124,R_X86_64_PLT32,.Ltcp9-4\n"
+    ".reloc .Ltcp15+720,R_X86_64_PC32,.Ltcp125-4\n"
+    ".reloc .Ltcp15+757,R_X86_64_PLT32,.Ltcp22-4\n"
+    ".reloc .Ltcp15+819,R_X86_64_PC32,.Ltcp16+88\n"
+    ".reloc .Ltcp15+882,R_X86_64_PC32,.Ltcp129-4\n"
+    ".reloc .Ltcp15+950,R_X86_64_PC32,.Ltcp127-4\n"
+    ".reloc .Ltcp15+1025,R_X86_64_PC32,.Ltcp128-4\n"
+    ".reloc .Ltcp15+1088,R_X86_64_PC32,.Ltcp126-4\n"
+    ".reloc .Ltcp15+1133,R_X86_64_PC32,.Ltcp130-4\n"
+    ".reloc .Ltcp15+1173,R_X86_64_PLT32,.Ltcp25-4\n"
+    ".reloc .Ltcp15+1272,R_X86_64_PLT32,.Ltcp17-4\n"
+    ".reloc .Ltcp15+1424,R_X86_64_PLT32,.Ltcp17-4\n"
+    ".reloc .Ltcp15+1461,R_X86_64_PLT32,.Ltcp17-4\n"
+    ".reloc .Ltcp15+1498,R_X86_64_PLT32,.Ltcp17-4\n"
+    ".reloc .Ltcp15+1535,R_X86_64_PLT32,.Ltcp17-4\n"
+    ".reloc .Ltcp15+1798,R_X86_64_PC32,.Ltcp105-4\n"
+    ".reloc .Ltcp15+1910,R_X86_64_PC32,.Ltcp105-4\n"
+    ".reloc .Ltcp15+1952,R_X86_64_PC32,.Ltcp105-4\n"
+    ".reloc .Ltcp15+2073,R_X86_64_PC32,.Ltcp105-4\n"
+    ".reloc .Ltcp15+2178,R_X86_64_PC32,.Ltcp105-4\n"
+    ".reloc .Ltcp15+2220,R_X86_64_PC32,.Ltcp105-4\n"
+    ".reloc .Ltcp15+2333,R_X86_64_PC32,.Ltcp105-4\n"
+    ".reloc .Ltcp15+2451,R_X86_64_PC32,.Ltcp105-4\n"
+    ".reloc .Ltcp15+2711,R_X86_64_PC32,.Ltcp105-4\n"
+    ".reloc .Ltcp15+2791,R_X86_64_PC32,.Ltcp105-4\n"
+    ".reloc .Ltcp15+2853,R_X86_64_PC32,.Ltcp105-4\n"
+    ".reloc .Ltcp15+2878,R_X86_64_PC32,.Ltcp105-4\n"
+    ".reloc .Ltcp15+3060,R_X86_64_PLT32,.Ltcp17-4\n"
+    ".reloc .Ltcp15+3254,R_X86_64_PC32,.Ltcp105-4\n"
+    ".reloc .Ltcp15+3387,R_X86_64_PC32,.Ltcp16-4\n"
+    ".reloc .Ltcp15+3403,R_X86_64_PC32,.Ltcp108-4\n"
+    ".reloc .Ltcp15+3415,R_X86_64_PC32,.Ltcp110-4\n"
+    ".reloc .Ltcp15+3427,R_X86_64_PC32,.Ltcp107-4\n"
+    ".reloc .Ltcp15+3634,R_X86_64_PC32,.Ltcp112-4\n"
+    ".reloc .Ltcp15+3659,R_X86_64_PC32,.Ltcp113-4\n"
+    ".reloc .Ltcp15+3693,R_X86_64_PC32,.Ltcp114-4\n"
+    ".reloc .Ltcp15+3728,R_X86_64_PC32,.Ltcp106-4\n"
+    ".reloc .Ltcp15+3763,R_X86_64_PC32,.Ltcp115-4\n"
+    ".reloc .Ltcp15+3798,R_X86_64_PC32,.Ltcp116-4\n"
+    ".reloc .Ltcp15+3833,R_X86_64_PC32,.Ltcp108-4\n"
+    ".reloc .Ltcp15+3868,R_X86_64_PC32,.Ltcp117-4\n"
+    ".reloc .Ltcp15+4326,R_X86_64_PLT32,.Ltcp18-4\n"
+    ".reloc .Ltcp15+4507,R_X86_64_PLT32,.Ltcp17-4\n"
+    ".reloc .Ltcp15+4550,R_X86_64_PC32,.Ltcp118-4\n"
+    ".reloc .Ltcp15+4571,R_X86_64_PLT32,.Ltcp18-4\n"
+    ".reloc .Ltcp15+4615,R_X86_64_PLT32,.Ltcp17-4\n"
+    ".reloc .Ltcp15+4658,R_X86_64_PC32,.Ltcp106-4\n"
+    ".reloc .Ltcp15+4667,R_X86_64_PC32,.Ltcp109-4\n"
+    ".reloc .Ltcp15+4676,R_X86_64_PC32,.Ltcp111-4\n"
+    ".reloc .Ltcp15+4922,R_X86_64_PC32,.Ltcp105-4\n"
+    ".reloc .Ltcp15+5044,R_X86_64_PC32,.Ltcp105-4\n"
+    ".reloc .Ltcp15+5117,R_X86_64_PC32,.Ltcp105-4\n"
+    ".reloc .Ltcp15+5164,R_X86_64_PC32,.Ltcp105-4\n"
+    ".reloc .Ltcp15+5211,R_X86_64_PC32,.Ltcp105-4\n"
+    ".reloc .Ltcp15+5285,R_X86_64_PC32,.Ltcp105-4\n"
+    ".reloc .Ltcp15+5591,R_X86_64_PC32,.Ltcp120-4\n"
+    ".reloc .Ltcp15+5766,R_X86_64_PLT32,.Ltcp10-4\n"
+    ".reloc .Ltcp15+5851,R_X86_64_PLT32,.Ltcp20-4\n"
+    ".reloc .Ltcp15+5890,R_X86_64_PLT32,.Ltcp10-4\n"
+    ".reloc .Ltcp15+5995,R_X86_64_PLT32,.Ltcp20-4\n"
+    ".reloc .Ltcp15+6017,R_X86_64_PLT32,.Ltcp17-4\n"
+    ".reloc .Ltcp15+6397,R_X86_64_PC32,.Ltcp105-4\n"
+    ".reloc .Ltcp15+6630,R_X86_64_PLT32,.Ltcp24-4\n"
+    ".reloc .Ltcp15+6662,R_X86_64_PLT32,.Ltcp17-4\n"
+    ".reloc .Ltcp15+6706,R_X86_64_PLT32,.Ltcp17-4\n"
+    ".reloc .Ltcp15+6743,R_X86_64_PLT32,.Ltcp17-4\n"
+    ".reloc .Ltcp15+6789,R_X86_64_PLT32,.Ltcp17-4\n"
+    ".reloc .Ltcp15+6843,R_X86_64_PC32,.Ltcp105-4\n"
+    ".reloc .Ltcp15+6883,R_X86_64_PLT32,.Ltcp17-4\n"
+    ".reloc .Ltcp15+6923,R_X86_64_PLT32,.Ltcp17-4\n"
+    ".reloc .Ltcp15+6954,R_X86_64_PC32,.Ltcp100-4\n"
+    ".reloc .Ltcp15+6969,R_X86_64_PLT32,.Ltcp18-4\n"
+    ".reloc .Ltcp15+6999,R_X86_64_PLT32,.Ltcp17-4\n"
+    ".section .rodata.tcp.16,\"a\",%progbits\n"
     ".balign 4\n"
-    ".Ltcp15:\n"
+    ".Ltcp16:\n"
     ".octa 0x0,0x0,0x0\n"
     ".octa 0x0,0x0,0x0\n"
     ".octa 0x0\n"
     ".long 0x0\n"
-    ".reloc .Ltcp15+0,R_X86_64_PC32,.Ltcp14+3400\n"
-    ".reloc .Ltcp15+4,R_X86_64_PC32,.Ltcp14+3440\n"
-    ".reloc .Ltcp15+8,R_X86_64_PC32,.Ltcp14+3444\n"
-    ".reloc .Ltcp15+12,R_X86_64_PC32,.Ltcp14+3448\n"
-    ".reloc .Ltcp15+16,R_X86_64_PC32,.Ltcp14+3452\n"
-    ".reloc .Ltcp15+20,R_X86_64_PC32,.Ltcp14+3456\n"
-    ".reloc .Ltcp15+24,R_X86_64_PC32,.Ltcp14+3460\n"
-    ".reloc .Ltcp15+28,R_X86_64_PC32,.Ltcp14+3464\n"
-    ".reloc .Ltcp15+32,R_X86_64_PC32,.Ltcp14+3468\n"
-    ".reloc .Ltcp15+36,R_X86_64_PC32,.Ltcp14+3472\n"
-    ".reloc .Ltcp15+40,R_X86_64_PC32,.Ltcp14+3476\n"
-    ".reloc .Ltcp15+44,R_X86_64_PC32,.Ltcp14+3480\n"
-    ".reloc .Ltcp15+48,R_X86_64_PC32,.Ltcp14+3484\n"
-    ".reloc .Ltcp15+52,R_X86_64_PC32,.Ltcp14+3488\n"
-    ".reloc .Ltcp15+56,R_X86_64_PC32,.Ltcp14+4711\n"
-    ".reloc .Ltcp15+60,R_X86_64_PC32,.Ltcp14+3472\n"
-    ".reloc .Ltcp15+64,R_X86_64_PC32,.Ltcp14+4728\n"
-    ".reloc .Ltcp15+68,R_X86_64_PC32,.Ltcp14+3504\n"
-    ".reloc .Ltcp15+72,R_X86_64_PC32,.Ltcp14+4745\n"
-    ".reloc .Ltcp15+76,R_X86_64_PC32,.Ltcp14+3512\n"
-    ".reloc .Ltcp15+80,R_X86_64_PC32,.Ltcp14+3516\n"
-    ".reloc .Ltcp15+84,R_X86_64_PC32,.Ltcp14+3520\n"
-    ".reloc .Ltcp15+88,R_X86_64_PC32,.Ltcp14+3512\n"
-    ".reloc .Ltcp15+92,R_X86_64_PC32,.Ltcp14+832\n"
-    ".reloc .Ltcp15+96,R_X86_64_PC32,.Ltcp14+1065\n"
-    ".reloc .Ltcp15+100,R_X86_64_PC32,.Ltcp14+931\n"
-    ".reloc .Ltcp15+104,R_X86_64_PC32,.Ltcp14+1010\n"
-    ".reloc .Ltcp15+108,R_X86_64_PC32,.Ltcp14+887\n"
-    ".reloc .Ltcp15+112,R_X86_64_PC32,.Ltcp14+1142\n"
-    ".section .text.tcp.16,\"ax\",%progbits\n"
+    ".reloc .Ltcp16+0,R_X86_64_PC32,.Ltcp15+3400\n"
+    ".reloc .Ltcp16+4,R_X86_64_PC32,.Ltcp15+3440\n"
+    ".reloc .Ltcp16+8,R_X86_64_PC32,.Ltcp15+3444\n"
+    ".reloc .Ltcp16+12,R_X86_64_PC32,.Ltcp15+3448\n"
+    ".reloc .Ltcp16+16,R_X86_64_PC32,.Ltcp15+3452\n"
+    ".reloc .Ltcp16+20,R_X86_64_PC32,.Ltcp15+3456\n"
+    ".reloc .Ltcp16+24,R_X86_64_PC32,.Ltcp15+3460\n"
+    ".reloc .Ltcp16+28,R_X86_64_PC32,.Ltcp15+3464\n"
+    ".reloc .Ltcp16+32,R_X86_64_PC32,.Ltcp15+3468\n"
+    ".reloc .Ltcp16+36,R_X86_64_PC32,.Ltcp15+3472\n"
+    ".reloc .Ltcp16+40,R_X86_64_PC32,.Ltcp15+3476\n"
+    ".reloc .Ltcp16+44,R_X86_64_PC32,.Ltcp15+3480\n"
+    ".reloc .Ltcp16+48,R_X86_64_PC32,.Ltcp15+3484\n"
+    ".reloc .Ltcp16+52,R_X86_64_PC32,.Ltcp15+3488\n"
+    ".reloc .Ltcp16+56,R_X86_64_PC32,.Ltcp15+4711\n"
+    ".reloc .Ltcp16+60,R_X86_64_PC32,.Ltcp15+3472\n"
+    ".reloc .Ltcp16+64,R_X86_64_PC32,.Ltcp15+4728\n"
+    ".reloc .Ltcp16+68,R_X86_64_PC32,.Ltcp15+3504\n"
+    ".reloc .Ltcp16+72,R_X86_64_PC32,.Ltcp15+4745\n"
+    ".reloc .Ltcp16+76,R_X86_64_PC32,.Ltcp15+3512\n"
+    ".reloc .Ltcp16+80,R_X86_64_PC32,.Ltcp15+3516\n"
+    ".reloc .Ltcp16+84,R_X86_64_PC32,.Ltcp15+3520\n"
+    ".reloc .Ltcp16+88,R_X86_64_PC32,.Ltcp15+3512\n"
+    ".reloc .Ltcp16+92,R_X86_64_PC32,.Ltcp15+832\n"
+    ".reloc .Ltcp16+96,R_X86_64_PC32,.Ltcp15+1065\n"
+    ".reloc .Ltcp16+100,R_X86_64_PC32,.Ltcp15+931\n"
+    ".reloc .Ltcp16+104,R_X86_64_PC32,.Ltcp15+1010\n"
+    ".reloc .Ltcp16+108,R_X86_64_PC32,.Ltcp15+887\n"
+    ".reloc .Ltcp16+112,R_X86_64_PC32,.Ltcp15+1142\n"
+    ".section .text.tcp.17,\"ax\",%progbits\n"
     ".balign 16\n"
-    ".Ltcp16:\n"
+    ".Ltcp17:\n"
     ".type \"std_alloc::vec::Vec::grow_amortized::<#8c6c02ecfde2865e>\",%function\n"
     ".size \"std_alloc::vec::Vec::grow_amortized::<#8c6c02ecfde2865e>\",544\n"
     "\"std_alloc::vec::Vec::grow_amortized::<#8c6c02ecfde2865e>\":\n"
@@ -5463,9 +5524,9 @@ __asm__(
     ".octa 0x801f0fc189481b7403e08349c1,0xc8ff49c1ff480b0c88440e0cb60f4400,0x66ffffff14870ffcf88348d02948ef75\n"
     ".octa 0xb4488010e44b60f0b04880e04b60f90,0x88030e44b60f020b4488020e44b60f01,0xfffee2e9d575ca394804c18348030b44\n"
     ".byte 0xff\n"
-    ".section .text.tcp.17,\"ax\",%progbits\n"
+    ".section .text.tcp.18,\"ax\",%progbits\n"
     ".balign 16\n"
-    ".Ltcp17:\n"
+    ".Ltcp18:\n"
     ".type \"core::fmt::formatter::Formatter::write_indented::<#c443fc42141e8c95>\",%function\n"
     ".size \"core::fmt::formatter::Formatter::write_indented::<#c443fc42141e8c95>\",306\n"
     "\"core::fmt::formatter::Formatter::write_indented::<#c443fc42141e8c95>\":\n"
@@ -5477,15 +5538,15 @@ __asm__(
     ".octa 0xe6014de375cbff482975c08400000000,0x8348ea894cf6894cff894c004047c641,0xe95d5f415e415d415c415b08c4\n"
     ".octa 0x5f415e415d415c415b08c4834801b000\n"
     ".short 0xc35d\n"
-    ".reloc .Ltcp17+66,R_X86_64_PLT32,.Ltcp18-4\n"
-    ".reloc .Ltcp17+147,R_X86_64_PC32,.Ltcp54+8\n"
-    ".reloc .Ltcp17+160,R_X86_64_PLT32,.Ltcp18-4\n"
-    ".reloc .Ltcp17+227,R_X86_64_PC32,.Ltcp54+8\n"
-    ".reloc .Ltcp17+240,R_X86_64_PLT32,.Ltcp18-4\n"
-    ".reloc .Ltcp17+285,R_X86_64_PLT32,.Ltcp18-4\n"
-    ".section .text.tcp.18,\"ax\",%progbits\n"
+    ".reloc .Ltcp18+66,R_X86_64_PLT32,.Ltcp19-4\n"
+    ".reloc .Ltcp18+147,R_X86_64_PC32,.Ltcp55+8\n"
+    ".reloc .Ltcp18+160,R_X86_64_PLT32,.Ltcp19-4\n"
+    ".reloc .Ltcp18+227,R_X86_64_PC32,.Ltcp55+8\n"
+    ".reloc .Ltcp18+240,R_X86_64_PLT32,.Ltcp19-4\n"
+    ".reloc .Ltcp18+285,R_X86_64_PLT32,.Ltcp19-4\n"
+    ".section .text.tcp.19,\"ax\",%progbits\n"
     ".balign 16\n"
-    ".Ltcp18:\n"
+    ".Ltcp19:\n"
     ".type \"core::fmt::formatter::Formatter::write_raw::<#c443fc42141e8c95>\",%function\n"
     ".size \"core::fmt::formatter::Formatter::write_raw::<#c443fc42141e8c95>\",706\n"
     "\"core::fmt::formatter::Formatter::write_raw::<#c443fc42141e8c95>\":\n"
@@ -5509,10 +5570,10 @@ __asm__(
     ".octa 0x48fffffedae9ffffff69840fc2394cef,0xe8d78949d68948f68949fb89,0x4cf6894cffffff54840fc98401b0c189\n"
     ".octa 0xfe70e9105b8b48084b8b48df8948fa89\n"
     ".short 0xffff\n"
-    ".reloc .Ltcp18+668,R_X86_64_PLT32,.Ltcp16-4\n"
-    ".section .text.tcp.19,\"ax\",%progbits\n"
+    ".reloc .Ltcp19+668,R_X86_64_PLT32,.Ltcp17-4\n"
+    ".section .text.tcp.20,\"ax\",%progbits\n"
     ".balign 16\n"
-    ".Ltcp19:\n"
+    ".Ltcp20:\n"
     ".type \"kit_text::options::push_option::<#244039bd4e0652a3>\",%function\n"
     ".size \"kit_text::options::push_option::<#244039bd4e0652a3>\",1770\n"
     "\"kit_text::options::push_option::<#244039bd4e0652a3>\":\n"
@@ -5562,40 +5623,40 @@ __asm__(
     ".octa 0x2ae9104b8b4808438b48138b48fffffd\n"
     ".short 0xfffd\n"
     ".byte 0xff\n"
-    ".reloc .Ltcp19+52,R_X86_64_PC32,.Ltcp20-4\n"
-    ".reloc .Ltcp19+103,R_X86_64_PC32,.Ltcp120-4\n"
-    ".reloc .Ltcp19+175,R_X86_64_PC32,.Ltcp123-4\n"
-    ".reloc .Ltcp19+216,R_X86_64_PC32,.Ltcp121-4\n"
-    ".reloc .Ltcp19+260,R_X86_64_PLT32,.Ltcp21-4\n"
-    ".reloc .Ltcp19+307,R_X86_64_PC32,.Ltcp122-4\n"
-    ".reloc .Ltcp19+784,R_X86_64_PC32,.Ltcp104-4\n"
-    ".reloc .Ltcp19+856,R_X86_64_PLT32,.Ltcp22-4\n"
-    ".reloc .Ltcp19+1145,R_X86_64_PLT32,.Ltcp22-4\n"
-    ".reloc .Ltcp19+1179,R_X86_64_PLT32,.Ltcp16-4\n"
-    ".reloc .Ltcp19+1209,R_X86_64_PC32,.Ltcp104-4\n"
-    ".reloc .Ltcp19+1311,R_X86_64_PLT32,.Ltcp23-4\n"
-    ".reloc .Ltcp19+1324,R_X86_64_PLT32,.Ltcp16-4\n"
-    ".reloc .Ltcp19+1362,R_X86_64_PLT32,.Ltcp16-4\n"
-    ".reloc .Ltcp19+1400,R_X86_64_PLT32,.Ltcp16-4\n"
-    ".reloc .Ltcp19+1438,R_X86_64_PLT32,.Ltcp16-4\n"
-    ".reloc .Ltcp19+1478,R_X86_64_PLT32,.Ltcp16-4\n"
-    ".reloc .Ltcp19+1513,R_X86_64_PLT32,.Ltcp17-4\n"
-    ".reloc .Ltcp19+1571,R_X86_64_PLT32,.Ltcp16-4\n"
-    ".reloc .Ltcp19+1738,R_X86_64_PLT32,.Ltcp16-4\n"
-    ".section .rodata.tcp.20,\"a\",%progbits\n"
+    ".reloc .Ltcp20+52,R_X86_64_PC32,.Ltcp21-4\n"
+    ".reloc .Ltcp20+103,R_X86_64_PC32,.Ltcp121-4\n"
+    ".reloc .Ltcp20+175,R_X86_64_PC32,.Ltcp124-4\n"
+    ".reloc .Ltcp20+216,R_X86_64_PC32,.Ltcp122-4\n"
+    ".reloc .Ltcp20+260,R_X86_64_PLT32,.Ltcp22-4\n"
+    ".reloc .Ltcp20+307,R_X86_64_PC32,.Ltcp123-4\n"
+    ".reloc .Ltcp20+784,R_X86_64_PC32,.Ltcp105-4\n"
+    ".reloc .Ltcp20+856,R_X86_64_PLT32,.Ltcp23-4\n"
+    ".reloc .Ltcp20+1145,R_X86_64_PLT32,.Ltcp23-4\n"
+    ".reloc .Ltcp20+1179,R_X86_64_PLT32,.Ltcp17-4\n"
+    ".reloc .Ltcp20+1209,R_X86_64_PC32,.Ltcp105-4\n"
+    ".reloc .Ltcp20+1311,R_X86_64_PLT32,.Ltcp24-4\n"
+    ".reloc .Ltcp20+1324,R_X86_64_PLT32,.Ltcp17-4\n"
+    ".reloc .Ltcp20+1362,R_X86_64_PLT32,.Ltcp17-4\n"
+    ".reloc .Ltcp20+1400,R_X86_64_PLT32,.Ltcp17-4\n"
+    ".reloc .Ltcp20+1438,R_X86_64_PLT32,.Ltcp17-4\n"
+    ".reloc .Ltcp20+1478,R_X86_64_PLT32,.Ltcp17-4\n"
+    ".reloc .Ltcp20+1513,R_X86_64_PLT32,.Ltcp18-4\n"
+    ".reloc .Ltcp20+1571,R_X86_64_PLT32,.Ltcp17-4\n"
+    ".reloc .Ltcp20+1738,R_X86_64_PLT32,.Ltcp17-4\n"
+    ".section .rodata.tcp.21,\"a\",%progbits\n"
     ".balign 4\n"
-    ".Ltcp20:\n"
+    ".Ltcp21:\n"
     ".octa 0x0\n"
     ".quad 0x0\n"
-    ".reloc .Ltcp20+0,R_X86_64_PC32,.Ltcp19+65\n"
-    ".reloc .Ltcp20+4,R_X86_64_PC32,.Ltcp19+348\n"
-    ".reloc .Ltcp20+8,R_X86_64_PC32,.Ltcp19+218\n"
-    ".reloc .Ltcp20+12,R_X86_64_PC32,.Ltcp19+281\n"
-    ".reloc .Ltcp20+16,R_X86_64_PC32,.Ltcp19+153\n"
-    ".reloc .Ltcp20+20,R_X86_64_PC32,.Ltcp19+695\n"
-    ".section .text.tcp.21,\"ax\",%progbits\n"
+    ".reloc .Ltcp21+0,R_X86_64_PC32,.Ltcp20+65\n"
+    ".reloc .Ltcp21+4,R_X86_64_PC32,.Ltcp20+348\n"
+    ".reloc .Ltcp21+8,R_X86_64_PC32,.Ltcp20+218\n"
+    ".reloc .Ltcp21+12,R_X86_64_PC32,.Ltcp20+281\n"
+    ".reloc .Ltcp21+16,R_X86_64_PC32,.Ltcp20+153\n"
+    ".reloc .Ltcp21+20,R_X86_64_PC32,.Ltcp20+695\n"
+    ".section .text.tcp.22,\"ax\",%progbits\n"
     ".balign 16\n"
-    ".Ltcp21:\n"
+    ".Ltcp22:\n"
     ".type \"std_alloc::string::String::write_fmt::<#1a211fe9d5beaab3>\",%function\n"
     ".size \"std_alloc::string::String::write_fmt::<#1a211fe9d5beaab3>\",1000\n"
     "\"std_alloc::string::String::write_fmt::<#1a211fe9d5beaab3>\":\n"
@@ -5630,12 +5691,12 @@ __asm__(
     ".octa 0x4cfffffe6a860fe9394c01b0fffffe75\n"
     ".quad 0xfe5fe901b0086b89\n"
     ".short 0xffff\n"
-    ".reloc .Ltcp21+748,R_X86_64_PLT32,.Ltcp16-4\n"
-    ".reloc .Ltcp21+781,R_X86_64_PLT32,.Ltcp17-4\n"
-    ".reloc .Ltcp21+841,R_X86_64_PLT32,.Ltcp16-4\n"
-    ".section .text.tcp.22,\"ax\",%progbits\n"
+    ".reloc .Ltcp22+748,R_X86_64_PLT32,.Ltcp17-4\n"
+    ".reloc .Ltcp22+781,R_X86_64_PLT32,.Ltcp18-4\n"
+    ".reloc .Ltcp22+841,R_X86_64_PLT32,.Ltcp17-4\n"
+    ".section .text.tcp.23,\"ax\",%progbits\n"
     ".balign 16\n"
-    ".Ltcp22:\n"
+    ".Ltcp23:\n"
     ".type \"kit_text::options::push_block::<#2684e1456f717445>\",%function\n"
     ".size \"kit_text::options::push_block::<#2684e1456f717445>\",743\n"
     "\"kit_text::options::push_block::<#2684e1456f717445>\":\n"
@@ -5658,16 +5719,16 @@ __asm__(
     ".octa 0xc48148c0311063894c087b894c33894c,0x8948c35f415e415d415c415b00000080,0x1b0c18900000000e8d68948d58949df\n"
     ".octa 0xebea894c10638b4c087b8b4cd974c984\n"
     ".byte 0xac\n"
-    ".reloc .Ltcp22+143,R_X86_64_PC32,.Ltcp104-4\n"
-    ".reloc .Ltcp22+272,R_X86_64_PC32,.Ltcp104-4\n"
-    ".reloc .Ltcp22+330,R_X86_64_PC32,.Ltcp104-4\n"
-    ".reloc .Ltcp22+464,R_X86_64_PC32,.Ltcp104-4\n"
-    ".reloc .Ltcp22+556,R_X86_64_PC32,.Ltcp104-4\n"
-    ".reloc .Ltcp22+595,R_X86_64_PC32,.Ltcp104-4\n"
-    ".reloc .Ltcp22+718,R_X86_64_PLT32,.Ltcp16-4\n"
-    ".section .text.tcp.23,\"ax\",%progbits\n"
+    ".reloc .Ltcp23+143,R_X86_64_PC32,.Ltcp105-4\n"
+    ".reloc .Ltcp23+272,R_X86_64_PC32,.Ltcp105-4\n"
+    ".reloc .Ltcp23+330,R_X86_64_PC32,.Ltcp105-4\n"
+    ".reloc .Ltcp23+464,R_X86_64_PC32,.Ltcp105-4\n"
+    ".reloc .Ltcp23+556,R_X86_64_PC32,.Ltcp105-4\n"
+    ".reloc .Ltcp23+595,R_X86_64_PC32,.Ltcp105-4\n"
+    ".reloc .Ltcp23+718,R_X86_64_PLT32,.Ltcp17-4\n"
+    ".section .text.tcp.24,\"ax\",%progbits\n"
     ".balign 16\n"
-    ".Ltcp23:\n"
+    ".Ltcp24:\n"
     ".type \"kit_text::bytes::push_bytes::<#244039bd4e0652a3>\",%function\n"
     ".size \"kit_text::bytes::push_bytes::<#244039bd4e0652a3>\",1470\n"
     "\"kit_text::bytes::push_bytes::<#244039bd4e0652a3>\":\n"
@@ -5705,25 +5766,25 @@ __asm__(
     ".octa 0xe8f6894cdf8948fffffd7ce9,0x10638b4c087b8b4c9574c98401b0c189\n"
     ".quad 0xeb01b0ffffff64e9\n"
     ".byte 0x84\n"
-    ".reloc .Ltcp23+110,R_X86_64_PC32,.Ltcp0+572\n"
-    ".reloc .Ltcp23+122,R_X86_64_PC32,.Ltcp0+588\n"
-    ".reloc .Ltcp23+144,R_X86_64_PC32,.Ltcp0+604\n"
-    ".reloc .Ltcp23+160,R_X86_64_PC32,.Ltcp0+620\n"
-    ".reloc .Ltcp23+185,R_X86_64_PC32,.Ltcp0+636\n"
-    ".reloc .Ltcp23+718,R_X86_64_PLT32,.Ltcp16-4\n"
-    ".reloc .Ltcp23+930,R_X86_64_PC32,.Ltcp0+572\n"
-    ".reloc .Ltcp23+942,R_X86_64_PC32,.Ltcp0+588\n"
-    ".reloc .Ltcp23+958,R_X86_64_PC32,.Ltcp0+604\n"
-    ".reloc .Ltcp23+974,R_X86_64_PC32,.Ltcp0+620\n"
-    ".reloc .Ltcp23+1002,R_X86_64_PC32,.Ltcp0+636\n"
-    ".reloc .Ltcp23+1168,R_X86_64_PC32,.Ltcp0+844\n"
-    ".reloc .Ltcp23+1268,R_X86_64_PC32,.Ltcp0+844\n"
-    ".reloc .Ltcp23+1376,R_X86_64_PLT32,.Ltcp16-4\n"
-    ".reloc .Ltcp23+1409,R_X86_64_PLT32,.Ltcp16-4\n"
-    ".reloc .Ltcp23+1441,R_X86_64_PLT32,.Ltcp16-4\n"
-    ".section .text.tcp.24,\"ax\",%progbits\n"
+    ".reloc .Ltcp24+110,R_X86_64_PC32,.Ltcp0+572\n"
+    ".reloc .Ltcp24+122,R_X86_64_PC32,.Ltcp0+588\n"
+    ".reloc .Ltcp24+144,R_X86_64_PC32,.Ltcp0+604\n"
+    ".reloc .Ltcp24+160,R_X86_64_PC32,.Ltcp0+620\n"
+    ".reloc .Ltcp24+185,R_X86_64_PC32,.Ltcp0+636\n"
+    ".reloc .Ltcp24+718,R_X86_64_PLT32,.Ltcp17-4\n"
+    ".reloc .Ltcp24+930,R_X86_64_PC32,.Ltcp0+572\n"
+    ".reloc .Ltcp24+942,R_X86_64_PC32,.Ltcp0+588\n"
+    ".reloc .Ltcp24+958,R_X86_64_PC32,.Ltcp0+604\n"
+    ".reloc .Ltcp24+974,R_X86_64_PC32,.Ltcp0+620\n"
+    ".reloc .Ltcp24+1002,R_X86_64_PC32,.Ltcp0+636\n"
+    ".reloc .Ltcp24+1168,R_X86_64_PC32,.Ltcp0+1708\n"
+    ".reloc .Ltcp24+1268,R_X86_64_PC32,.Ltcp0+1708\n"
+    ".reloc .Ltcp24+1376,R_X86_64_PLT32,.Ltcp17-4\n"
+    ".reloc .Ltcp24+1409,R_X86_64_PLT32,.Ltcp17-4\n"
+    ".reloc .Ltcp24+1441,R_X86_64_PLT32,.Ltcp17-4\n"
+    ".section .text.tcp.25,\"ax\",%progbits\n"
     ".balign 16\n"
-    ".Ltcp24:\n"
+    ".Ltcp25:\n"
     ".type \"std_alloc::string::String::write_fmt::<#b55cecdce663cb17>\",%function\n"
     ".size \"std_alloc::string::String::write_fmt::<#b55cecdce663cb17>\",1048\n"
     "\"std_alloc::string::String::write_fmt::<#b55cecdce663cb17>\":\n"
@@ -5757,12 +5818,12 @@ __asm__(
     ".octa 0x66e901b0086b894cfffffe71860fe939\n"
     ".short 0xfffe\n"
     ".byte 0xff\n"
-    ".reloc .Ltcp24+796,R_X86_64_PLT32,.Ltcp16-4\n"
-    ".reloc .Ltcp24+829,R_X86_64_PLT32,.Ltcp17-4\n"
-    ".reloc .Ltcp24+889,R_X86_64_PLT32,.Ltcp16-4\n"
-    ".section .text.tcp.25,\"ax\",%progbits\n"
+    ".reloc .Ltcp25+796,R_X86_64_PLT32,.Ltcp17-4\n"
+    ".reloc .Ltcp25+829,R_X86_64_PLT32,.Ltcp18-4\n"
+    ".reloc .Ltcp25+889,R_X86_64_PLT32,.Ltcp17-4\n"
+    ".section .text.tcp.26,\"ax\",%progbits\n"
     ".balign 16\n"
-    ".Ltcp25:\n"
+    ".Ltcp26:\n"
     ".type \"std_alloc::vec::Vec::grow_amortized::<#c6e8460222b7fe82>\",%function\n"
     ".size \"std_alloc::vec::Vec::grow_amortized::<#c6e8460222b7fe82>\",544\n"
     "\"std_alloc::vec::Vec::grow_amortized::<#c6e8460222b7fe82>\":\n"
@@ -5781,9 +5842,9 @@ __asm__(
     ".octa 0x801f0fc189481b7403e08349c1,0xc8ff49c1ff480b0c88440e0cb60f4400,0x66ffffff14870ffcf88348d02948ef75\n"
     ".octa 0xb4488010e44b60f0b04880e04b60f90,0x88030e44b60f020b4488020e44b60f01,0xfffee2e9d575ca394804c18348030b44\n"
     ".byte 0xff\n"
-    ".section .text.tcp.26,\"ax\",%progbits\n"
+    ".section .text.tcp.27,\"ax\",%progbits\n"
     ".balign 16\n"
-    ".Ltcp26:\n"
+    ".Ltcp27:\n"
     ".type \"kit_script::script::read_script_bytes::<#244039bd4e0652a3>\",%function\n"
     ".size \"kit_script::script::read_script_bytes::<#244039bd4e0652a3>\",7315\n"
     "\"kit_script::script::read_script_bytes::<#244039bd4e0652a3>\":\n"
@@ -5948,82 +6009,82 @@ __asm__(
     ".octa 0x5f415e415d415c415b000003d8c48148\n"
     ".long 0x1b0c35d\n"
     ".short 0xa7eb\n"
-    ".reloc .Ltcp26+604,R_X86_64_PLT32,.Ltcp2-4\n"
-    ".reloc .Ltcp26+650,R_X86_64_PC32,.Ltcp118+4\n"
-    ".reloc .Ltcp26+672,R_X86_64_PLT32,.Ltcp4-4\n"
-    ".reloc .Ltcp26+703,R_X86_64_PLT32,.Ltcp1-4\n"
-    ".reloc .Ltcp26+836,R_X86_64_PC32,.Ltcp118+12\n"
-    ".reloc .Ltcp26+852,R_X86_64_PLT32,.Ltcp4-4\n"
-    ".reloc .Ltcp26+881,R_X86_64_PLT32,.Ltcp1-4\n"
-    ".reloc .Ltcp26+1088,R_X86_64_PLT32,.Ltcp2-4\n"
-    ".reloc .Ltcp26+1274,R_X86_64_PC32,.Ltcp0+652\n"
-    ".reloc .Ltcp26+1373,R_X86_64_PC32,.Ltcp0+668\n"
-    ".reloc .Ltcp26+1609,R_X86_64_PLT32,.Ltcp1-4\n"
-    ".reloc .Ltcp26+1930,R_X86_64_PLT32,.Ltcp2-4\n"
-    ".reloc .Ltcp26+2035,R_X86_64_PC32,.Ltcp132-4\n"
-    ".reloc .Ltcp26+2069,R_X86_64_PLT32,.Ltcp4-4\n"
-    ".reloc .Ltcp26+2181,R_X86_64_PLT32,.Ltcp2-4\n"
-    ".reloc .Ltcp26+2277,R_X86_64_PC32,.Ltcp54+16\n"
-    ".reloc .Ltcp26+2293,R_X86_64_PLT32,.Ltcp4-4\n"
-    ".reloc .Ltcp26+2489,R_X86_64_PC32,.Ltcp133-4\n"
-    ".reloc .Ltcp26+2511,R_X86_64_PLT32,.Ltcp4-4\n"
-    ".reloc .Ltcp26+2673,R_X86_64_PLT32,.Ltcp2-4\n"
-    ".reloc .Ltcp26+2777,R_X86_64_PLT32,.Ltcp2-4\n"
-    ".reloc .Ltcp26+2951,R_X86_64_PLT32,.Ltcp2-4\n"
-    ".reloc .Ltcp26+3055,R_X86_64_PC32,.Ltcp134-4\n"
-    ".reloc .Ltcp26+3079,R_X86_64_PLT32,.Ltcp4-4\n"
-    ".reloc .Ltcp26+3337,R_X86_64_PLT32,.Ltcp28-4\n"
-    ".reloc .Ltcp26+3464,R_X86_64_PLT32,.Ltcp2-4\n"
-    ".reloc .Ltcp26+3699,R_X86_64_PLT32,.Ltcp30-4\n"
-    ".reloc .Ltcp26+3951,R_X86_64_PLT32,.Ltcp2-4\n"
-    ".reloc .Ltcp26+4028,R_X86_64_PC32,.Ltcp132-4\n"
-    ".reloc .Ltcp26+4041,R_X86_64_PLT32,.Ltcp4-4\n"
-    ".reloc .Ltcp26+4133,R_X86_64_PLT32,.Ltcp2-4\n"
-    ".reloc .Ltcp26+4245,R_X86_64_PLT32,.Ltcp2-4\n"
-    ".reloc .Ltcp26+4363,R_X86_64_PC32,.Ltcp150-4\n"
-    ".reloc .Ltcp26+4384,R_X86_64_PLT32,.Ltcp4-4\n"
-    ".reloc .Ltcp26+4500,R_X86_64_PLT32,.Ltcp28-4\n"
-    ".reloc .Ltcp26+4823,R_X86_64_PC32,.Ltcp27-4\n"
-    ".reloc .Ltcp26+4895,R_X86_64_PLT32,.Ltcp32-4\n"
-    ".reloc .Ltcp26+4983,R_X86_64_PC32,.Ltcp27+12\n"
-    ".reloc .Ltcp26+5096,R_X86_64_PLT32,.Ltcp2-4\n"
-    ".reloc .Ltcp26+5133,R_X86_64_PC32,.Ltcp27+36\n"
-    ".reloc .Ltcp26+5408,R_X86_64_PC32,.Ltcp54+24\n"
-    ".reloc .Ltcp26+5429,R_X86_64_PLT32,.Ltcp4-4\n"
-    ".reloc .Ltcp26+5608,R_X86_64_PC32,.Ltcp54+32\n"
-    ".reloc .Ltcp26+5629,R_X86_64_PLT32,.Ltcp4-4\n"
-    ".reloc .Ltcp26+6011,R_X86_64_PC32,.Ltcp54+40\n"
-    ".reloc .Ltcp26+6021,R_X86_64_PLT32,.Ltcp4-4\n"
-    ".reloc .Ltcp26+6274,R_X86_64_PC32,.Ltcp54+36\n"
-    ".reloc .Ltcp26+6293,R_X86_64_PLT32,.Ltcp4-4\n"
-    ".reloc .Ltcp26+6312,R_X86_64_PLT32,.Ltcp31-4\n"
-    ".reloc .Ltcp26+6546,R_X86_64_PC32,.Ltcp54+20\n"
-    ".reloc .Ltcp26+6562,R_X86_64_PLT32,.Ltcp4-4\n"
-    ".reloc .Ltcp26+6969,R_X86_64_PLT32,.Ltcp32-4\n"
-    ".section .rodata.tcp.27,\"a\",%progbits\n"
+    ".reloc .Ltcp27+604,R_X86_64_PLT32,.Ltcp2-4\n"
+    ".reloc .Ltcp27+650,R_X86_64_PC32,.Ltcp119+4\n"
+    ".reloc .Ltcp27+672,R_X86_64_PLT32,.Ltcp5-4\n"
+    ".reloc .Ltcp27+703,R_X86_64_PLT32,.Ltcp1-4\n"
+    ".reloc .Ltcp27+836,R_X86_64_PC32,.Ltcp119+12\n"
+    ".reloc .Ltcp27+852,R_X86_64_PLT32,.Ltcp5-4\n"
+    ".reloc .Ltcp27+881,R_X86_64_PLT32,.Ltcp1-4\n"
+    ".reloc .Ltcp27+1088,R_X86_64_PLT32,.Ltcp2-4\n"
+    ".reloc .Ltcp27+1274,R_X86_64_PC32,.Ltcp0+652\n"
+    ".reloc .Ltcp27+1373,R_X86_64_PC32,.Ltcp0+668\n"
+    ".reloc .Ltcp27+1609,R_X86_64_PLT32,.Ltcp1-4\n"
+    ".reloc .Ltcp27+1930,R_X86_64_PLT32,.Ltcp2-4\n"
+    ".reloc .Ltcp27+2035,R_X86_64_PC32,.Ltcp133-4\n"
+    ".reloc .Ltcp27+2069,R_X86_64_PLT32,.Ltcp5-4\n"
+    ".reloc .Ltcp27+2181,R_X86_64_PLT32,.Ltcp2-4\n"
+    ".reloc .Ltcp27+2277,R_X86_64_PC32,.Ltcp55+16\n"
+    ".reloc .Ltcp27+2293,R_X86_64_PLT32,.Ltcp5-4\n"
+    ".reloc .Ltcp27+2489,R_X86_64_PC32,.Ltcp134-4\n"
+    ".reloc .Ltcp27+2511,R_X86_64_PLT32,.Ltcp5-4\n"
+    ".reloc .Ltcp27+2673,R_X86_64_PLT32,.Ltcp2-4\n"
+    ".reloc .Ltcp27+2777,R_X86_64_PLT32,.Ltcp2-4\n"
+    ".reloc .Ltcp27+2951,R_X86_64_PLT32,.Ltcp2-4\n"
+    ".reloc .Ltcp27+3055,R_X86_64_PC32,.Ltcp135-4\n"
+    ".reloc .Ltcp27+3079,R_X86_64_PLT32,.Ltcp5-4\n"
+    ".reloc .Ltcp27+3337,R_X86_64_PLT32,.Ltcp29-4\n"
+    ".reloc .Ltcp27+3464,R_X86_64_PLT32,.Ltcp2-4\n"
+    ".reloc .Ltcp27+3699,R_X86_64_PLT32,.Ltcp31-4\n"
+    ".reloc .Ltcp27+3951,R_X86_64_PLT32,.Ltcp2-4\n"
+    ".reloc .Ltcp27+4028,R_X86_64_PC32,.Ltcp133-4\n"
+    ".reloc .Ltcp27+4041,R_X86_64_PLT32,.Ltcp5-4\n"
+    ".reloc .Ltcp27+4133,R_X86_64_PLT32,.Ltcp2-4\n"
+    ".reloc .Ltcp27+4245,R_X86_64_PLT32,.Ltcp2-4\n"
+    ".reloc .Ltcp27+4363,R_X86_64_PC32,.Ltcp151-4\n"
+    ".reloc .Ltcp27+4384,R_X86_64_PLT32,.Ltcp5-4\n"
+    ".reloc .Ltcp27+4500,R_X86_64_PLT32,.Ltcp29-4\n"
+    ".reloc .Ltcp27+4823,R_X86_64_PC32,.Ltcp28-4\n"
+    ".reloc .Ltcp27+4895,R_X86_64_PLT32,.Ltcp33-4\n"
+    ".reloc .Ltcp27+4983,R_X86_64_PC32,.Ltcp28+12\n"
+    ".reloc .Ltcp27+5096,R_X86_64_PLT32,.Ltcp2-4\n"
+    ".reloc .Ltcp27+5133,R_X86_64_PC32,.Ltcp28+36\n"
+    ".reloc .Ltcp27+5408,R_X86_64_PC32,.Ltcp55+24\n"
+    ".reloc .Ltcp27+5429,R_X86_64_PLT32,.Ltcp5-4\n"
+    ".reloc .Ltcp27+5608,R_X86_64_PC32,.Ltcp55+32\n"
+    ".reloc .Ltcp27+5629,R_X86_64_PLT32,.Ltcp5-4\n"
+    ".reloc .Ltcp27+6011,R_X86_64_PC32,.Ltcp55+40\n"
+    ".reloc .Ltcp27+6021,R_X86_64_PLT32,.Ltcp5-4\n"
+    ".reloc .Ltcp27+6274,R_X86_64_PC32,.Ltcp55+36\n"
+    ".reloc .Ltcp27+6293,R_X86_64_PLT32,.Ltcp5-4\n"
+    ".reloc .Ltcp27+6312,R_X86_64_PLT32,.Ltcp32-4\n"
+    ".reloc .Ltcp27+6546,R_X86_64_PC32,.Ltcp55+20\n"
+    ".reloc .Ltcp27+6562,R_X86_64_PLT32,.Ltcp5-4\n"
+    ".reloc .Ltcp27+6969,R_X86_64_PLT32,.Ltcp33-4\n"
+    ".section .rodata.tcp.28,\"a\",%progbits\n"
     ".balign 4\n"
-    ".Ltcp27:\n"
+    ".Ltcp28:\n"
     ".octa 0x0,0x0,0x0\n"
     ".octa 0x0\n"
-    ".reloc .Ltcp27+0,R_X86_64_PC32,.Ltcp26+4836\n"
-    ".reloc .Ltcp27+4,R_X86_64_PC32,.Ltcp26+4958\n"
-    ".reloc .Ltcp27+8,R_X86_64_PC32,.Ltcp26+4928\n"
-    ".reloc .Ltcp27+12,R_X86_64_PC32,.Ltcp26+4949\n"
-    ".reloc .Ltcp27+16,R_X86_64_PC32,.Ltcp26+4996\n"
-    ".reloc .Ltcp27+20,R_X86_64_PC32,.Ltcp26+5974\n"
-    ".reloc .Ltcp27+24,R_X86_64_PC32,.Ltcp26+5952\n"
-    ".reloc .Ltcp27+28,R_X86_64_PC32,.Ltcp26+5969\n"
-    ".reloc .Ltcp27+32,R_X86_64_PC32,.Ltcp26+5940\n"
-    ".reloc .Ltcp27+36,R_X86_64_PC32,.Ltcp26+6003\n"
-    ".reloc .Ltcp27+40,R_X86_64_PC32,.Ltcp26+5146\n"
-    ".reloc .Ltcp27+44,R_X86_64_PC32,.Ltcp26+6209\n"
-    ".reloc .Ltcp27+48,R_X86_64_PC32,.Ltcp26+6187\n"
-    ".reloc .Ltcp27+52,R_X86_64_PC32,.Ltcp26+6204\n"
-    ".reloc .Ltcp27+56,R_X86_64_PC32,.Ltcp26+6175\n"
-    ".reloc .Ltcp27+60,R_X86_64_PC32,.Ltcp26+6238\n"
-    ".section .text.tcp.28,\"ax\",%progbits\n"
+    ".reloc .Ltcp28+0,R_X86_64_PC32,.Ltcp27+4836\n"
+    ".reloc .Ltcp28+4,R_X86_64_PC32,.Ltcp27+4958\n"
+    ".reloc .Ltcp28+8,R_X86_64_PC32,.Ltcp27+4928\n"
+    ".reloc .Ltcp28+12,R_X86_64_PC32,.Ltcp27+4949\n"
+    ".reloc .Ltcp28+16,R_X86_64_PC32,.Ltcp27+4996\n"
+    ".reloc .Ltcp28+20,R_X86_64_PC32,.Ltcp27+5974\n"
+    ".reloc .Ltcp28+24,R_X86_64_PC32,.Ltcp27+5952\n"
+    ".reloc .Ltcp28+28,R_X86_64_PC32,.Ltcp27+5969\n"
+    ".reloc .Ltcp28+32,R_X86_64_PC32,.Ltcp27+5940\n"
+    ".reloc .Ltcp28+36,R_X86_64_PC32,.Ltcp27+6003\n"
+    ".reloc .Ltcp28+40,R_X86_64_PC32,.Ltcp27+5146\n"
+    ".reloc .Ltcp28+44,R_X86_64_PC32,.Ltcp27+6209\n"
+    ".reloc .Ltcp28+48,R_X86_64_PC32,.Ltcp27+6187\n"
+    ".reloc .Ltcp28+52,R_X86_64_PC32,.Ltcp27+6204\n"
+    ".reloc .Ltcp28+56,R_X86_64_PC32,.Ltcp27+6175\n"
+    ".reloc .Ltcp28+60,R_X86_64_PC32,.Ltcp27+6238\n"
+    ".section .text.tcp.29,\"ax\",%progbits\n"
     ".balign 16\n"
-    ".Ltcp28:\n"
+    ".Ltcp29:\n"
     ".type \"kit_script::events::read_event::<#244039bd4e0652a3>\",%function\n"
     ".size \"kit_script::events::read_event::<#244039bd4e0652a3>\",2960\n"
     "\"kit_script::events::read_event::<#244039bd4e0652a3>\":\n"
@@ -6089,65 +6150,65 @@ __asm__(
     ".octa 0xe8ff894c0000000abe00000000158d48,0x3107b640ffffff53840fc08400000000,0x6f65723f8141fffffb50e9d231ff31c9\n"
     ".octa 0x7be00000000158d48ffffff38850f72,0x1c840fc08400000000e8ff894c000000,0xe9d231ff31c93107b64001b141ffffff\n"
     ".octa 0x44c748000000001f2444c748fffffb19,0xfffffcf9e9d2310cb640000000001824\n"
-    ".reloc .Ltcp28+69,R_X86_64_PC32,.Ltcp29-4\n"
-    ".reloc .Ltcp28+136,R_X86_64_PC32,.Ltcp54+24\n"
-    ".reloc .Ltcp28+157,R_X86_64_PLT32,.Ltcp4-4\n"
-    ".reloc .Ltcp28+252,R_X86_64_PC32,.Ltcp138-4\n"
-    ".reloc .Ltcp28+273,R_X86_64_PLT32,.Ltcp4-4\n"
-    ".reloc .Ltcp28+368,R_X86_64_PC32,.Ltcp137-4\n"
-    ".reloc .Ltcp28+387,R_X86_64_PLT32,.Ltcp4-4\n"
-    ".reloc .Ltcp28+460,R_X86_64_PC32,.Ltcp139-4\n"
-    ".reloc .Ltcp28+476,R_X86_64_PLT32,.Ltcp4-4\n"
-    ".reloc .Ltcp28+573,R_X86_64_PC32,.Ltcp140-4\n"
-    ".reloc .Ltcp28+594,R_X86_64_PLT32,.Ltcp4-4\n"
-    ".reloc .Ltcp28+668,R_X86_64_PC32,.Ltcp147-4\n"
-    ".reloc .Ltcp28+684,R_X86_64_PLT32,.Ltcp4-4\n"
-    ".reloc .Ltcp28+754,R_X86_64_PC32,.Ltcp54+28\n"
-    ".reloc .Ltcp28+770,R_X86_64_PLT32,.Ltcp4-4\n"
-    ".reloc .Ltcp28+832,R_X86_64_PC32,.Ltcp141-4\n"
-    ".reloc .Ltcp28+853,R_X86_64_PLT32,.Ltcp4-4\n"
-    ".reloc .Ltcp28+920,R_X86_64_PC32,.Ltcp143-4\n"
-    ".reloc .Ltcp28+936,R_X86_64_PLT32,.Ltcp4-4\n"
-    ".reloc .Ltcp28+1086,R_X86_64_PC32,.Ltcp146-4\n"
-    ".reloc .Ltcp28+1102,R_X86_64_PLT32,.Ltcp4-4\n"
-    ".reloc .Ltcp28+1187,R_X86_64_PLT32,.Ltcp2-4\n"
-    ".reloc .Ltcp28+1439,R_X86_64_PLT32,.Ltcp2-4\n"
-    ".reloc .Ltcp28+1648,R_X86_64_PC32,.Ltcp29+12\n"
-    ".reloc .Ltcp28+1762,R_X86_64_PLT32,.Ltcp2-4\n"
-    ".reloc .Ltcp28+2287,R_X86_64_PLT32,.Ltcp2-4\n"
-    ".reloc .Ltcp28+2372,R_X86_64_PC32,.Ltcp118+20\n"
-    ".reloc .Ltcp28+2385,R_X86_64_PLT32,.Ltcp4-4\n"
-    ".reloc .Ltcp28+2542,R_X86_64_PLT32,.Ltcp7-4\n"
-    ".reloc .Ltcp28+2835,R_X86_64_PC32,.Ltcp148-4\n"
-    ".reloc .Ltcp28+2848,R_X86_64_PLT32,.Ltcp4-4\n"
-    ".reloc .Ltcp28+2890,R_X86_64_PC32,.Ltcp149-4\n"
-    ".reloc .Ltcp28+2903,R_X86_64_PLT32,.Ltcp4-4\n"
-    ".section .rodata.tcp.29,\"a\",%progbits\n"
+    ".reloc .Ltcp29+69,R_X86_64_PC32,.Ltcp30-4\n"
+    ".reloc .Ltcp29+136,R_X86_64_PC32,.Ltcp55+24\n"
+    ".reloc .Ltcp29+157,R_X86_64_PLT32,.Ltcp5-4\n"
+    ".reloc .Ltcp29+252,R_X86_64_PC32,.Ltcp139-4\n"
+    ".reloc .Ltcp29+273,R_X86_64_PLT32,.Ltcp5-4\n"
+    ".reloc .Ltcp29+368,R_X86_64_PC32,.Ltcp138-4\n"
+    ".reloc .Ltcp29+387,R_X86_64_PLT32,.Ltcp5-4\n"
+    ".reloc .Ltcp29+460,R_X86_64_PC32,.Ltcp140-4\n"
+    ".reloc .Ltcp29+476,R_X86_64_PLT32,.Ltcp5-4\n"
+    ".reloc .Ltcp29+573,R_X86_64_PC32,.Ltcp141-4\n"
+    ".reloc .Ltcp29+594,R_X86_64_PLT32,.Ltcp5-4\n"
+    ".reloc .Ltcp29+668,R_X86_64_PC32,.Ltcp148-4\n"
+    ".reloc .Ltcp29+684,R_X86_64_PLT32,.Ltcp5-4\n"
+    ".reloc .Ltcp29+754,R_X86_64_PC32,.Ltcp55+28\n"
+    ".reloc .Ltcp29+770,R_X86_64_PLT32,.Ltcp5-4\n"
+    ".reloc .Ltcp29+832,R_X86_64_PC32,.Ltcp142-4\n"
+    ".reloc .Ltcp29+853,R_X86_64_PLT32,.Ltcp5-4\n"
+    ".reloc .Ltcp29+920,R_X86_64_PC32,.Ltcp144-4\n"
+    ".reloc .Ltcp29+936,R_X86_64_PLT32,.Ltcp5-4\n"
+    ".reloc .Ltcp29+1086,R_X86_64_PC32,.Ltcp147-4\n"
+    ".reloc .Ltcp29+1102,R_X86_64_PLT32,.Ltcp5-4\n"
+    ".reloc .Ltcp29+1187,R_X86_64_PLT32,.Ltcp2-4\n"
+    ".reloc .Ltcp29+1439,R_X86_64_PLT32,.Ltcp2-4\n"
+    ".reloc .Ltcp29+1648,R_X86_64_PC32,.Ltcp30+12\n"
+    ".reloc .Ltcp29+1762,R_X86_64_PLT32,.Ltcp2-4\n"
+    ".reloc .Ltcp29+2287,R_X86_64_PLT32,.Ltcp2-4\n"
+    ".reloc .Ltcp29+2372,R_X86_64_PC32,.Ltcp119+20\n"
+    ".reloc .Ltcp29+2385,R_X86_64_PLT32,.Ltcp5-4\n"
+    ".reloc .Ltcp29+2542,R_X86_64_PLT32,.Ltcp8-4\n"
+    ".reloc .Ltcp29+2835,R_X86_64_PC32,.Ltcp149-4\n"
+    ".reloc .Ltcp29+2848,R_X86_64_PLT32,.Ltcp5-4\n"
+    ".reloc .Ltcp29+2890,R_X86_64_PC32,.Ltcp150-4\n"
+    ".reloc .Ltcp29+2903,R_X86_64_PLT32,.Ltcp5-4\n"
+    ".section .rodata.tcp.30,\"a\",%progbits\n"
     ".balign 4\n"
-    ".Ltcp29:\n"
+    ".Ltcp30:\n"
     ".octa 0x0,0x0,0x0\n"
     ".octa 0x0\n"
     ".long 0x0\n"
-    ".reloc .Ltcp29+0,R_X86_64_PC32,.Ltcp28+82\n"
-    ".reloc .Ltcp29+4,R_X86_64_PC32,.Ltcp28+516\n"
-    ".reloc .Ltcp29+8,R_X86_64_PC32,.Ltcp28+206\n"
-    ".reloc .Ltcp29+12,R_X86_64_PC32,.Ltcp28+326\n"
-    ".reloc .Ltcp29+16,R_X86_64_PC32,.Ltcp28+1661\n"
-    ".reloc .Ltcp29+20,R_X86_64_PC32,.Ltcp28+1665\n"
-    ".reloc .Ltcp29+24,R_X86_64_PC32,.Ltcp28+2532\n"
-    ".reloc .Ltcp29+28,R_X86_64_PC32,.Ltcp28+2601\n"
-    ".reloc .Ltcp29+32,R_X86_64_PC32,.Ltcp28+1677\n"
-    ".reloc .Ltcp29+36,R_X86_64_PC32,.Ltcp28+1681\n"
-    ".reloc .Ltcp29+40,R_X86_64_PC32,.Ltcp28+1685\n"
-    ".reloc .Ltcp29+44,R_X86_64_PC32,.Ltcp28+2351\n"
-    ".reloc .Ltcp29+48,R_X86_64_PC32,.Ltcp28+1693\n"
-    ".reloc .Ltcp29+52,R_X86_64_PC32,.Ltcp28+1697\n"
-    ".reloc .Ltcp29+56,R_X86_64_PC32,.Ltcp28+1701\n"
-    ".reloc .Ltcp29+60,R_X86_64_PC32,.Ltcp28+2449\n"
-    ".reloc .Ltcp29+64,R_X86_64_PC32,.Ltcp28+1709\n"
-    ".section .text.tcp.30,\"ax\",%progbits\n"
+    ".reloc .Ltcp30+0,R_X86_64_PC32,.Ltcp29+82\n"
+    ".reloc .Ltcp30+4,R_X86_64_PC32,.Ltcp29+516\n"
+    ".reloc .Ltcp30+8,R_X86_64_PC32,.Ltcp29+206\n"
+    ".reloc .Ltcp30+12,R_X86_64_PC32,.Ltcp29+326\n"
+    ".reloc .Ltcp30+16,R_X86_64_PC32,.Ltcp29+1661\n"
+    ".reloc .Ltcp30+20,R_X86_64_PC32,.Ltcp29+1665\n"
+    ".reloc .Ltcp30+24,R_X86_64_PC32,.Ltcp29+2532\n"
+    ".reloc .Ltcp30+28,R_X86_64_PC32,.Ltcp29+2601\n"
+    ".reloc .Ltcp30+32,R_X86_64_PC32,.Ltcp29+1677\n"
+    ".reloc .Ltcp30+36,R_X86_64_PC32,.Ltcp29+1681\n"
+    ".reloc .Ltcp30+40,R_X86_64_PC32,.Ltcp29+1685\n"
+    ".reloc .Ltcp30+44,R_X86_64_PC32,.Ltcp29+2351\n"
+    ".reloc .Ltcp30+48,R_X86_64_PC32,.Ltcp29+1693\n"
+    ".reloc .Ltcp30+52,R_X86_64_PC32,.Ltcp29+1697\n"
+    ".reloc .Ltcp30+56,R_X86_64_PC32,.Ltcp29+1701\n"
+    ".reloc .Ltcp30+60,R_X86_64_PC32,.Ltcp29+2449\n"
+    ".reloc .Ltcp30+64,R_X86_64_PC32,.Ltcp29+1709\n"
+    ".section .text.tcp.31,\"ax\",%progbits\n"
     ".balign 16\n"
-    ".Ltcp30:\n"
+    ".Ltcp31:\n"
     ".type \"kit_script::line::repeat::<#2d4aa59632031e8a>\",%function\n"
     ".size \"kit_script::line::repeat::<#2d4aa59632031e8a>\",166\n"
     "\"kit_script::line::repeat::<#2d4aa59632031e8a>\":\n"
@@ -6157,18 +6218,18 @@ __asm__(
     ".octa 0x47c72c47110f1c47110f0c47110fc057\n"
     ".long 0x3c\n"
     ".short 0xc300\n"
-    ".section .text.tcp.31,\"ax\",%progbits\n"
+    ".section .text.tcp.32,\"ax\",%progbits\n"
     ".balign 16\n"
-    ".Ltcp31:\n"
+    ".Ltcp32:\n"
     ".type \"kit_script::settings::read_switch\",%function\n"
     ".size \"kit_script::settings::read_switch\",53\n"
     "\"kit_script::settings::read_switch\":\n"
     ".octa 0x756f3f80247502fe8348157403fe8348,0x10756f3f80c3d089c2940f6e017f801f,0xc3d231c0940f66027f800a7566017f80\n"
     ".long 0xc031d231\n"
     ".byte 0xc3\n"
-    ".section .text.tcp.32,\"ax\",%progbits\n"
+    ".section .text.tcp.33,\"ax\",%progbits\n"
     ".balign 16\n"
-    ".Ltcp32:\n"
+    ".Ltcp33:\n"
     ".type \"std_alloc::vec::Vec::grow_amortized::<#5773add98f13ddf0>\",%function\n"
     ".size \"std_alloc::vec::Vec::grow_amortized::<#5773add98f13ddf0>\",890\n"
     "\"std_alloc::vec::Vec::grow_amortized::<#5773add98f13ddf0>\":\n"
@@ -6198,9 +6259,9 @@ __asm__(
     ".octa 0xf201054110f201654100f10164c100f,0x75d1394830c283481004110f10104c11\n"
     ".long 0xfd7be9db\n"
     ".short 0xffff\n"
-    ".section .text.tcp.33,\"ax\",%progbits\n"
+    ".section .text.tcp.34,\"ax\",%progbits\n"
     ".balign 16\n"
-    ".Ltcp33:\n"
+    ".Ltcp34:\n"
     ".type \"tcp_replay::party::Party::new_in::<#244039bd4e0652a3>\",%function\n"
     ".size \"tcp_replay::party::Party::new_in::<#244039bd4e0652a3>\",2942\n"
     "\"tcp_replay::party::Party::new_in::<#244039bd4e0652a3>\":\n"
@@ -6268,9 +6329,9 @@ __asm__(
     ".octa 0xc7480c244c8966000000ac248cb70f08,0x290f0000182444c76600000000102444,0x902484c748000000802484\n"
     ".octa 0xf02484290f000001302484290f0000,0x1102484290f000001002484290f0000,0xd02484290f000001202484290f0000\n"
     ".octa 0x1bd41000000e02484290f0000,0x1b6400218bf4166000001c0248c8b4c,0xfffff743e9c1280fc189cc894ddb3145\n"
-    ".section .text.tcp.34,\"ax\",%progbits\n"
+    ".section .text.tcp.35,\"ax\",%progbits\n"
     ".balign 16\n"
-    ".Ltcp34:\n"
+    ".Ltcp35:\n"
     ".type \"kit_report::turns::push_turn_line::<#244039bd4e0652a3>\",%function\n"
     ".size \"kit_report::turns::push_turn_line::<#244039bd4e0652a3>\",9666\n"
     "\"kit_report::turns::push_turn_line::<#244039bd4e0652a3>\":\n"
@@ -6499,163 +6560,163 @@ __asm__(
     ".octa 0xe910246c8b48e889ed311060894c0868,0xe810247c8b4800000001beffffe029,0x481024448b48de74c08401b540000000\n"
     ".quad 0x8b4c08688b4c288b\n"
     ".long 0xb1eb1060\n"
-    ".reloc .Ltcp34+292,R_X86_64_PLT32,.Ltcp36-4\n"
-    ".reloc .Ltcp34+348,R_X86_64_PC32,.Ltcp35+128\n"
-    ".reloc .Ltcp34+817,R_X86_64_PC32,.Ltcp118+44\n"
-    ".reloc .Ltcp34+857,R_X86_64_PC32,.Ltcp103-4\n"
-    ".reloc .Ltcp34+979,R_X86_64_PLT32,.Ltcp80-4\n"
-    ".reloc .Ltcp34+1124,R_X86_64_PLT32,.Ltcp86-4\n"
-    ".reloc .Ltcp34+1240,R_X86_64_PLT32,.Ltcp36-4\n"
-    ".reloc .Ltcp34+1357,R_X86_64_PLT32,.Ltcp74-4\n"
-    ".reloc .Ltcp34+1372,R_X86_64_PLT32,.Ltcp75-4\n"
-    ".reloc .Ltcp34+1468,R_X86_64_PLT32,.Ltcp84-4\n"
-    ".reloc .Ltcp34+1648,R_X86_64_PLT32,.Ltcp75-4\n"
-    ".reloc .Ltcp34+1757,R_X86_64_PC32,.Ltcp152-4\n"
-    ".reloc .Ltcp34+1969,R_X86_64_PC32,.Ltcp35-4\n"
-    ".reloc .Ltcp34+2024,R_X86_64_PC32,.Ltcp171-4\n"
-    ".reloc .Ltcp34+2076,R_X86_64_PLT32,.Ltcp87-4\n"
-    ".reloc .Ltcp34+2096,R_X86_64_PC32,.Ltcp118+44\n"
-    ".reloc .Ltcp34+2111,R_X86_64_PLT32,.Ltcp78-4\n"
-    ".reloc .Ltcp34+2139,R_X86_64_PLT32,.Ltcp85-4\n"
-    ".reloc .Ltcp34+2192,R_X86_64_PLT32,.Ltcp80-4\n"
-    ".reloc .Ltcp34+2247,R_X86_64_PC32,.Ltcp170-4\n"
-    ".reloc .Ltcp34+2290,R_X86_64_PC32,.Ltcp100-4\n"
-    ".reloc .Ltcp34+2326,R_X86_64_PLT32,.Ltcp88-4\n"
-    ".reloc .Ltcp34+2379,R_X86_64_PLT32,.Ltcp74-4\n"
-    ".reloc .Ltcp34+2472,R_X86_64_PLT32,.Ltcp83-4\n"
-    ".reloc .Ltcp34+2517,R_X86_64_PC32,.Ltcp101-4\n"
-    ".reloc .Ltcp34+2599,R_X86_64_PC32,.Ltcp154-4\n"
-    ".reloc .Ltcp34+2657,R_X86_64_PC32,.Ltcp156-4\n"
-    ".reloc .Ltcp34+2664,R_X86_64_PC32,.Ltcp157-4\n"
-    ".reloc .Ltcp34+2791,R_X86_64_PLT32,.Ltcp84-4\n"
-    ".reloc .Ltcp34+2810,R_X86_64_PC32,.Ltcp35+20\n"
-    ".reloc .Ltcp34+2837,R_X86_64_PLT32,.Ltcp83-4\n"
-    ".reloc .Ltcp34+2877,R_X86_64_PLT32,.Ltcp85-4\n"
-    ".reloc .Ltcp34+2905,R_X86_64_PC32,.Ltcp103-4\n"
-    ".reloc .Ltcp34+2920,R_X86_64_PLT32,.Ltcp78-4\n"
-    ".reloc .Ltcp34+2988,R_X86_64_PLT32,.Ltcp85-4\n"
-    ".reloc .Ltcp34+3116,R_X86_64_PC32,.Ltcp151-4\n"
-    ".reloc .Ltcp34+3158,R_X86_64_PC32,.Ltcp152-4\n"
-    ".reloc .Ltcp34+3181,R_X86_64_PLT32,.Ltcp77-4\n"
-    ".reloc .Ltcp34+3199,R_X86_64_PLT32,.Ltcp85-4\n"
-    ".reloc .Ltcp34+3251,R_X86_64_PC32,.Ltcp159-4\n"
-    ".reloc .Ltcp34+3324,R_X86_64_PC32,.Ltcp160-4\n"
-    ".reloc .Ltcp34+3463,R_X86_64_PC32,.Ltcp185-4\n"
-    ".reloc .Ltcp34+3474,R_X86_64_PC32,.Ltcp186-4\n"
-    ".reloc .Ltcp34+3658,R_X86_64_PLT32,.Ltcp85-4\n"
-    ".reloc .Ltcp34+3709,R_X86_64_PC32,.Ltcp155-4\n"
-    ".reloc .Ltcp34+3764,R_X86_64_PC32,.Ltcp153-4\n"
-    ".reloc .Ltcp34+3894,R_X86_64_PC32,.Ltcp185-4\n"
-    ".reloc .Ltcp34+3905,R_X86_64_PC32,.Ltcp186-4\n"
-    ".reloc .Ltcp34+4386,R_X86_64_PLT32,.Ltcp85-4\n"
-    ".reloc .Ltcp34+4442,R_X86_64_PLT32,.Ltcp23-4\n"
-    ".reloc .Ltcp34+4464,R_X86_64_PLT32,.Ltcp85-4\n"
-    ".reloc .Ltcp34+4514,R_X86_64_PLT32,.Ltcp85-4\n"
-    ".reloc .Ltcp34+4563,R_X86_64_PLT32,.Ltcp85-4\n"
-    ".reloc .Ltcp34+4623,R_X86_64_PLT32,.Ltcp85-4\n"
-    ".reloc .Ltcp34+4671,R_X86_64_PLT32,.Ltcp85-4\n"
-    ".reloc .Ltcp34+4723,R_X86_64_PLT32,.Ltcp85-4\n"
-    ".reloc .Ltcp34+4781,R_X86_64_PLT32,.Ltcp8-4\n"
-    ".reloc .Ltcp34+4801,R_X86_64_PLT32,.Ltcp85-4\n"
-    ".reloc .Ltcp34+4851,R_X86_64_PLT32,.Ltcp85-4\n"
-    ".reloc .Ltcp34+4901,R_X86_64_PLT32,.Ltcp85-4\n"
-    ".reloc .Ltcp34+5486,R_X86_64_PLT32,.Ltcp85-4\n"
-    ".reloc .Ltcp34+5535,R_X86_64_PLT32,.Ltcp85-4\n"
-    ".reloc .Ltcp34+5590,R_X86_64_PLT32,.Ltcp85-4\n"
-    ".reloc .Ltcp34+5868,R_X86_64_PC32,.Ltcp158-4\n"
-    ".reloc .Ltcp34+5956,R_X86_64_PC32,.Ltcp35+36\n"
-    ".reloc .Ltcp34+5972,R_X86_64_PC32,.Ltcp107-4\n"
-    ".reloc .Ltcp34+6002,R_X86_64_PC32,.Ltcp109-4\n"
-    ".reloc .Ltcp34+6014,R_X86_64_PC32,.Ltcp106-4\n"
-    ".reloc .Ltcp34+6248,R_X86_64_PC32,.Ltcp111-4\n"
-    ".reloc .Ltcp34+6273,R_X86_64_PC32,.Ltcp112-4\n"
-    ".reloc .Ltcp34+6307,R_X86_64_PC32,.Ltcp113-4\n"
-    ".reloc .Ltcp34+6342,R_X86_64_PC32,.Ltcp105-4\n"
-    ".reloc .Ltcp34+6377,R_X86_64_PC32,.Ltcp114-4\n"
-    ".reloc .Ltcp34+6412,R_X86_64_PC32,.Ltcp115-4\n"
-    ".reloc .Ltcp34+6447,R_X86_64_PC32,.Ltcp107-4\n"
-    ".reloc .Ltcp34+6482,R_X86_64_PC32,.Ltcp116-4\n"
-    ".reloc .Ltcp34+6992,R_X86_64_PLT32,.Ltcp78-4\n"
-    ".reloc .Ltcp34+7165,R_X86_64_PLT32,.Ltcp85-4\n"
-    ".reloc .Ltcp34+7206,R_X86_64_PC32,.Ltcp117-4\n"
-    ".reloc .Ltcp34+7224,R_X86_64_PLT32,.Ltcp78-4\n"
-    ".reloc .Ltcp34+7255,R_X86_64_PLT32,.Ltcp85-4\n"
-    ".reloc .Ltcp34+7291,R_X86_64_PC32,.Ltcp105-4\n"
-    ".reloc .Ltcp34+7305,R_X86_64_PC32,.Ltcp108-4\n"
-    ".reloc .Ltcp34+7314,R_X86_64_PC32,.Ltcp110-4\n"
-    ".reloc .Ltcp34+7602,R_X86_64_PC32,.Ltcp104-4\n"
-    ".reloc .Ltcp34+7711,R_X86_64_PC32,.Ltcp104-4\n"
-    ".reloc .Ltcp34+7748,R_X86_64_PC32,.Ltcp104-4\n"
-    ".reloc .Ltcp34+7871,R_X86_64_PC32,.Ltcp104-4\n"
-    ".reloc .Ltcp34+7991,R_X86_64_PC32,.Ltcp104-4\n"
-    ".reloc .Ltcp34+8123,R_X86_64_PC32,.Ltcp104-4\n"
-    ".reloc .Ltcp34+8160,R_X86_64_PC32,.Ltcp104-4\n"
-    ".reloc .Ltcp34+8216,R_X86_64_PC32,.Ltcp104-4\n"
-    ".reloc .Ltcp34+8346,R_X86_64_PC32,.Ltcp104-4\n"
-    ".reloc .Ltcp34+8436,R_X86_64_PC32,.Ltcp104-4\n"
-    ".reloc .Ltcp34+8473,R_X86_64_PC32,.Ltcp104-4\n"
-    ".reloc .Ltcp34+8784,R_X86_64_PC32,.Ltcp104-4\n"
-    ".reloc .Ltcp34+8848,R_X86_64_PLT32,.Ltcp85-4\n"
-    ".reloc .Ltcp34+8995,R_X86_64_PLT32,.Ltcp85-4\n"
-    ".reloc .Ltcp34+9034,R_X86_64_PLT32,.Ltcp85-4\n"
-    ".reloc .Ltcp34+9075,R_X86_64_PC32,.Ltcp99-4\n"
-    ".reloc .Ltcp34+9093,R_X86_64_PLT32,.Ltcp78-4\n"
-    ".reloc .Ltcp34+9121,R_X86_64_PLT32,.Ltcp85-4\n"
-    ".reloc .Ltcp34+9404,R_X86_64_PLT32,.Ltcp9-4\n"
-    ".reloc .Ltcp34+9452,R_X86_64_PLT32,.Ltcp82-4\n"
-    ".reloc .Ltcp34+9529,R_X86_64_PLT32,.Ltcp82-4\n"
-    ".reloc .Ltcp34+9559,R_X86_64_PLT32,.Ltcp85-4\n"
-    ".reloc .Ltcp34+9637,R_X86_64_PLT32,.Ltcp85-4\n"
-    ".section .rodata.tcp.35,\"a\",%progbits\n"
+    ".reloc .Ltcp35+292,R_X86_64_PLT32,.Ltcp37-4\n"
+    ".reloc .Ltcp35+348,R_X86_64_PC32,.Ltcp36+128\n"
+    ".reloc .Ltcp35+817,R_X86_64_PC32,.Ltcp119+44\n"
+    ".reloc .Ltcp35+857,R_X86_64_PC32,.Ltcp104-4\n"
+    ".reloc .Ltcp35+979,R_X86_64_PLT32,.Ltcp81-4\n"
+    ".reloc .Ltcp35+1124,R_X86_64_PLT32,.Ltcp87-4\n"
+    ".reloc .Ltcp35+1240,R_X86_64_PLT32,.Ltcp37-4\n"
+    ".reloc .Ltcp35+1357,R_X86_64_PLT32,.Ltcp75-4\n"
+    ".reloc .Ltcp35+1372,R_X86_64_PLT32,.Ltcp76-4\n"
+    ".reloc .Ltcp35+1468,R_X86_64_PLT32,.Ltcp85-4\n"
+    ".reloc .Ltcp35+1648,R_X86_64_PLT32,.Ltcp76-4\n"
+    ".reloc .Ltcp35+1757,R_X86_64_PC32,.Ltcp153-4\n"
+    ".reloc .Ltcp35+1969,R_X86_64_PC32,.Ltcp36-4\n"
+    ".reloc .Ltcp35+2024,R_X86_64_PC32,.Ltcp172-4\n"
+    ".reloc .Ltcp35+2076,R_X86_64_PLT32,.Ltcp88-4\n"
+    ".reloc .Ltcp35+2096,R_X86_64_PC32,.Ltcp119+44\n"
+    ".reloc .Ltcp35+2111,R_X86_64_PLT32,.Ltcp79-4\n"
+    ".reloc .Ltcp35+2139,R_X86_64_PLT32,.Ltcp86-4\n"
+    ".reloc .Ltcp35+2192,R_X86_64_PLT32,.Ltcp81-4\n"
+    ".reloc .Ltcp35+2247,R_X86_64_PC32,.Ltcp171-4\n"
+    ".reloc .Ltcp35+2290,R_X86_64_PC32,.Ltcp101-4\n"
+    ".reloc .Ltcp35+2326,R_X86_64_PLT32,.Ltcp89-4\n"
+    ".reloc .Ltcp35+2379,R_X86_64_PLT32,.Ltcp75-4\n"
+    ".reloc .Ltcp35+2472,R_X86_64_PLT32,.Ltcp84-4\n"
+    ".reloc .Ltcp35+2517,R_X86_64_PC32,.Ltcp102-4\n"
+    ".reloc .Ltcp35+2599,R_X86_64_PC32,.Ltcp155-4\n"
+    ".reloc .Ltcp35+2657,R_X86_64_PC32,.Ltcp157-4\n"
+    ".reloc .Ltcp35+2664,R_X86_64_PC32,.Ltcp158-4\n"
+    ".reloc .Ltcp35+2791,R_X86_64_PLT32,.Ltcp85-4\n"
+    ".reloc .Ltcp35+2810,R_X86_64_PC32,.Ltcp36+20\n"
+    ".reloc .Ltcp35+2837,R_X86_64_PLT32,.Ltcp84-4\n"
+    ".reloc .Ltcp35+2877,R_X86_64_PLT32,.Ltcp86-4\n"
+    ".reloc .Ltcp35+2905,R_X86_64_PC32,.Ltcp104-4\n"
+    ".reloc .Ltcp35+2920,R_X86_64_PLT32,.Ltcp79-4\n"
+    ".reloc .Ltcp35+2988,R_X86_64_PLT32,.Ltcp86-4\n"
+    ".reloc .Ltcp35+3116,R_X86_64_PC32,.Ltcp152-4\n"
+    ".reloc .Ltcp35+3158,R_X86_64_PC32,.Ltcp153-4\n"
+    ".reloc .Ltcp35+3181,R_X86_64_PLT32,.Ltcp78-4\n"
+    ".reloc .Ltcp35+3199,R_X86_64_PLT32,.Ltcp86-4\n"
+    ".reloc .Ltcp35+3251,R_X86_64_PC32,.Ltcp160-4\n"
+    ".reloc .Ltcp35+3324,R_X86_64_PC32,.Ltcp161-4\n"
+    ".reloc .Ltcp35+3463,R_X86_64_PC32,.Ltcp186-4\n"
+    ".reloc .Ltcp35+3474,R_X86_64_PC32,.Ltcp187-4\n"
+    ".reloc .Ltcp35+3658,R_X86_64_PLT32,.Ltcp86-4\n"
+    ".reloc .Ltcp35+3709,R_X86_64_PC32,.Ltcp156-4\n"
+    ".reloc .Ltcp35+3764,R_X86_64_PC32,.Ltcp154-4\n"
+    ".reloc .Ltcp35+3894,R_X86_64_PC32,.Ltcp186-4\n"
+    ".reloc .Ltcp35+3905,R_X86_64_PC32,.Ltcp187-4\n"
+    ".reloc .Ltcp35+4386,R_X86_64_PLT32,.Ltcp86-4\n"
+    ".reloc .Ltcp35+4442,R_X86_64_PLT32,.Ltcp24-4\n"
+    ".reloc .Ltcp35+4464,R_X86_64_PLT32,.Ltcp86-4\n"
+    ".reloc .Ltcp35+4514,R_X86_64_PLT32,.Ltcp86-4\n"
+    ".reloc .Ltcp35+4563,R_X86_64_PLT32,.Ltcp86-4\n"
+    ".reloc .Ltcp35+4623,R_X86_64_PLT32,.Ltcp86-4\n"
+    ".reloc .Ltcp35+4671,R_X86_64_PLT32,.Ltcp86-4\n"
+    ".reloc .Ltcp35+4723,R_X86_64_PLT32,.Ltcp86-4\n"
+    ".reloc .Ltcp35+4781,R_X86_64_PLT32,.Ltcp9-4\n"
+    ".reloc .Ltcp35+4801,R_X86_64_PLT32,.Ltcp86-4\n"
+    ".reloc .Ltcp35+4851,R_X86_64_PLT32,.Ltcp86-4\n"
+    ".reloc .Ltcp35+4901,R_X86_64_PLT32,.Ltcp86-4\n"
+    ".reloc .Ltcp35+5486,R_X86_64_PLT32,.Ltcp86-4\n"
+    ".reloc .Ltcp35+5535,R_X86_64_PLT32,.Ltcp86-4\n"
+    ".reloc .Ltcp35+5590,R_X86_64_PLT32,.Ltcp86-4\n"
+    ".reloc .Ltcp35+5868,R_X86_64_PC32,.Ltcp159-4\n"
+    ".reloc .Ltcp35+5956,R_X86_64_PC32,.Ltcp36+36\n"
+    ".reloc .Ltcp35+5972,R_X86_64_PC32,.Ltcp108-4\n"
+    ".reloc .Ltcp35+6002,R_X86_64_PC32,.Ltcp110-4\n"
+    ".reloc .Ltcp35+6014,R_X86_64_PC32,.Ltcp107-4\n"
+    ".reloc .Ltcp35+6248,R_X86_64_PC32,.Ltcp112-4\n"
+    ".reloc .Ltcp35+6273,R_X86_64_PC32,.Ltcp113-4\n"
+    ".reloc .Ltcp35+6307,R_X86_64_PC32,.Ltcp114-4\n"
+    ".reloc .Ltcp35+6342,R_X86_64_PC32,.Ltcp106-4\n"
+    ".reloc .Ltcp35+6377,R_X86_64_PC32,.Ltcp115-4\n"
+    ".reloc .Ltcp35+6412,R_X86_64_PC32,.Ltcp116-4\n"
+    ".reloc .Ltcp35+6447,R_X86_64_PC32,.Ltcp108-4\n"
+    ".reloc .Ltcp35+6482,R_X86_64_PC32,.Ltcp117-4\n"
+    ".reloc .Ltcp35+6992,R_X86_64_PLT32,.Ltcp79-4\n"
+    ".reloc .Ltcp35+7165,R_X86_64_PLT32,.Ltcp86-4\n"
+    ".reloc .Ltcp35+7206,R_X86_64_PC32,.Ltcp118-4\n"
+    ".reloc .Ltcp35+7224,R_X86_64_PLT32,.Ltcp79-4\n"
+    ".reloc .Ltcp35+7255,R_X86_64_PLT32,.Ltcp86-4\n"
+    ".reloc .Ltcp35+7291,R_X86_64_PC32,.Ltcp106-4\n"
+    ".reloc .Ltcp35+7305,R_X86_64_PC32,.Ltcp109-4\n"
+    ".reloc .Ltcp35+7314,R_X86_64_PC32,.Ltcp111-4\n"
+    ".reloc .Ltcp35+7602,R_X86_64_PC32,.Ltcp105-4\n"
+    ".reloc .Ltcp35+7711,R_X86_64_PC32,.Ltcp105-4\n"
+    ".reloc .Ltcp35+7748,R_X86_64_PC32,.Ltcp105-4\n"
+    ".reloc .Ltcp35+7871,R_X86_64_PC32,.Ltcp105-4\n"
+    ".reloc .Ltcp35+7991,R_X86_64_PC32,.Ltcp105-4\n"
+    ".reloc .Ltcp35+8123,R_X86_64_PC32,.Ltcp105-4\n"
+    ".reloc .Ltcp35+8160,R_X86_64_PC32,.Ltcp105-4\n"
+    ".reloc .Ltcp35+8216,R_X86_64_PC32,.Ltcp105-4\n"
+    ".reloc .Ltcp35+8346,R_X86_64_PC32,.Ltcp105-4\n"
+    ".reloc .Ltcp35+8436,R_X86_64_PC32,.Ltcp105-4\n"
+    ".reloc .Ltcp35+8473,R_X86_64_PC32,.Ltcp105-4\n"
+    ".reloc .Ltcp35+8784,R_X86_64_PC32,.Ltcp105-4\n"
+    ".reloc .Ltcp35+8848,R_X86_64_PLT32,.Ltcp86-4\n"
+    ".reloc .Ltcp35+8995,R_X86_64_PLT32,.Ltcp86-4\n"
+    ".reloc .Ltcp35+9034,R_X86_64_PLT32,.Ltcp86-4\n"
+    ".reloc .Ltcp35+9075,R_X86_64_PC32,.Ltcp100-4\n"
+    ".reloc .Ltcp35+9093,R_X86_64_PLT32,.Ltcp79-4\n"
+    ".reloc .Ltcp35+9121,R_X86_64_PLT32,.Ltcp86-4\n"
+    ".reloc .Ltcp35+9404,R_X86_64_PLT32,.Ltcp10-4\n"
+    ".reloc .Ltcp35+9452,R_X86_64_PLT32,.Ltcp83-4\n"
+    ".reloc .Ltcp35+9529,R_X86_64_PLT32,.Ltcp83-4\n"
+    ".reloc .Ltcp35+9559,R_X86_64_PLT32,.Ltcp86-4\n"
+    ".reloc .Ltcp35+9637,R_X86_64_PLT32,.Ltcp86-4\n"
+    ".section .rodata.tcp.36,\"a\",%progbits\n"
     ".balign 4\n"
-    ".Ltcp35:\n"
+    ".Ltcp36:\n"
     ".octa 0x0,0x0,0x0\n"
     ".octa 0x0,0x0,0x0\n"
     ".octa 0x0,0x0,0x0\n"
     ".quad 0x0\n"
     ".long 0x0\n"
-    ".reloc .Ltcp35+0,R_X86_64_PC32,.Ltcp34+1982\n"
-    ".reloc .Ltcp35+4,R_X86_64_PC32,.Ltcp34+2765\n"
-    ".reloc .Ltcp35+8,R_X86_64_PC32,.Ltcp34+2489\n"
-    ".reloc .Ltcp35+12,R_X86_64_PC32,.Ltcp34+2652\n"
-    ".reloc .Ltcp35+16,R_X86_64_PC32,.Ltcp34+2370\n"
-    ".reloc .Ltcp35+20,R_X86_64_PC32,.Ltcp34+2820\n"
-    ".reloc .Ltcp35+24,R_X86_64_PC32,.Ltcp34+2823\n"
-    ".reloc .Ltcp35+28,R_X86_64_PC32,.Ltcp34+3369\n"
-    ".reloc .Ltcp35+32,R_X86_64_PC32,.Ltcp34+3232\n"
-    ".reloc .Ltcp35+36,R_X86_64_PC32,.Ltcp34+3309\n"
-    ".reloc .Ltcp35+40,R_X86_64_PC32,.Ltcp34+5969\n"
-    ".reloc .Ltcp35+44,R_X86_64_PC32,.Ltcp34+6027\n"
-    ".reloc .Ltcp35+48,R_X86_64_PC32,.Ltcp34+6031\n"
-    ".reloc .Ltcp35+52,R_X86_64_PC32,.Ltcp34+6035\n"
-    ".reloc .Ltcp35+56,R_X86_64_PC32,.Ltcp34+6039\n"
-    ".reloc .Ltcp35+60,R_X86_64_PC32,.Ltcp34+6043\n"
-    ".reloc .Ltcp35+64,R_X86_64_PC32,.Ltcp34+6047\n"
-    ".reloc .Ltcp35+68,R_X86_64_PC32,.Ltcp34+6051\n"
-    ".reloc .Ltcp35+72,R_X86_64_PC32,.Ltcp34+6055\n"
-    ".reloc .Ltcp35+76,R_X86_64_PC32,.Ltcp34+6059\n"
-    ".reloc .Ltcp35+80,R_X86_64_PC32,.Ltcp34+6063\n"
-    ".reloc .Ltcp35+84,R_X86_64_PC32,.Ltcp34+6067\n"
-    ".reloc .Ltcp35+88,R_X86_64_PC32,.Ltcp34+6071\n"
-    ".reloc .Ltcp35+92,R_X86_64_PC32,.Ltcp34+6075\n"
-    ".reloc .Ltcp35+96,R_X86_64_PC32,.Ltcp34+7344\n"
-    ".reloc .Ltcp35+100,R_X86_64_PC32,.Ltcp34+6059\n"
-    ".reloc .Ltcp35+104,R_X86_64_PC32,.Ltcp34+7366\n"
-    ".reloc .Ltcp35+108,R_X86_64_PC32,.Ltcp34+6091\n"
-    ".reloc .Ltcp35+112,R_X86_64_PC32,.Ltcp34+7383\n"
-    ".reloc .Ltcp35+116,R_X86_64_PC32,.Ltcp34+6099\n"
-    ".reloc .Ltcp35+120,R_X86_64_PC32,.Ltcp34+6103\n"
-    ".reloc .Ltcp35+124,R_X86_64_PC32,.Ltcp34+6107\n"
-    ".reloc .Ltcp35+128,R_X86_64_PC32,.Ltcp34+6099\n"
-    ".reloc .Ltcp35+132,R_X86_64_PC32,.Ltcp34+662\n"
-    ".reloc .Ltcp35+136,R_X86_64_PC32,.Ltcp34+365\n"
-    ".reloc .Ltcp35+140,R_X86_64_PC32,.Ltcp34+369\n"
-    ".reloc .Ltcp35+144,R_X86_64_PC32,.Ltcp34+158\n"
-    ".reloc .Ltcp35+148,R_X86_64_PC32,.Ltcp34+162\n"
-    ".reloc .Ltcp35+152,R_X86_64_PC32,.Ltcp34+166\n"
-    ".section .text.tcp.36,\"ax\",%progbits\n"
+    ".reloc .Ltcp36+0,R_X86_64_PC32,.Ltcp35+1982\n"
+    ".reloc .Ltcp36+4,R_X86_64_PC32,.Ltcp35+2765\n"
+    ".reloc .Ltcp36+8,R_X86_64_PC32,.Ltcp35+2489\n"
+    ".reloc .Ltcp36+12,R_X86_64_PC32,.Ltcp35+2652\n"
+    ".reloc .Ltcp36+16,R_X86_64_PC32,.Ltcp35+2370\n"
+    ".reloc .Ltcp36+20,R_X86_64_PC32,.Ltcp35+2820\n"
+    ".reloc .Ltcp36+24,R_X86_64_PC32,.Ltcp35+2823\n"
+    ".reloc .Ltcp36+28,R_X86_64_PC32,.Ltcp35+3369\n"
+    ".reloc .Ltcp36+32,R_X86_64_PC32,.Ltcp35+3232\n"
+    ".reloc .Ltcp36+36,R_X86_64_PC32,.Ltcp35+3309\n"
+    ".reloc .Ltcp36+40,R_X86_64_PC32,.Ltcp35+5969\n"
+    ".reloc .Ltcp36+44,R_X86_64_PC32,.Ltcp35+6027\n"
+    ".reloc .Ltcp36+48,R_X86_64_PC32,.Ltcp35+6031\n"
+    ".reloc .Ltcp36+52,R_X86_64_PC32,.Ltcp35+6035\n"
+    ".reloc .Ltcp36+56,R_X86_64_PC32,.Ltcp35+6039\n"
+    ".reloc .Ltcp36+60,R_X86_64_PC32,.Ltcp35+6043\n"
+    ".reloc .Ltcp36+64,R_X86_64_PC32,.Ltcp35+6047\n"
+    ".reloc .Ltcp36+68,R_X86_64_PC32,.Ltcp35+6051\n"
+    ".reloc .Ltcp36+72,R_X86_64_PC32,.Ltcp35+6055\n"
+    ".reloc .Ltcp36+76,R_X86_64_PC32,.Ltcp35+6059\n"
+    ".reloc .Ltcp36+80,R_X86_64_PC32,.Ltcp35+6063\n"
+    ".reloc .Ltcp36+84,R_X86_64_PC32,.Ltcp35+6067\n"
+    ".reloc .Ltcp36+88,R_X86_64_PC32,.Ltcp35+6071\n"
+    ".reloc .Ltcp36+92,R_X86_64_PC32,.Ltcp35+6075\n"
+    ".reloc .Ltcp36+96,R_X86_64_PC32,.Ltcp35+7344\n"
+    ".reloc .Ltcp36+100,R_X86_64_PC32,.Ltcp35+6059\n"
+    ".reloc .Ltcp36+104,R_X86_64_PC32,.Ltcp35+7366\n"
+    ".reloc .Ltcp36+108,R_X86_64_PC32,.Ltcp35+6091\n"
+    ".reloc .Ltcp36+112,R_X86_64_PC32,.Ltcp35+7383\n"
+    ".reloc .Ltcp36+116,R_X86_64_PC32,.Ltcp35+6099\n"
+    ".reloc .Ltcp36+120,R_X86_64_PC32,.Ltcp35+6103\n"
+    ".reloc .Ltcp36+124,R_X86_64_PC32,.Ltcp35+6107\n"
+    ".reloc .Ltcp36+128,R_X86_64_PC32,.Ltcp35+6099\n"
+    ".reloc .Ltcp36+132,R_X86_64_PC32,.Ltcp35+662\n"
+    ".reloc .Ltcp36+136,R_X86_64_PC32,.Ltcp35+365\n"
+    ".reloc .Ltcp36+140,R_X86_64_PC32,.Ltcp35+369\n"
+    ".reloc .Ltcp36+144,R_X86_64_PC32,.Ltcp35+158\n"
+    ".reloc .Ltcp36+148,R_X86_64_PC32,.Ltcp35+162\n"
+    ".reloc .Ltcp36+152,R_X86_64_PC32,.Ltcp35+166\n"
+    ".section .text.tcp.37,\"ax\",%progbits\n"
     ".balign 16\n"
-    ".Ltcp36:\n"
+    ".Ltcp37:\n"
     ".type \"tcp_replay::world::step_at::<#092612425c726c7d>\",%function\n"
     ".size \"tcp_replay::world::step_at::<#092612425c726c7d>\",5853\n"
     "\"tcp_replay::world::step_at::<#092612425c726c7d>\":\n"
@@ -6795,53 +6856,53 @@ __asm__(
     ".octa 0x4c00000190249c8b4d0000018824948b,0xcc840fd4894d1cc3f6fffffe9de9ff89,0xc8b47fce68348de8948f08949fffffe\n"
     ".octa 0x3948ef75c6394c04c08349000c894606,0xc931c031fffffea3e9ffffff36840ff3\n"
     ".quad 0xffffeaf0e9ff894c\n"
-    ".reloc .Ltcp36+42,R_X86_64_PC32,.Ltcp37-4\n"
-    ".reloc .Ltcp36+621,R_X86_64_PC32,.Ltcp101-4\n"
-    ".reloc .Ltcp36+984,R_X86_64_PLT32,.Ltcp41-4\n"
-    ".reloc .Ltcp36+1246,R_X86_64_PLT32,.Ltcp43-4\n"
-    ".reloc .Ltcp36+1935,R_X86_64_PLT32,.Ltcp55-4\n"
-    ".reloc .Ltcp36+2203,R_X86_64_PC32,.Ltcp37+48\n"
-    ".reloc .Ltcp36+2258,R_X86_64_PLT32,.Ltcp41-4\n"
-    ".reloc .Ltcp36+2569,R_X86_64_PLT32,.Ltcp38-4\n"
-    ".reloc .Ltcp36+2609,R_X86_64_PLT32,.Ltcp38-4\n"
-    ".reloc .Ltcp36+3920,R_X86_64_PLT32,.Ltcp38-4\n"
-    ".reloc .Ltcp36+4000,R_X86_64_PLT32,.Ltcp38-4\n"
-    ".reloc .Ltcp36+4067,R_X86_64_PLT32,.Ltcp40-4\n"
-    ".reloc .Ltcp36+4368,R_X86_64_PLT32,.Ltcp55-4\n"
-    ".reloc .Ltcp36+5753,R_X86_64_PLT32,.Ltcp38-4\n"
-    ".section .rodata.tcp.37,\"a\",%progbits\n"
+    ".reloc .Ltcp37+42,R_X86_64_PC32,.Ltcp38-4\n"
+    ".reloc .Ltcp37+621,R_X86_64_PC32,.Ltcp102-4\n"
+    ".reloc .Ltcp37+984,R_X86_64_PLT32,.Ltcp42-4\n"
+    ".reloc .Ltcp37+1246,R_X86_64_PLT32,.Ltcp44-4\n"
+    ".reloc .Ltcp37+1935,R_X86_64_PLT32,.Ltcp56-4\n"
+    ".reloc .Ltcp37+2203,R_X86_64_PC32,.Ltcp38+48\n"
+    ".reloc .Ltcp37+2258,R_X86_64_PLT32,.Ltcp42-4\n"
+    ".reloc .Ltcp37+2569,R_X86_64_PLT32,.Ltcp39-4\n"
+    ".reloc .Ltcp37+2609,R_X86_64_PLT32,.Ltcp39-4\n"
+    ".reloc .Ltcp37+3920,R_X86_64_PLT32,.Ltcp39-4\n"
+    ".reloc .Ltcp37+4000,R_X86_64_PLT32,.Ltcp39-4\n"
+    ".reloc .Ltcp37+4067,R_X86_64_PLT32,.Ltcp41-4\n"
+    ".reloc .Ltcp37+4368,R_X86_64_PLT32,.Ltcp56-4\n"
+    ".reloc .Ltcp37+5753,R_X86_64_PLT32,.Ltcp39-4\n"
+    ".section .rodata.tcp.38,\"a\",%progbits\n"
     ".balign 4\n"
-    ".Ltcp37:\n"
+    ".Ltcp38:\n"
     ".octa 0x0,0x0,0x0\n"
     ".octa 0x0,0x0\n"
     ".quad 0x0\n"
     ".long 0x0\n"
-    ".reloc .Ltcp37+0,R_X86_64_PC32,.Ltcp36+55\n"
-    ".reloc .Ltcp37+4,R_X86_64_PC32,.Ltcp36+816\n"
-    ".reloc .Ltcp37+8,R_X86_64_PC32,.Ltcp36+411\n"
-    ".reloc .Ltcp37+12,R_X86_64_PC32,.Ltcp36+530\n"
-    ".reloc .Ltcp37+16,R_X86_64_PC32,.Ltcp36+238\n"
-    ".reloc .Ltcp37+20,R_X86_64_PC32,.Ltcp36+876\n"
-    ".reloc .Ltcp37+24,R_X86_64_PC32,.Ltcp36+1057\n"
-    ".reloc .Ltcp37+28,R_X86_64_PC32,.Ltcp36+712\n"
-    ".reloc .Ltcp37+32,R_X86_64_PC32,.Ltcp36+1260\n"
-    ".reloc .Ltcp37+36,R_X86_64_PC32,.Ltcp36+414\n"
-    ".reloc .Ltcp37+40,R_X86_64_PC32,.Ltcp36+1110\n"
-    ".reloc .Ltcp37+44,R_X86_64_PC32,.Ltcp36+173\n"
-    ".reloc .Ltcp37+48,R_X86_64_PC32,.Ltcp36+293\n"
-    ".reloc .Ltcp37+52,R_X86_64_PC32,.Ltcp36+2216\n"
-    ".reloc .Ltcp37+56,R_X86_64_PC32,.Ltcp36+2220\n"
-    ".reloc .Ltcp37+60,R_X86_64_PC32,.Ltcp36+3429\n"
-    ".reloc .Ltcp37+64,R_X86_64_PC32,.Ltcp36+3429\n"
-    ".reloc .Ltcp37+68,R_X86_64_PC32,.Ltcp36+3437\n"
-    ".reloc .Ltcp37+72,R_X86_64_PC32,.Ltcp36+3441\n"
-    ".reloc .Ltcp37+76,R_X86_64_PC32,.Ltcp36+3435\n"
-    ".reloc .Ltcp37+80,R_X86_64_PC32,.Ltcp36+3449\n"
-    ".reloc .Ltcp37+84,R_X86_64_PC32,.Ltcp36+3453\n"
-    ".reloc .Ltcp37+88,R_X86_64_PC32,.Ltcp36+3457\n"
-    ".section .text.tcp.38,\"ax\",%progbits\n"
+    ".reloc .Ltcp38+0,R_X86_64_PC32,.Ltcp37+55\n"
+    ".reloc .Ltcp38+4,R_X86_64_PC32,.Ltcp37+816\n"
+    ".reloc .Ltcp38+8,R_X86_64_PC32,.Ltcp37+411\n"
+    ".reloc .Ltcp38+12,R_X86_64_PC32,.Ltcp37+530\n"
+    ".reloc .Ltcp38+16,R_X86_64_PC32,.Ltcp37+238\n"
+    ".reloc .Ltcp38+20,R_X86_64_PC32,.Ltcp37+876\n"
+    ".reloc .Ltcp38+24,R_X86_64_PC32,.Ltcp37+1057\n"
+    ".reloc .Ltcp38+28,R_X86_64_PC32,.Ltcp37+712\n"
+    ".reloc .Ltcp38+32,R_X86_64_PC32,.Ltcp37+1260\n"
+    ".reloc .Ltcp38+36,R_X86_64_PC32,.Ltcp37+414\n"
+    ".reloc .Ltcp38+40,R_X86_64_PC32,.Ltcp37+1110\n"
+    ".reloc .Ltcp38+44,R_X86_64_PC32,.Ltcp37+173\n"
+    ".reloc .Ltcp38+48,R_X86_64_PC32,.Ltcp37+293\n"
+    ".reloc .Ltcp38+52,R_X86_64_PC32,.Ltcp37+2216\n"
+    ".reloc .Ltcp38+56,R_X86_64_PC32,.Ltcp37+2220\n"
+    ".reloc .Ltcp38+60,R_X86_64_PC32,.Ltcp37+3429\n"
+    ".reloc .Ltcp38+64,R_X86_64_PC32,.Ltcp37+3429\n"
+    ".reloc .Ltcp38+68,R_X86_64_PC32,.Ltcp37+3437\n"
+    ".reloc .Ltcp38+72,R_X86_64_PC32,.Ltcp37+3441\n"
+    ".reloc .Ltcp38+76,R_X86_64_PC32,.Ltcp37+3435\n"
+    ".reloc .Ltcp38+80,R_X86_64_PC32,.Ltcp37+3449\n"
+    ".reloc .Ltcp38+84,R_X86_64_PC32,.Ltcp37+3453\n"
+    ".reloc .Ltcp38+88,R_X86_64_PC32,.Ltcp37+3457\n"
+    ".section .text.tcp.39,\"ax\",%progbits\n"
     ".balign 16\n"
-    ".Ltcp38:\n"
+    ".Ltcp39:\n"
     ".type \"std_alloc::vec::Vec::grow_amortized::<#1c00de6245c6bd34>\",%function\n"
     ".size \"std_alloc::vec::Vec::grow_amortized::<#1c00de6245c6bd34>\",61\n"
     "\"std_alloc::vec::Vec::grow_amortized::<#1c00de6245c6bd34>\":\n"
@@ -6849,10 +6910,10 @@ __asm__(
     ".quad 0xe8f0450f\n"
     ".long 0x8c48348\n"
     ".byte 0xc3\n"
-    ".reloc .Ltcp38+52,R_X86_64_PLT32,.Ltcp39-4\n"
-    ".section .text.tcp.39,\"ax\",%progbits\n"
+    ".reloc .Ltcp39+52,R_X86_64_PLT32,.Ltcp40-4\n"
+    ".section .text.tcp.40,\"ax\",%progbits\n"
     ".balign 16\n"
-    ".Ltcp39:\n"
+    ".Ltcp40:\n"
     ".type \"std_alloc::vec::Vec::move_to::<#1c00de6245c6bd34>\",%function\n"
     ".size \"std_alloc::vec::Vec::move_to::<#1c00de6245c6bd34>\",536\n"
     "\"std_alloc::vec::Vec::move_to::<#1c00de6245c6bd34>\":\n"
@@ -6871,9 +6932,9 @@ __asm__(
     ".octa 0xf98348d12948ef75c9ff49c0ff490314,0x8842000cb60f429066fffffef6870ffc,0xb60f4201034c884201004cb60f42030c\n"
     ".octa 0x884203004cb60f4202034c884202004c,0xfffebce9cd75c2394c04c0834903034c\n"
     ".byte 0xff\n"
-    ".section .text.tcp.40,\"ax\",%progbits\n"
+    ".section .text.tcp.41,\"ax\",%progbits\n"
     ".balign 16\n"
-    ".Ltcp40:\n"
+    ".Ltcp41:\n"
     ".type \"tcp_reasm::ring::copy_behind\",%function\n"
     ".size \"tcp_reasm::ring::copy_behind\",383\n"
     "\"tcp_reasm::ring::copy_behind\":\n"
@@ -6893,9 +6954,9 @@ __asm__(
     ".octa 0xffce08348e0894cc18948fffffefc84,0x480e0489450e048b440000000000841f,0xffff52840fc43949ef75c8394804c183\n"
     ".long 0xfecbe9ff\n"
     ".short 0xffff\n"
-    ".section .text.tcp.41,\"ax\",%progbits\n"
+    ".section .text.tcp.42,\"ax\",%progbits\n"
     ".balign 16\n"
-    ".Ltcp41:\n"
+    ".Ltcp42:\n"
     ".type \"tcp_sendq::queue::SendQueue::release::<#4d7786d65df9050b>\",%function\n"
     ".size \"tcp_sendq::queue::SendQueue::release::<#4d7786d65df9050b>\",390\n"
     "\"tcp_sendq::queue::SendQueue::release::<#4d7786d65df9050b>\":\n"
@@ -6909,10 +6970,10 @@ __asm__(
     ".octa 0x894eda3c8b4cc2970f4104da6c89ef42,0x108948c375db3949c3ff48f2014df23c,0x5b08c483482c4789c03101894d11894c\n"
     ".long 0x5f415e41\n"
     ".short 0xc35d\n"
-    ".reloc .Ltcp41+208,R_X86_64_PLT32,.Ltcp42-4\n"
-    ".section .text.tcp.42,\"ax\",%progbits\n"
+    ".reloc .Ltcp42+208,R_X86_64_PLT32,.Ltcp43-4\n"
+    ".section .text.tcp.43,\"ax\",%progbits\n"
     ".balign 16\n"
-    ".Ltcp42:\n"
+    ".Ltcp43:\n"
     ".type \"tcp_sendq::marks::Marks::remove_range::<#4d7786d65df9050b>\",%function\n"
     ".size \"tcp_sendq::marks::Marks::remove_range::<#4d7786d65df9050b>\",1137\n"
     "\"tcp_sendq::marks::Marks::remove_range::<#4d7786d65df9050b>\":\n"
@@ -6941,9 +7002,9 @@ __asm__(
     ".octa 0x75f13949c6ff48f8f054894df0148b4d,0xc08149f8c1748b4a2874c0854d2debef,0x841f0f2e666666fffffeff\n"
     ".octa 0xf075c2394dc8ff49000007f8c1b4894a,0x5f415e415b10478948085789480f8948\n"
     ".byte 0xc3\n"
-    ".section .text.tcp.43,\"ax\",%progbits\n"
+    ".section .text.tcp.44,\"ax\",%progbits\n"
     ".balign 16\n"
-    ".Ltcp43:\n"
+    ".Ltcp44:\n"
     ".type \"tcp_replay::party::Party::emit::<#244039bd4e0652a3>\",%function\n"
     ".size \"tcp_replay::party::Party::emit::<#244039bd4e0652a3>\",4876\n"
     "\"tcp_replay::party::Party::emit::<#244039bd4e0652a3>\":\n"
@@ -7058,24 +7119,24 @@ __asm__(
     ".octa 0xe8c93100000003ba7024448d,0x24894c08244489482024448b48c38948,0x7024548d48000000cc24b48bef894424\n"
     ".octa 0x28244c894c28244c8b4cf8894dd98948,0x2484896608c0c166d8894900000000e8,0x245c8b4c000000c024ac8b4c00000080\n"
     ".octa 0xffffeedbe92024748b482824548b4850\n"
-    ".reloc .Ltcp43+182,R_X86_64_PLT32,.Ltcp44-4\n"
-    ".reloc .Ltcp43+431,R_X86_64_PLT32,.Ltcp46-4\n"
-    ".reloc .Ltcp43+463,R_X86_64_PLT32,.Ltcp49-4\n"
-    ".reloc .Ltcp43+476,R_X86_64_PC32,.Ltcp101-4\n"
-    ".reloc .Ltcp43+817,R_X86_64_PLT32,.Ltcp52-4\n"
-    ".reloc .Ltcp43+1184,R_X86_64_PLT32,.Ltcp51-4\n"
-    ".reloc .Ltcp43+2094,R_X86_64_PLT32,.Ltcp52-4\n"
-    ".reloc .Ltcp43+2620,R_X86_64_PLT32,.Ltcp45-4\n"
-    ".reloc .Ltcp43+3256,R_X86_64_PC32,.Ltcp101-4\n"
-    ".reloc .Ltcp43+3517,R_X86_64_PLT32,.Ltcp38-4\n"
-    ".reloc .Ltcp43+3576,R_X86_64_PLT32,.Ltcp38-4\n"
-    ".reloc .Ltcp43+3975,R_X86_64_PLT32,.Ltcp53-4\n"
-    ".reloc .Ltcp43+4509,R_X86_64_PC32,.Ltcp101-4\n"
-    ".reloc .Ltcp43+4776,R_X86_64_PLT32,.Ltcp47-4\n"
-    ".reloc .Ltcp43+4829,R_X86_64_PLT32,.Ltcp53-4\n"
-    ".section .text.tcp.44,\"ax\",%progbits\n"
+    ".reloc .Ltcp44+182,R_X86_64_PLT32,.Ltcp45-4\n"
+    ".reloc .Ltcp44+431,R_X86_64_PLT32,.Ltcp47-4\n"
+    ".reloc .Ltcp44+463,R_X86_64_PLT32,.Ltcp50-4\n"
+    ".reloc .Ltcp44+476,R_X86_64_PC32,.Ltcp102-4\n"
+    ".reloc .Ltcp44+817,R_X86_64_PLT32,.Ltcp53-4\n"
+    ".reloc .Ltcp44+1184,R_X86_64_PLT32,.Ltcp52-4\n"
+    ".reloc .Ltcp44+2094,R_X86_64_PLT32,.Ltcp53-4\n"
+    ".reloc .Ltcp44+2620,R_X86_64_PLT32,.Ltcp46-4\n"
+    ".reloc .Ltcp44+3256,R_X86_64_PC32,.Ltcp102-4\n"
+    ".reloc .Ltcp44+3517,R_X86_64_PLT32,.Ltcp39-4\n"
+    ".reloc .Ltcp44+3576,R_X86_64_PLT32,.Ltcp39-4\n"
+    ".reloc .Ltcp44+3975,R_X86_64_PLT32,.Ltcp54-4\n"
+    ".reloc .Ltcp44+4509,R_X86_64_PC32,.Ltcp102-4\n"
+    ".reloc .Ltcp44+4776,R_X86_64_PLT32,.Ltcp48-4\n"
+    ".reloc .Ltcp44+4829,R_X86_64_PLT32,.Ltcp54-4\n"
+    ".section .text.tcp.45,\"ax\",%progbits\n"
     ".balign 16\n"
-    ".Ltcp44:\n"
+    ".Ltcp45:\n"
     ".type \"tcp_replay::growth::emit_alone::<#b999dbadf68999a9>\",%function\n"
     ".size \"tcp_replay::growth::emit_alone::<#b999dbadf68999a9>\",833\n"
     "\"tcp_replay::growth::emit_alone::<#b999dbadf68999a9>\":\n"
@@ -7106,11 +7167,11 @@ __asm__(
     ".long 0x84e93067\n"
     ".short 0xfffd\n"
     ".byte 0xff\n"
-    ".reloc .Ltcp44+362,R_X86_64_PLT32,.Ltcp51-4\n"
-    ".reloc .Ltcp44+424,R_X86_64_PLT32,.Ltcp45-4\n"
-    ".section .text.tcp.45,\"ax\",%progbits\n"
+    ".reloc .Ltcp45+362,R_X86_64_PLT32,.Ltcp52-4\n"
+    ".reloc .Ltcp45+424,R_X86_64_PLT32,.Ltcp46-4\n"
+    ".section .text.tcp.46,\"ax\",%progbits\n"
     ".balign 16\n"
-    ".Ltcp45:\n"
+    ".Ltcp46:\n"
     ".type \"std_alloc::vec::Vec::grow_amortized::<#d48bdf10996749c1>\",%function\n"
     ".size \"std_alloc::vec::Vec::grow_amortized::<#d48bdf10996749c1>\",890\n"
     "\"std_alloc::vec::Vec::grow_amortized::<#d48bdf10996749c1>\":\n"
@@ -7140,9 +7201,9 @@ __asm__(
     ".octa 0xf201054110f201654100f10164c100f,0x75d1394830c283481004110f10104c11\n"
     ".long 0xfd7be9db\n"
     ".short 0xffff\n"
-    ".section .text.tcp.46,\"ax\",%progbits\n"
+    ".section .text.tcp.47,\"ax\",%progbits\n"
     ".balign 16\n"
-    ".Ltcp46:\n"
+    ".Ltcp47:\n"
     ".type \"tcp_conn::endpoint::Endpoint::write_reset::<#4d7786d65df9050b>\",%function\n"
     ".size \"tcp_conn::endpoint::Endpoint::write_reset::<#4d7786d65df9050b>\",254\n"
     "\"tcp_conn::endpoint::Endpoint::write_reset::<#4d7786d65df9050b>\":\n"
@@ -7154,9 +7215,9 @@ __asm__(
     ".quad 0x10518966d0440fc0\n"
     ".long 0x14b8\n"
     ".short 0xc300\n"
-    ".section .text.tcp.47,\"ax\",%progbits\n"
+    ".section .text.tcp.48,\"ax\",%progbits\n"
     ".balign 16\n"
-    ".Ltcp47:\n"
+    ".Ltcp48:\n"
     ".type \"tcp_wire::encoding::write_unsummed\",%function\n"
     ".size \"tcp_wire::encoding::write_unsummed\",897\n"
     "\"tcp_wire::encoding::write_unsummed\":\n"
@@ -7185,21 +7246,21 @@ __asm__(
     ".octa 0x415d415c415b48c48348c88948e90148\n"
     ".long 0x5d5f415e\n"
     ".byte 0xc3\n"
-    ".reloc .Ltcp47+175,R_X86_64_PC32,.Ltcp48-4\n"
-    ".section .rodata.tcp.48,\"a\",%progbits\n"
+    ".reloc .Ltcp48+175,R_X86_64_PC32,.Ltcp49-4\n"
+    ".section .rodata.tcp.49,\"a\",%progbits\n"
     ".balign 4\n"
-    ".Ltcp48:\n"
+    ".Ltcp49:\n"
     ".octa 0x0\n"
     ".quad 0x0\n"
-    ".reloc .Ltcp48+0,R_X86_64_PC32,.Ltcp47+188\n"
-    ".reloc .Ltcp48+4,R_X86_64_PC32,.Ltcp47+259\n"
-    ".reloc .Ltcp48+8,R_X86_64_PC32,.Ltcp47+107\n"
-    ".reloc .Ltcp48+12,R_X86_64_PC32,.Ltcp47+255\n"
-    ".reloc .Ltcp48+16,R_X86_64_PC32,.Ltcp47+214\n"
-    ".reloc .Ltcp48+20,R_X86_64_PC32,.Ltcp47+302\n"
-    ".section .text.tcp.49,\"ax\",%progbits\n"
+    ".reloc .Ltcp49+0,R_X86_64_PC32,.Ltcp48+188\n"
+    ".reloc .Ltcp49+4,R_X86_64_PC32,.Ltcp48+259\n"
+    ".reloc .Ltcp49+8,R_X86_64_PC32,.Ltcp48+107\n"
+    ".reloc .Ltcp49+12,R_X86_64_PC32,.Ltcp48+255\n"
+    ".reloc .Ltcp49+16,R_X86_64_PC32,.Ltcp48+214\n"
+    ".reloc .Ltcp49+20,R_X86_64_PC32,.Ltcp48+302\n"
+    ".section .text.tcp.50,\"ax\",%progbits\n"
     ".balign 16\n"
-    ".Ltcp49:\n"
+    ".Ltcp50:\n"
     ".type \"tcp_conn::endpoint::Endpoint::write_syn::<#4d7786d65df9050b>\",%function\n"
     ".size \"tcp_conn::endpoint::Endpoint::write_syn::<#4d7786d65df9050b>\",1171\n"
     "\"tcp_conn::endpoint::Endpoint::write_syn::<#4d7786d65df9050b>\":\n"
@@ -7241,11 +7302,11 @@ __asm__(
     ".quad 0x415c415b00000270\n"
     ".long 0x5d5f415e\n"
     ".byte 0xc3\n"
-    ".reloc .Ltcp49+531,R_X86_64_PLT32,.Ltcp47-4\n"
-    ".reloc .Ltcp49+614,R_X86_64_PLT32,.Ltcp8-4\n"
-    ".section .text.tcp.50,\"ax\",%progbits\n"
+    ".reloc .Ltcp50+531,R_X86_64_PLT32,.Ltcp48-4\n"
+    ".reloc .Ltcp50+614,R_X86_64_PLT32,.Ltcp9-4\n"
+    ".section .text.tcp.51,\"ax\",%progbits\n"
     ".balign 16\n"
-    ".Ltcp50:\n"
+    ".Ltcp51:\n"
     ".type \"tcp_sendq::ring::copy_over_end\",%function\n"
     ".size \"tcp_sendq::ring::copy_over_end\",577\n"
     "\"tcp_sendq::ring::copy_over_end\":\n"
@@ -7272,9 +7333,9 @@ __asm__(
     ".octa 0x415b08c48348f075c33948c0ff48070c\n"
     ".quad 0x5d5f415e415d415c\n"
     ".byte 0xc3\n"
-    ".section .text.tcp.51,\"ax\",%progbits\n"
+    ".section .text.tcp.52,\"ax\",%progbits\n"
     ".balign 16\n"
-    ".Ltcp51:\n"
+    ".Ltcp52:\n"
     ".type \"tcp_conn::endpoint::Endpoint::write_blocks::<#4d7786d65df9050b>\",%function\n"
     ".size \"tcp_conn::endpoint::Endpoint::write_blocks::<#4d7786d65df9050b>\",2623\n"
     "\"tcp_conn::endpoint::Endpoint::write_blocks::<#4d7786d65df9050b>\":\n"
@@ -7337,12 +7398,12 @@ __asm__(
     ".octa 0x49101c8947111c8b460000000000841f,0xfffc85840ff13949ef75d6394c04c283\n"
     ".long 0xfbe1e9ff\n"
     ".short 0xffff\n"
-    ".reloc .Ltcp51+1754,R_X86_64_PLT32,.Ltcp47-4\n"
-    ".reloc .Ltcp51+1837,R_X86_64_PLT32,.Ltcp8-4\n"
-    ".reloc .Ltcp51+2443,R_X86_64_PLT32,.Ltcp50-4\n"
-    ".section .text.tcp.52,\"ax\",%progbits\n"
+    ".reloc .Ltcp52+1754,R_X86_64_PLT32,.Ltcp48-4\n"
+    ".reloc .Ltcp52+1837,R_X86_64_PLT32,.Ltcp9-4\n"
+    ".reloc .Ltcp52+2443,R_X86_64_PLT32,.Ltcp51-4\n"
+    ".section .text.tcp.53,\"ax\",%progbits\n"
     ".balign 16\n"
-    ".Ltcp52:\n"
+    ".Ltcp53:\n"
     ".type \"tcp_halves::sender::Sender::due::<#4d7786d65df9050b>\",%function\n"
     ".size \"tcp_halves::sender::Sender::due::<#4d7786d65df9050b>\",622\n"
     "\"tcp_halves::sender::Sender::due::<#4d7786d65df9050b>\":\n"
@@ -7362,9 +7423,9 @@ __asm__(
     ".quad 0x5d415c415b184789\n"
     ".long 0x5f415e41\n"
     ".short 0xc35d\n"
-    ".section .text.tcp.53,\"ax\",%progbits\n"
+    ".section .text.tcp.54,\"ax\",%progbits\n"
     ".balign 16\n"
-    ".Ltcp53:\n"
+    ".Ltcp54:\n"
     ".type \"tcp_numbers::parts::checksum_in_parts\",%function\n"
     ".size \"tcp_numbers::parts::checksum_in_parts\",2630\n"
     "\"tcp_numbers::parts::checksum_in_parts\":\n"
@@ -7425,19 +7486,20 @@ __asm__(
     ".octa 0xc101d12910e2c1ca892fe9c148c8af0f,0x5d415c415b18c48348c1440fd0f7c889\n"
     ".long 0x5f415e41\n"
     ".short 0xc35d\n"
-    ".reloc .Ltcp53+83,R_X86_64_PLT32,.Ltcp8-4\n"
-    ".reloc .Ltcp53+668,R_X86_64_PLT32,.Ltcp8-4\n"
-    ".reloc .Ltcp53+681,R_X86_64_PLT32,.Ltcp8-4\n"
-    ".reloc .Ltcp53+1180,R_X86_64_PLT32,.Ltcp8-4\n"
-    ".reloc .Ltcp53+2074,R_X86_64_PLT32,.Ltcp8-4\n"
-    ".section .rodata.tcp.54,\"a\",%progbits\n"
+    ".reloc .Ltcp54+83,R_X86_64_PLT32,.Ltcp9-4\n"
+    ".reloc .Ltcp54+668,R_X86_64_PLT32,.Ltcp9-4\n"
+    ".reloc .Ltcp54+681,R_X86_64_PLT32,.Ltcp9-4\n"
+    ".reloc .Ltcp54+1180,R_X86_64_PLT32,.Ltcp9-4\n"
+    ".reloc .Ltcp54+2074,R_X86_64_PLT32,.Ltcp9-4\n"
+    ".section .rodata.tcp.55,\"a\",%progbits\n"
     ".balign 4\n"
-    ".Ltcp54:\n"
-    ".octa 0x20202020746e6577656d616300000003,0x646e6573736e75726566696c206f7420,0x656e6f6e6b6361737663657274696d65\n"
-    ".long 0x20646e65\n"
-    ".section .text.tcp.55,\"ax\",%progbits\n"
-    ".balign 16\n"
     ".Ltcp55:\n"
+    ".octa 0x20202020746e6577656d616300000003,0x646e6573736e75726566696c206f7420,0x656e6f6e6b6361737663657274696d65\n"
+    ".octa 0x6d305b1b6575727465746f6e20646e65\n"
+    ".long 0x20666f20\n"
+    ".section .text.tcp.56,\"ax\",%progbits\n"
+    ".balign 16\n"
+    ".Ltcp56:\n"
     ".type \"tcp_replay::party::Party::take_in::<#244039bd4e0652a3>\",%function\n"
     ".size \"tcp_replay::party::Party::take_in::<#244039bd4e0652a3>\",2614\n"
     "\"tcp_replay::party::Party::take_in::<#244039bd4e0652a3>\":\n"
@@ -7498,47 +7560,47 @@ __asm__(
     ".octa 0x5d415c415b000000b8c4814810778948\n"
     ".long 0x5f415e41\n"
     ".short 0xc35d\n"
-    ".reloc .Ltcp55+105,R_X86_64_PC32,.Ltcp0+684\n"
-    ".reloc .Ltcp55+187,R_X86_64_PLT32,.Ltcp8-4\n"
-    ".reloc .Ltcp55+713,R_X86_64_PC32,.Ltcp0+700\n"
-    ".reloc .Ltcp55+763,R_X86_64_PC32,.Ltcp0+716\n"
-    ".reloc .Ltcp55+1750,R_X86_64_PLT32,.Ltcp41-4\n"
-    ".reloc .Ltcp55+1942,R_X86_64_PLT32,.Ltcp58-4\n"
-    ".reloc .Ltcp55+1994,R_X86_64_PC32,.Ltcp56-4\n"
-    ".reloc .Ltcp55+2016,R_X86_64_PLT32,.Ltcp61-4\n"
-    ".reloc .Ltcp55+2054,R_X86_64_PC32,.Ltcp54-4\n"
-    ".reloc .Ltcp55+2488,R_X86_64_PLT32,.Ltcp57-4\n"
-    ".reloc .Ltcp55+2556,R_X86_64_PLT32,.Ltcp72-4\n"
-    ".reloc .Ltcp55+2581,R_X86_64_PC32,.Ltcp0+748\n"
-    ".section .rodata.tcp.56,\"a\",%progbits\n"
+    ".reloc .Ltcp56+105,R_X86_64_PC32,.Ltcp0+684\n"
+    ".reloc .Ltcp56+187,R_X86_64_PLT32,.Ltcp9-4\n"
+    ".reloc .Ltcp56+713,R_X86_64_PC32,.Ltcp0+700\n"
+    ".reloc .Ltcp56+763,R_X86_64_PC32,.Ltcp0+716\n"
+    ".reloc .Ltcp56+1750,R_X86_64_PLT32,.Ltcp42-4\n"
+    ".reloc .Ltcp56+1942,R_X86_64_PLT32,.Ltcp59-4\n"
+    ".reloc .Ltcp56+1994,R_X86_64_PC32,.Ltcp57-4\n"
+    ".reloc .Ltcp56+2016,R_X86_64_PLT32,.Ltcp62-4\n"
+    ".reloc .Ltcp56+2054,R_X86_64_PC32,.Ltcp55-4\n"
+    ".reloc .Ltcp56+2488,R_X86_64_PLT32,.Ltcp58-4\n"
+    ".reloc .Ltcp56+2556,R_X86_64_PLT32,.Ltcp73-4\n"
+    ".reloc .Ltcp56+2581,R_X86_64_PC32,.Ltcp0+748\n"
+    ".section .rodata.tcp.57,\"a\",%progbits\n"
     ".balign 4\n"
-    ".Ltcp56:\n"
+    ".Ltcp57:\n"
     ".octa 0x0,0x0\n"
     ".quad 0x0\n"
     ".long 0x0\n"
-    ".reloc .Ltcp56+0,R_X86_64_PC32,.Ltcp55+2007\n"
-    ".reloc .Ltcp56+4,R_X86_64_PC32,.Ltcp55+2011\n"
-    ".reloc .Ltcp56+8,R_X86_64_PC32,.Ltcp55+2015\n"
-    ".reloc .Ltcp56+12,R_X86_64_PC32,.Ltcp55+2019\n"
-    ".reloc .Ltcp56+16,R_X86_64_PC32,.Ltcp55+2023\n"
-    ".reloc .Ltcp56+20,R_X86_64_PC32,.Ltcp55+2487\n"
-    ".reloc .Ltcp56+24,R_X86_64_PC32,.Ltcp55+2031\n"
-    ".reloc .Ltcp56+28,R_X86_64_PC32,.Ltcp55+2035\n"
-    ".reloc .Ltcp56+32,R_X86_64_PC32,.Ltcp55+2435\n"
-    ".reloc .Ltcp56+36,R_X86_64_PC32,.Ltcp55+2449\n"
-    ".reloc .Ltcp56+40,R_X86_64_PC32,.Ltcp55+2047\n"
-    ".section .text.tcp.57,\"ax\",%progbits\n"
+    ".reloc .Ltcp57+0,R_X86_64_PC32,.Ltcp56+2007\n"
+    ".reloc .Ltcp57+4,R_X86_64_PC32,.Ltcp56+2011\n"
+    ".reloc .Ltcp57+8,R_X86_64_PC32,.Ltcp56+2015\n"
+    ".reloc .Ltcp57+12,R_X86_64_PC32,.Ltcp56+2019\n"
+    ".reloc .Ltcp57+16,R_X86_64_PC32,.Ltcp56+2023\n"
+    ".reloc .Ltcp57+20,R_X86_64_PC32,.Ltcp56+2487\n"
+    ".reloc .Ltcp57+24,R_X86_64_PC32,.Ltcp56+2031\n"
+    ".reloc .Ltcp57+28,R_X86_64_PC32,.Ltcp56+2035\n"
+    ".reloc .Ltcp57+32,R_X86_64_PC32,.Ltcp56+2435\n"
+    ".reloc .Ltcp57+36,R_X86_64_PC32,.Ltcp56+2449\n"
+    ".reloc .Ltcp57+40,R_X86_64_PC32,.Ltcp56+2047\n"
+    ".section .text.tcp.58,\"ax\",%progbits\n"
     ".balign 16\n"
-    ".Ltcp57:\n"
+    ".Ltcp58:\n"
     ".type \"tcp_conn::endpoint::Endpoint::judge_syn_sent::<#4d7786d65df9050b>\",%function\n"
     ".size \"tcp_conn::endpoint::Endpoint::judge_syn_sent::<#4d7786d65df9050b>\",104\n"
     "\"tcp_conn::endpoint::Endpoint::judge_syn_sent::<#4d7786d65df9050b>\":\n"
     ".octa 0xce29c101084f8b40478b48187410c2f6,0x4c2f63d7548473b482a78f685f00148,0xc3040402e0c0c0940f12c2f6d2f60e75\n"
     ".octa 0xc1440f00000007b800000001b910c2f6,0xf029480000000100000000be48c931c3,0xf04c2f6c031c37448473b48c1420f48\n"
     ".quad 0xc3c0ff80048dc094\n"
-    ".section .text.tcp.58,\"ax\",%progbits\n"
+    ".section .text.tcp.59,\"ax\",%progbits\n"
     ".balign 16\n"
-    ".Ltcp58:\n"
+    ".Ltcp59:\n"
     ".type \"tcp_conn::endpoint::Endpoint::take_blocks::<#4d7786d65df9050b>\",%function\n"
     ".size \"tcp_conn::endpoint::Endpoint::take_blocks::<#4d7786d65df9050b>\",649\n"
     "\"tcp_conn::endpoint::Endpoint::take_blocks::<#4d7786d65df9050b>\":\n"
@@ -7558,13 +7620,13 @@ __asm__(
     ".octa 0x415b00000088c48148c6ebfffffe4b84\n"
     ".quad 0x5d5f415e415d415c\n"
     ".byte 0xc3\n"
-    ".reloc .Ltcp58+75,R_X86_64_PLT32,.Ltcp9-4\n"
-    ".reloc .Ltcp58+184,R_X86_64_PLT32,.Ltcp42-4\n"
-    ".reloc .Ltcp58+584,R_X86_64_PLT32,.Ltcp60-4\n"
-    ".reloc .Ltcp58+609,R_X86_64_PLT32,.Ltcp59-4\n"
-    ".section .text.tcp.59,\"ax\",%progbits\n"
+    ".reloc .Ltcp59+75,R_X86_64_PLT32,.Ltcp10-4\n"
+    ".reloc .Ltcp59+184,R_X86_64_PLT32,.Ltcp43-4\n"
+    ".reloc .Ltcp59+584,R_X86_64_PLT32,.Ltcp61-4\n"
+    ".reloc .Ltcp59+609,R_X86_64_PLT32,.Ltcp60-4\n"
+    ".section .text.tcp.60,\"ax\",%progbits\n"
     ".balign 16\n"
-    ".Ltcp59:\n"
+    ".Ltcp60:\n"
     ".type \"std_alloc::vec::Vec::grow_amortized::<#4a791bdeba1adbb6>\",%function\n"
     ".size \"std_alloc::vec::Vec::grow_amortized::<#4a791bdeba1adbb6>\",596\n"
     "\"std_alloc::vec::Vec::grow_amortized::<#4a791bdeba1adbb6>\":\n"
@@ -7585,9 +7647,9 @@ __asm__(
     ".quad 0xe075ed8440ff894c\n"
     ".long 0xfffea8e9\n"
     ".byte 0xff\n"
-    ".section .text.tcp.60,\"ax\",%progbits\n"
+    ".section .text.tcp.61,\"ax\",%progbits\n"
     ".balign 16\n"
-    ".Ltcp60:\n"
+    ".Ltcp61:\n"
     ".type \"std_alloc::vec::Vec::put_at::<#4a791bdeba1adbb6>\",%function\n"
     ".size \"std_alloc::vec::Vec::put_at::<#4a791bdeba1adbb6>\",708\n"
     "\"std_alloc::vec::Vec::put_at::<#4a791bdeba1adbb6>\":\n"
@@ -7607,10 +7669,10 @@ __asm__(
     ".octa 0xe075fb394cfcc78349f0fe4c110f43fe,0x90000000ffc18149d0294d1c74d33945,0x75c1394dc8ff49c014894ef8c0548b4e\n"
     ".octa 0x8948f0148948ca0948d28920e1c148ef,0x415b08477f0ff30000000005d40f6607\n"
     ".long 0xc35f415e\n"
-    ".reloc .Ltcp60+693,R_X86_64_PC32,.Ltcp0+764\n"
-    ".section .text.tcp.61,\"ax\",%progbits\n"
+    ".reloc .Ltcp61+693,R_X86_64_PC32,.Ltcp0+764\n"
+    ".section .text.tcp.62,\"ax\",%progbits\n"
     ".balign 16\n"
-    ".Ltcp61:\n"
+    ".Ltcp62:\n"
     ".type \"tcp_conn::endpoint::Endpoint::take_its_text::<#4d7786d65df9050b>\",%function\n"
     ".size \"tcp_conn::endpoint::Endpoint::take_its_text::<#4d7786d65df9050b>\",5460\n"
     "\"tcp_conn::endpoint::Endpoint::take_its_text::<#4d7786d65df9050b>\":\n"
@@ -7747,22 +7809,22 @@ __asm__(
     ".octa 0x48fffffcafe9f38944df89481024548b,0x814880914b60f41fffffeac840fcb39\n"
     ".long 0xebc1ff48\n"
     ".byte 0xea\n"
-    ".reloc .Ltcp61+416,R_X86_64_PLT32,.Ltcp63-4\n"
-    ".reloc .Ltcp61+1226,R_X86_64_PLT32,.Ltcp63-4\n"
-    ".reloc .Ltcp61+1425,R_X86_64_PLT32,.Ltcp63-4\n"
-    ".reloc .Ltcp61+3220,R_X86_64_PLT32,.Ltcp65-4\n"
-    ".reloc .Ltcp61+3394,R_X86_64_PLT32,.Ltcp62-4\n"
-    ".reloc .Ltcp61+4244,R_X86_64_PLT32,.Ltcp62-4\n"
-    ".reloc .Ltcp61+4268,R_X86_64_PLT32,.Ltcp62-4\n"
-    ".reloc .Ltcp61+4296,R_X86_64_PLT32,.Ltcp62-4\n"
-    ".reloc .Ltcp61+4580,R_X86_64_PLT32,.Ltcp62-4\n"
-    ".reloc .Ltcp61+4954,R_X86_64_PC32,.Ltcp101-4\n"
-    ".reloc .Ltcp61+4967,R_X86_64_PLT32,.Ltcp62-4\n"
-    ".reloc .Ltcp61+5087,R_X86_64_PLT32,.Ltcp64-4\n"
-    ".reloc .Ltcp61+5418,R_X86_64_PLT32,.Ltcp62-4\n"
-    ".section .text.tcp.62,\"ax\",%progbits\n"
+    ".reloc .Ltcp62+416,R_X86_64_PLT32,.Ltcp64-4\n"
+    ".reloc .Ltcp62+1226,R_X86_64_PLT32,.Ltcp64-4\n"
+    ".reloc .Ltcp62+1425,R_X86_64_PLT32,.Ltcp64-4\n"
+    ".reloc .Ltcp62+3220,R_X86_64_PLT32,.Ltcp66-4\n"
+    ".reloc .Ltcp62+3394,R_X86_64_PLT32,.Ltcp63-4\n"
+    ".reloc .Ltcp62+4244,R_X86_64_PLT32,.Ltcp63-4\n"
+    ".reloc .Ltcp62+4268,R_X86_64_PLT32,.Ltcp63-4\n"
+    ".reloc .Ltcp62+4296,R_X86_64_PLT32,.Ltcp63-4\n"
+    ".reloc .Ltcp62+4580,R_X86_64_PLT32,.Ltcp63-4\n"
+    ".reloc .Ltcp62+4954,R_X86_64_PC32,.Ltcp102-4\n"
+    ".reloc .Ltcp62+4967,R_X86_64_PLT32,.Ltcp63-4\n"
+    ".reloc .Ltcp62+5087,R_X86_64_PLT32,.Ltcp65-4\n"
+    ".reloc .Ltcp62+5418,R_X86_64_PLT32,.Ltcp63-4\n"
+    ".section .text.tcp.63,\"ax\",%progbits\n"
     ".balign 16\n"
-    ".Ltcp62:\n"
+    ".Ltcp63:\n"
     ".type \"tcp_reasm::ring::grow::<#4d7786d65df9050b>\",%function\n"
     ".size \"tcp_reasm::ring::grow::<#4d7786d65df9050b>\",590\n"
     "\"tcp_reasm::ring::grow::<#4d7786d65df9050b>\":\n"
@@ -7790,11 +7852,11 @@ __asm__(
     ".quad 0x25e9e2894ce98948\n"
     ".short 0xfffe\n"
     ".byte 0xff\n"
-    ".reloc .Ltcp62+492,R_X86_64_PLT32,.Ltcp38-4\n"
-    ".reloc .Ltcp62+536,R_X86_64_PLT32,.Ltcp38-4\n"
-    ".section .text.tcp.63,\"ax\",%progbits\n"
+    ".reloc .Ltcp63+492,R_X86_64_PLT32,.Ltcp39-4\n"
+    ".reloc .Ltcp63+536,R_X86_64_PLT32,.Ltcp39-4\n"
+    ".section .text.tcp.64,\"ax\",%progbits\n"
     ".balign 16\n"
-    ".Ltcp63:\n"
+    ".Ltcp64:\n"
     ".type \"tcp_reasm::lay::lay_between::<#4d7786d65df9050b>\",%function\n"
     ".size \"tcp_reasm::lay::lay_between::<#4d7786d65df9050b>\",2091\n"
     "\"tcp_reasm::lay::lay_between::<#4d7786d65df9050b>\":\n"
@@ -7855,21 +7917,21 @@ __asm__(
     ".quad 0x415d415c415b78c4\n"
     ".long 0x5d5f415e\n"
     ".byte 0xc3\n"
-    ".reloc .Ltcp63+1298,R_X86_64_PLT32,.Ltcp62-4\n"
-    ".reloc .Ltcp63+1983,R_X86_64_PLT32,.Ltcp62-4\n"
-    ".reloc .Ltcp63+2008,R_X86_64_PLT32,.Ltcp62-4\n"
-    ".reloc .Ltcp63+2043,R_X86_64_PLT32,.Ltcp62-4\n"
-    ".section .text.tcp.64,\"ax\",%progbits\n"
+    ".reloc .Ltcp64+1298,R_X86_64_PLT32,.Ltcp63-4\n"
+    ".reloc .Ltcp64+1983,R_X86_64_PLT32,.Ltcp63-4\n"
+    ".reloc .Ltcp64+2008,R_X86_64_PLT32,.Ltcp63-4\n"
+    ".reloc .Ltcp64+2043,R_X86_64_PLT32,.Ltcp63-4\n"
+    ".section .text.tcp.65,\"ax\",%progbits\n"
     ".balign 16\n"
-    ".Ltcp64:\n"
+    ".Ltcp65:\n"
     ".type \"tcp_reasm::rows::settle\",%function\n"
     ".size \"tcp_reasm::rows::settle\",52\n"
     "\"tcp_reasm::rows::settle\":\n"
     ".octa 0x801f0f04c783482e74f68548,0xd02941078b44c1420fd029c931fc478b,0xff4810c78348078944fc4789c1420f44\n"
     ".long 0xc3dd75ce\n"
-    ".section .text.tcp.65,\"ax\",%progbits\n"
+    ".section .text.tcp.66,\"ax\",%progbits\n"
     ".balign 16\n"
-    ".Ltcp65:\n"
+    ".Ltcp66:\n"
     ".type \"std_alloc::vec::Vec::grow_amortized::<#b976a99715059d0b>\",%function\n"
     ".size \"std_alloc::vec::Vec::grow_amortized::<#b976a99715059d0b>\",550\n"
     "\"std_alloc::vec::Vec::grow_amortized::<#b976a99715059d0b>\":\n"
@@ -7889,9 +7951,9 @@ __asm__(
     ".octa 0x44110f42f00644100f42e00344110f42,0x8c283480304110f420604100f42f003,0xfef3840fc985489575d0394880e88349\n"
     ".octa 0x3104e1c1da0148d6014804e2c148ffff,0x100f0000000000841f0f2e66666666c0,0xe9ef75c1394810c083480204110f0604\n"
     ".long 0xfffffec1\n"
-    ".section .text.tcp.66,\"ax\",%progbits\n"
+    ".section .text.tcp.67,\"ax\",%progbits\n"
     ".balign 16\n"
-    ".Ltcp66:\n"
+    ".Ltcp67:\n"
     ".type \"tcp_conn::endpoint::Endpoint::follow_other::<#4d7786d65df9050b>\",%function\n"
     ".size \"tcp_conn::endpoint::Endpoint::follow_other::<#4d7786d65df9050b>\",343\n"
     "\"tcp_conn::endpoint::Endpoint::follow_other::<#4d7786d65df9050b>\":\n"
@@ -7905,39 +7967,39 @@ __asm__(
     ".long 0x1588789\n"
     ".short 0x0\n"
     ".byte 0xc3\n"
-    ".reloc .Ltcp66+7,R_X86_64_PC32,.Ltcp67-4\n"
-    ".reloc .Ltcp66+120,R_X86_64_PLT32,.Ltcp41-4\n"
-    ".reloc .Ltcp66+201,R_X86_64_PLT32,.Ltcp68-4\n"
-    ".reloc .Ltcp66+209,R_X86_64_PLT32,.Ltcp70-4\n"
-    ".section .rodata.tcp.67,\"a\",%progbits\n"
+    ".reloc .Ltcp67+7,R_X86_64_PC32,.Ltcp68-4\n"
+    ".reloc .Ltcp67+120,R_X86_64_PLT32,.Ltcp42-4\n"
+    ".reloc .Ltcp67+201,R_X86_64_PLT32,.Ltcp69-4\n"
+    ".reloc .Ltcp67+209,R_X86_64_PLT32,.Ltcp71-4\n"
+    ".section .rodata.tcp.68,\"a\",%progbits\n"
     ".balign 4\n"
-    ".Ltcp67:\n"
+    ".Ltcp68:\n"
     ".octa 0x0,0x0,0x0\n"
     ".octa 0x0\n"
     ".quad 0x0\n"
     ".long 0x0\n"
-    ".reloc .Ltcp67+0,R_X86_64_PC32,.Ltcp66+20\n"
-    ".reloc .Ltcp67+4,R_X86_64_PC32,.Ltcp66+24\n"
-    ".reloc .Ltcp67+8,R_X86_64_PC32,.Ltcp66+165\n"
-    ".reloc .Ltcp67+12,R_X86_64_PC32,.Ltcp66+33\n"
-    ".reloc .Ltcp67+16,R_X86_64_PC32,.Ltcp66+36\n"
-    ".reloc .Ltcp67+20,R_X86_64_PC32,.Ltcp66+215\n"
-    ".reloc .Ltcp67+24,R_X86_64_PC32,.Ltcp66+45\n"
-    ".reloc .Ltcp67+28,R_X86_64_PC32,.Ltcp66+105\n"
-    ".reloc .Ltcp67+32,R_X86_64_PC32,.Ltcp66+237\n"
-    ".reloc .Ltcp67+36,R_X86_64_PC32,.Ltcp66+304\n"
-    ".reloc .Ltcp67+40,R_X86_64_PC32,.Ltcp66+117\n"
-    ".reloc .Ltcp67+44,R_X86_64_PC32,.Ltcp66+312\n"
-    ".reloc .Ltcp67+48,R_X86_64_PC32,.Ltcp66+316\n"
-    ".reloc .Ltcp67+52,R_X86_64_PC32,.Ltcp66+72\n"
-    ".reloc .Ltcp67+56,R_X86_64_PC32,.Ltcp66+324\n"
-    ".reloc .Ltcp67+60,R_X86_64_PC32,.Ltcp66+81\n"
-    ".reloc .Ltcp67+64,R_X86_64_PC32,.Ltcp66+277\n"
-    ".reloc .Ltcp67+68,R_X86_64_PC32,.Ltcp66+88\n"
-    ".reloc .Ltcp67+72,R_X86_64_PC32,.Ltcp66+92\n"
-    ".section .text.tcp.68,\"ax\",%progbits\n"
+    ".reloc .Ltcp68+0,R_X86_64_PC32,.Ltcp67+20\n"
+    ".reloc .Ltcp68+4,R_X86_64_PC32,.Ltcp67+24\n"
+    ".reloc .Ltcp68+8,R_X86_64_PC32,.Ltcp67+165\n"
+    ".reloc .Ltcp68+12,R_X86_64_PC32,.Ltcp67+33\n"
+    ".reloc .Ltcp68+16,R_X86_64_PC32,.Ltcp67+36\n"
+    ".reloc .Ltcp68+20,R_X86_64_PC32,.Ltcp67+215\n"
+    ".reloc .Ltcp68+24,R_X86_64_PC32,.Ltcp67+45\n"
+    ".reloc .Ltcp68+28,R_X86_64_PC32,.Ltcp67+105\n"
+    ".reloc .Ltcp68+32,R_X86_64_PC32,.Ltcp67+237\n"
+    ".reloc .Ltcp68+36,R_X86_64_PC32,.Ltcp67+304\n"
+    ".reloc .Ltcp68+40,R_X86_64_PC32,.Ltcp67+117\n"
+    ".reloc .Ltcp68+44,R_X86_64_PC32,.Ltcp67+312\n"
+    ".reloc .Ltcp68+48,R_X86_64_PC32,.Ltcp67+316\n"
+    ".reloc .Ltcp68+52,R_X86_64_PC32,.Ltcp67+72\n"
+    ".reloc .Ltcp68+56,R_X86_64_PC32,.Ltcp67+324\n"
+    ".reloc .Ltcp68+60,R_X86_64_PC32,.Ltcp67+81\n"
+    ".reloc .Ltcp68+64,R_X86_64_PC32,.Ltcp67+277\n"
+    ".reloc .Ltcp68+68,R_X86_64_PC32,.Ltcp67+88\n"
+    ".reloc .Ltcp68+72,R_X86_64_PC32,.Ltcp67+92\n"
+    ".section .text.tcp.69,\"ax\",%progbits\n"
     ".balign 16\n"
-    ".Ltcp68:\n"
+    ".Ltcp69:\n"
     ".type \"tcp_conn::endpoint::Endpoint::peer_opens::<#4d7786d65df9050b>\",%function\n"
     ".size \"tcp_conn::endpoint::Endpoint::peer_opens::<#4d7786d65df9050b>\",381\n"
     "\"tcp_conn::endpoint::Endpoint::peer_opens::<#4d7786d65df9050b>\":\n"
@@ -7952,23 +8014,23 @@ __asm__(
     ".quad 0x415d415c415b58c4\n"
     ".long 0x5d5f415e\n"
     ".byte 0xc3\n"
-    ".reloc .Ltcp68+81,R_X86_64_PLT32,.Ltcp9-4\n"
-    ".reloc .Ltcp68+139,R_X86_64_PLT32,.Ltcp9-4\n"
-    ".reloc .Ltcp68+158,R_X86_64_PC32,.Ltcp69-4\n"
-    ".section .rodata.tcp.69,\"a\",%progbits\n"
+    ".reloc .Ltcp69+81,R_X86_64_PLT32,.Ltcp10-4\n"
+    ".reloc .Ltcp69+139,R_X86_64_PLT32,.Ltcp10-4\n"
+    ".reloc .Ltcp69+158,R_X86_64_PC32,.Ltcp70-4\n"
+    ".section .rodata.tcp.70,\"a\",%progbits\n"
     ".balign 4\n"
-    ".Ltcp69:\n"
+    ".Ltcp70:\n"
     ".octa 0x0\n"
     ".quad 0x0\n"
-    ".reloc .Ltcp69+0,R_X86_64_PC32,.Ltcp68+128\n"
-    ".reloc .Ltcp69+4,R_X86_64_PC32,.Ltcp68+175\n"
-    ".reloc .Ltcp69+8,R_X86_64_PC32,.Ltcp68+197\n"
-    ".reloc .Ltcp69+12,R_X86_64_PC32,.Ltcp68+196\n"
-    ".reloc .Ltcp69+16,R_X86_64_PC32,.Ltcp68+144\n"
-    ".reloc .Ltcp69+20,R_X86_64_PC32,.Ltcp68+148\n"
-    ".section .text.tcp.70,\"ax\",%progbits\n"
+    ".reloc .Ltcp70+0,R_X86_64_PC32,.Ltcp69+128\n"
+    ".reloc .Ltcp70+4,R_X86_64_PC32,.Ltcp69+175\n"
+    ".reloc .Ltcp70+8,R_X86_64_PC32,.Ltcp69+197\n"
+    ".reloc .Ltcp70+12,R_X86_64_PC32,.Ltcp69+196\n"
+    ".reloc .Ltcp70+16,R_X86_64_PC32,.Ltcp69+144\n"
+    ".reloc .Ltcp70+20,R_X86_64_PC32,.Ltcp69+148\n"
+    ".section .text.tcp.71,\"ax\",%progbits\n"
     ".balign 16\n"
-    ".Ltcp70:\n"
+    ".Ltcp71:\n"
     ".type \"tcp_conn::endpoint::Endpoint::peer_accepts::<#4d7786d65df9050b>\",%function\n"
     ".size \"tcp_conn::endpoint::Endpoint::peer_accepts::<#4d7786d65df9050b>\",384\n"
     "\"tcp_conn::endpoint::Endpoint::peer_accepts::<#4d7786d65df9050b>\":\n"
@@ -7980,23 +8042,23 @@ __asm__(
     ".octa 0xf0000000eb90efa80d5b60f41ff3102,0xcf450fc9b60fd4b60f4101fc8041ca42,0x7b80f7b60f41cf440fd7440f012043f6\n"
     ".octa 0x403d4b883c53883a438966f7440f0022,0x484b8b480e46b70f41003f43c63e7388,0x8948000000c08389404b894804568b49\n"
     ".octa 0x1000000d083c604468b41000000c493,0x14083c766000000d48389c0ff,0xc35d5f415e415d415c415b58c4834801\n"
-    ".reloc .Ltcp70+71,R_X86_64_PLT32,.Ltcp9-4\n"
-    ".reloc .Ltcp70+123,R_X86_64_PLT32,.Ltcp9-4\n"
-    ".reloc .Ltcp70+142,R_X86_64_PC32,.Ltcp71-4\n"
-    ".section .rodata.tcp.71,\"a\",%progbits\n"
+    ".reloc .Ltcp71+71,R_X86_64_PLT32,.Ltcp10-4\n"
+    ".reloc .Ltcp71+123,R_X86_64_PLT32,.Ltcp10-4\n"
+    ".reloc .Ltcp71+142,R_X86_64_PC32,.Ltcp72-4\n"
+    ".section .rodata.tcp.72,\"a\",%progbits\n"
     ".balign 4\n"
-    ".Ltcp71:\n"
+    ".Ltcp72:\n"
     ".octa 0x0\n"
     ".quad 0x0\n"
-    ".reloc .Ltcp71+0,R_X86_64_PC32,.Ltcp70+112\n"
-    ".reloc .Ltcp71+4,R_X86_64_PC32,.Ltcp70+159\n"
-    ".reloc .Ltcp71+8,R_X86_64_PC32,.Ltcp70+185\n"
-    ".reloc .Ltcp71+12,R_X86_64_PC32,.Ltcp70+184\n"
-    ".reloc .Ltcp71+16,R_X86_64_PC32,.Ltcp70+128\n"
-    ".reloc .Ltcp71+20,R_X86_64_PC32,.Ltcp70+132\n"
-    ".section .text.tcp.72,\"ax\",%progbits\n"
+    ".reloc .Ltcp72+0,R_X86_64_PC32,.Ltcp71+112\n"
+    ".reloc .Ltcp72+4,R_X86_64_PC32,.Ltcp71+159\n"
+    ".reloc .Ltcp72+8,R_X86_64_PC32,.Ltcp71+185\n"
+    ".reloc .Ltcp72+12,R_X86_64_PC32,.Ltcp71+184\n"
+    ".reloc .Ltcp72+16,R_X86_64_PC32,.Ltcp71+128\n"
+    ".reloc .Ltcp72+20,R_X86_64_PC32,.Ltcp71+132\n"
+    ".section .text.tcp.73,\"ax\",%progbits\n"
     ".balign 16\n"
-    ".Ltcp72:\n"
+    ".Ltcp73:\n"
     ".type \"tcp_conn::endpoint::Endpoint::take_rarely::<#4d7786d65df9050b>\",%function\n"
     ".size \"tcp_conn::endpoint::Endpoint::take_rarely::<#4d7786d65df9050b>\",2141\n"
     "\"tcp_conn::endpoint::Endpoint::take_rarely::<#4d7786d65df9050b>\":\n"
@@ -8048,70 +8110,70 @@ __asm__(
     ".quad 0x63047c6fffffd29\n"
     ".long 0xfffe0fe9\n"
     ".byte 0xff\n"
-    ".reloc .Ltcp72+251,R_X86_64_PLT32,.Ltcp66-4\n"
-    ".reloc .Ltcp72+320,R_X86_64_PC32,.Ltcp73+84\n"
-    ".reloc .Ltcp72+366,R_X86_64_PC32,.Ltcp73+84\n"
-    ".reloc .Ltcp72+846,R_X86_64_PLT32,.Ltcp41-4\n"
-    ".reloc .Ltcp72+1082,R_X86_64_PLT32,.Ltcp41-4\n"
-    ".reloc .Ltcp72+1335,R_X86_64_PLT32,.Ltcp58-4\n"
-    ".reloc .Ltcp72+1392,R_X86_64_PC32,.Ltcp73-4\n"
-    ".reloc .Ltcp72+1463,R_X86_64_PC32,.Ltcp73+84\n"
-    ".reloc .Ltcp72+1561,R_X86_64_PLT32,.Ltcp58-4\n"
-    ".reloc .Ltcp72+1631,R_X86_64_PC32,.Ltcp73+40\n"
-    ".reloc .Ltcp72+1651,R_X86_64_PLT32,.Ltcp61-4\n"
-    ".reloc .Ltcp72+1786,R_X86_64_PC32,.Ltcp73+84\n"
-    ".reloc .Ltcp72+1898,R_X86_64_PC32,.Ltcp73+84\n"
-    ".reloc .Ltcp72+1970,R_X86_64_PC32,.Ltcp73+84\n"
-    ".section .rodata.tcp.73,\"a\",%progbits\n"
+    ".reloc .Ltcp73+251,R_X86_64_PLT32,.Ltcp67-4\n"
+    ".reloc .Ltcp73+320,R_X86_64_PC32,.Ltcp74+84\n"
+    ".reloc .Ltcp73+366,R_X86_64_PC32,.Ltcp74+84\n"
+    ".reloc .Ltcp73+846,R_X86_64_PLT32,.Ltcp42-4\n"
+    ".reloc .Ltcp73+1082,R_X86_64_PLT32,.Ltcp42-4\n"
+    ".reloc .Ltcp73+1335,R_X86_64_PLT32,.Ltcp59-4\n"
+    ".reloc .Ltcp73+1392,R_X86_64_PC32,.Ltcp74-4\n"
+    ".reloc .Ltcp73+1463,R_X86_64_PC32,.Ltcp74+84\n"
+    ".reloc .Ltcp73+1561,R_X86_64_PLT32,.Ltcp59-4\n"
+    ".reloc .Ltcp73+1631,R_X86_64_PC32,.Ltcp74+40\n"
+    ".reloc .Ltcp73+1651,R_X86_64_PLT32,.Ltcp62-4\n"
+    ".reloc .Ltcp73+1786,R_X86_64_PC32,.Ltcp74+84\n"
+    ".reloc .Ltcp73+1898,R_X86_64_PC32,.Ltcp74+84\n"
+    ".reloc .Ltcp73+1970,R_X86_64_PC32,.Ltcp74+84\n"
+    ".section .rodata.tcp.74,\"a\",%progbits\n"
     ".balign 4\n"
-    ".Ltcp73:\n"
+    ".Ltcp74:\n"
     ".octa 0x0,0x0,0x0\n"
     ".octa 0x0,0x0,0x0\n"
     ".octa 0x0,0x0,0x0\n"
     ".octa 0x0\n"
-    ".reloc .Ltcp73+0,R_X86_64_PC32,.Ltcp72+1405\n"
-    ".reloc .Ltcp73+4,R_X86_64_PC32,.Ltcp72+1409\n"
-    ".reloc .Ltcp73+8,R_X86_64_PC32,.Ltcp72+1413\n"
-    ".reloc .Ltcp73+12,R_X86_64_PC32,.Ltcp72+1417\n"
-    ".reloc .Ltcp73+16,R_X86_64_PC32,.Ltcp72+1421\n"
-    ".reloc .Ltcp73+20,R_X86_64_PC32,.Ltcp72+2143\n"
-    ".reloc .Ltcp73+24,R_X86_64_PC32,.Ltcp72+1429\n"
-    ".reloc .Ltcp73+28,R_X86_64_PC32,.Ltcp72+1433\n"
-    ".reloc .Ltcp73+32,R_X86_64_PC32,.Ltcp72+2041\n"
-    ".reloc .Ltcp73+36,R_X86_64_PC32,.Ltcp72+2063\n"
-    ".reloc .Ltcp73+40,R_X86_64_PC32,.Ltcp72+1445\n"
-    ".reloc .Ltcp73+44,R_X86_64_PC32,.Ltcp72+1644\n"
-    ".reloc .Ltcp73+48,R_X86_64_PC32,.Ltcp72+1648\n"
-    ".reloc .Ltcp73+52,R_X86_64_PC32,.Ltcp72+1652\n"
-    ".reloc .Ltcp73+56,R_X86_64_PC32,.Ltcp72+1656\n"
-    ".reloc .Ltcp73+60,R_X86_64_PC32,.Ltcp72+1660\n"
-    ".reloc .Ltcp73+64,R_X86_64_PC32,.Ltcp72+2152\n"
-    ".reloc .Ltcp73+68,R_X86_64_PC32,.Ltcp72+1668\n"
-    ".reloc .Ltcp73+72,R_X86_64_PC32,.Ltcp72+1672\n"
-    ".reloc .Ltcp73+76,R_X86_64_PC32,.Ltcp72+2050\n"
-    ".reloc .Ltcp73+80,R_X86_64_PC32,.Ltcp72+2111\n"
-    ".reloc .Ltcp73+84,R_X86_64_PC32,.Ltcp72+1684\n"
-    ".reloc .Ltcp73+88,R_X86_64_PC32,.Ltcp72+385\n"
-    ".reloc .Ltcp73+92,R_X86_64_PC32,.Ltcp72+387\n"
-    ".reloc .Ltcp73+96,R_X86_64_PC32,.Ltcp72+391\n"
-    ".reloc .Ltcp73+100,R_X86_64_PC32,.Ltcp72+397\n"
-    ".reloc .Ltcp73+104,R_X86_64_PC32,.Ltcp72+399\n"
-    ".reloc .Ltcp73+108,R_X86_64_PC32,.Ltcp72+403\n"
-    ".reloc .Ltcp73+112,R_X86_64_PC32,.Ltcp72+409\n"
-    ".reloc .Ltcp73+116,R_X86_64_PC32,.Ltcp72+411\n"
-    ".reloc .Ltcp73+120,R_X86_64_PC32,.Ltcp72+415\n"
-    ".reloc .Ltcp73+124,R_X86_64_PC32,.Ltcp72+421\n"
-    ".reloc .Ltcp73+128,R_X86_64_PC32,.Ltcp72+423\n"
-    ".reloc .Ltcp73+132,R_X86_64_PC32,.Ltcp72+427\n"
-    ".reloc .Ltcp73+136,R_X86_64_PC32,.Ltcp72+433\n"
-    ".reloc .Ltcp73+140,R_X86_64_PC32,.Ltcp72+435\n"
-    ".reloc .Ltcp73+144,R_X86_64_PC32,.Ltcp72+439\n"
-    ".reloc .Ltcp73+148,R_X86_64_PC32,.Ltcp72+443\n"
-    ".reloc .Ltcp73+152,R_X86_64_PC32,.Ltcp72+1867\n"
-    ".reloc .Ltcp73+156,R_X86_64_PC32,.Ltcp72+2065\n"
-    ".section .text.tcp.74,\"ax\",%progbits\n"
+    ".reloc .Ltcp74+0,R_X86_64_PC32,.Ltcp73+1405\n"
+    ".reloc .Ltcp74+4,R_X86_64_PC32,.Ltcp73+1409\n"
+    ".reloc .Ltcp74+8,R_X86_64_PC32,.Ltcp73+1413\n"
+    ".reloc .Ltcp74+12,R_X86_64_PC32,.Ltcp73+1417\n"
+    ".reloc .Ltcp74+16,R_X86_64_PC32,.Ltcp73+1421\n"
+    ".reloc .Ltcp74+20,R_X86_64_PC32,.Ltcp73+2143\n"
+    ".reloc .Ltcp74+24,R_X86_64_PC32,.Ltcp73+1429\n"
+    ".reloc .Ltcp74+28,R_X86_64_PC32,.Ltcp73+1433\n"
+    ".reloc .Ltcp74+32,R_X86_64_PC32,.Ltcp73+2041\n"
+    ".reloc .Ltcp74+36,R_X86_64_PC32,.Ltcp73+2063\n"
+    ".reloc .Ltcp74+40,R_X86_64_PC32,.Ltcp73+1445\n"
+    ".reloc .Ltcp74+44,R_X86_64_PC32,.Ltcp73+1644\n"
+    ".reloc .Ltcp74+48,R_X86_64_PC32,.Ltcp73+1648\n"
+    ".reloc .Ltcp74+52,R_X86_64_PC32,.Ltcp73+1652\n"
+    ".reloc .Ltcp74+56,R_X86_64_PC32,.Ltcp73+1656\n"
+    ".reloc .Ltcp74+60,R_X86_64_PC32,.Ltcp73+1660\n"
+    ".reloc .Ltcp74+64,R_X86_64_PC32,.Ltcp73+2152\n"
+    ".reloc .Ltcp74+68,R_X86_64_PC32,.Ltcp73+1668\n"
+    ".reloc .Ltcp74+72,R_X86_64_PC32,.Ltcp73+1672\n"
+    ".reloc .Ltcp74+76,R_X86_64_PC32,.Ltcp73+2050\n"
+    ".reloc .Ltcp74+80,R_X86_64_PC32,.Ltcp73+2111\n"
+    ".reloc .Ltcp74+84,R_X86_64_PC32,.Ltcp73+1684\n"
+    ".reloc .Ltcp74+88,R_X86_64_PC32,.Ltcp73+385\n"
+    ".reloc .Ltcp74+92,R_X86_64_PC32,.Ltcp73+387\n"
+    ".reloc .Ltcp74+96,R_X86_64_PC32,.Ltcp73+391\n"
+    ".reloc .Ltcp74+100,R_X86_64_PC32,.Ltcp73+397\n"
+    ".reloc .Ltcp74+104,R_X86_64_PC32,.Ltcp73+399\n"
+    ".reloc .Ltcp74+108,R_X86_64_PC32,.Ltcp73+403\n"
+    ".reloc .Ltcp74+112,R_X86_64_PC32,.Ltcp73+409\n"
+    ".reloc .Ltcp74+116,R_X86_64_PC32,.Ltcp73+411\n"
+    ".reloc .Ltcp74+120,R_X86_64_PC32,.Ltcp73+415\n"
+    ".reloc .Ltcp74+124,R_X86_64_PC32,.Ltcp73+421\n"
+    ".reloc .Ltcp74+128,R_X86_64_PC32,.Ltcp73+423\n"
+    ".reloc .Ltcp74+132,R_X86_64_PC32,.Ltcp73+427\n"
+    ".reloc .Ltcp74+136,R_X86_64_PC32,.Ltcp73+433\n"
+    ".reloc .Ltcp74+140,R_X86_64_PC32,.Ltcp73+435\n"
+    ".reloc .Ltcp74+144,R_X86_64_PC32,.Ltcp73+439\n"
+    ".reloc .Ltcp74+148,R_X86_64_PC32,.Ltcp73+443\n"
+    ".reloc .Ltcp74+152,R_X86_64_PC32,.Ltcp73+1867\n"
+    ".reloc .Ltcp74+156,R_X86_64_PC32,.Ltcp73+2065\n"
+    ".section .text.tcp.75,\"ax\",%progbits\n"
     ".balign 16\n"
-    ".Ltcp74:\n"
+    ".Ltcp75:\n"
     ".type \"kit_text::numbers::push_number_word::<#fc995fe602e3aacb>\",%function\n"
     ".size \"kit_text::numbers::push_number_word::<#fc995fe602e3aacb>\",437\n"
     "\"kit_text::numbers::push_number_word::<#fc995fe602e3aacb>\":\n"
@@ -8131,13 +8193,13 @@ __asm__(
     ".octa 0xc48148c0311063894c087b894c33894c,0x8948c35f415e415d415c415b00000080,0x1b0c18900000000e8d68948d58949df\n"
     ".octa 0xebea894c10638b4c087b8b4cd974c984\n"
     ".byte 0xac\n"
-    ".reloc .Ltcp74+146,R_X86_64_PC32,.Ltcp104-4\n"
-    ".reloc .Ltcp74+250,R_X86_64_PC32,.Ltcp104-4\n"
-    ".reloc .Ltcp74+289,R_X86_64_PC32,.Ltcp104-4\n"
-    ".reloc .Ltcp74+412,R_X86_64_PLT32,.Ltcp85-4\n"
-    ".section .text.tcp.75,\"ax\",%progbits\n"
+    ".reloc .Ltcp75+146,R_X86_64_PC32,.Ltcp105-4\n"
+    ".reloc .Ltcp75+250,R_X86_64_PC32,.Ltcp105-4\n"
+    ".reloc .Ltcp75+289,R_X86_64_PC32,.Ltcp105-4\n"
+    ".reloc .Ltcp75+412,R_X86_64_PLT32,.Ltcp86-4\n"
+    ".section .text.tcp.76,\"ax\",%progbits\n"
     ".balign 16\n"
-    ".Ltcp75:\n"
+    ".Ltcp76:\n"
     ".type \"kit_report::events::push_event::<#fc995fe602e3aacb>\",%function\n"
     ".size \"kit_report::events::push_event::<#fc995fe602e3aacb>\",1872\n"
     "\"kit_report::events::push_event::<#fc995fe602e3aacb>\":\n"
@@ -8186,76 +8248,76 @@ __asm__(
     ".octa 0xe7894800000000358d48fffffc08e9fa,0xfdb1850fc08400000000e800000001ba,0xe800000001bee78948fffffd94e9ffff\n"
     ".octa 0x24448b48fffffd97840fc08400000000,0x358d48fffffd5be910244c8b4808,0x8400000000e800000001bae789480000\n"
     ".octa 0xbee78948fffffed8e9fffffd6c850fc0,0xfffd52840fc08400000000e800000001,0xfffffe9fe910244c8b480824448b48ff\n"
-    ".reloc .Ltcp75+37,R_X86_64_PC32,.Ltcp76-4\n"
-    ".reloc .Ltcp75+53,R_X86_64_PC32,.Ltcp137-4\n"
-    ".reloc .Ltcp75+65,R_X86_64_PC32,.Ltcp146-4\n"
-    ".reloc .Ltcp75+77,R_X86_64_PC32,.Ltcp140-4\n"
-    ".reloc .Ltcp75+94,R_X86_64_PC32,.Ltcp147-4\n"
-    ".reloc .Ltcp75+103,R_X86_64_PC32,.Ltcp144-4\n"
-    ".reloc .Ltcp75+120,R_X86_64_PC32,.Ltcp54+24\n"
-    ".reloc .Ltcp75+129,R_X86_64_PC32,.Ltcp139-4\n"
-    ".reloc .Ltcp75+138,R_X86_64_PC32,.Ltcp143-4\n"
-    ".reloc .Ltcp75+152,R_X86_64_PC32,.Ltcp138-4\n"
-    ".reloc .Ltcp75+166,R_X86_64_PC32,.Ltcp141-4\n"
-    ".reloc .Ltcp75+180,R_X86_64_PC32,.Ltcp142-4\n"
-    ".reloc .Ltcp75+197,R_X86_64_PC32,.Ltcp145-4\n"
-    ".reloc .Ltcp75+214,R_X86_64_PC32,.Ltcp54+28\n"
-    ".reloc .Ltcp75+505,R_X86_64_PC32,.Ltcp76+48\n"
-    ".reloc .Ltcp75+545,R_X86_64_PC32,.Ltcp103-4\n"
-    ".reloc .Ltcp75+575,R_X86_64_PLT32,.Ltcp77-4\n"
-    ".reloc .Ltcp75+684,R_X86_64_PC32,.Ltcp183-4\n"
-    ".reloc .Ltcp75+695,R_X86_64_PC32,.Ltcp184-4\n"
-    ".reloc .Ltcp75+867,R_X86_64_PC32,.Ltcp103-4\n"
-    ".reloc .Ltcp75+1050,R_X86_64_PLT32,.Ltcp80-4\n"
-    ".reloc .Ltcp75+1159,R_X86_64_PLT32,.Ltcp80-4\n"
-    ".reloc .Ltcp75+1277,R_X86_64_PLT32,.Ltcp85-4\n"
-    ".reloc .Ltcp75+1327,R_X86_64_PLT32,.Ltcp85-4\n"
-    ".reloc .Ltcp75+1374,R_X86_64_PLT32,.Ltcp85-4\n"
-    ".reloc .Ltcp75+1547,R_X86_64_PLT32,.Ltcp81-4\n"
-    ".reloc .Ltcp75+1608,R_X86_64_PLT32,.Ltcp85-4\n"
-    ".reloc .Ltcp75+1652,R_X86_64_PLT32,.Ltcp85-4\n"
-    ".reloc .Ltcp75+1694,R_X86_64_PLT32,.Ltcp85-4\n"
-    ".reloc .Ltcp75+1737,R_X86_64_PC32,.Ltcp103-4\n"
-    ".reloc .Ltcp75+1750,R_X86_64_PLT32,.Ltcp78-4\n"
-    ".reloc .Ltcp75+1776,R_X86_64_PLT32,.Ltcp85-4\n"
-    ".reloc .Ltcp75+1806,R_X86_64_PC32,.Ltcp103-4\n"
-    ".reloc .Ltcp75+1819,R_X86_64_PLT32,.Ltcp78-4\n"
-    ".reloc .Ltcp75+1845,R_X86_64_PLT32,.Ltcp85-4\n"
-    ".section .rodata.tcp.76,\"a\",%progbits\n"
+    ".reloc .Ltcp76+37,R_X86_64_PC32,.Ltcp77-4\n"
+    ".reloc .Ltcp76+53,R_X86_64_PC32,.Ltcp138-4\n"
+    ".reloc .Ltcp76+65,R_X86_64_PC32,.Ltcp147-4\n"
+    ".reloc .Ltcp76+77,R_X86_64_PC32,.Ltcp141-4\n"
+    ".reloc .Ltcp76+94,R_X86_64_PC32,.Ltcp148-4\n"
+    ".reloc .Ltcp76+103,R_X86_64_PC32,.Ltcp145-4\n"
+    ".reloc .Ltcp76+120,R_X86_64_PC32,.Ltcp55+24\n"
+    ".reloc .Ltcp76+129,R_X86_64_PC32,.Ltcp140-4\n"
+    ".reloc .Ltcp76+138,R_X86_64_PC32,.Ltcp144-4\n"
+    ".reloc .Ltcp76+152,R_X86_64_PC32,.Ltcp139-4\n"
+    ".reloc .Ltcp76+166,R_X86_64_PC32,.Ltcp142-4\n"
+    ".reloc .Ltcp76+180,R_X86_64_PC32,.Ltcp143-4\n"
+    ".reloc .Ltcp76+197,R_X86_64_PC32,.Ltcp146-4\n"
+    ".reloc .Ltcp76+214,R_X86_64_PC32,.Ltcp55+28\n"
+    ".reloc .Ltcp76+505,R_X86_64_PC32,.Ltcp77+48\n"
+    ".reloc .Ltcp76+545,R_X86_64_PC32,.Ltcp104-4\n"
+    ".reloc .Ltcp76+575,R_X86_64_PLT32,.Ltcp78-4\n"
+    ".reloc .Ltcp76+684,R_X86_64_PC32,.Ltcp184-4\n"
+    ".reloc .Ltcp76+695,R_X86_64_PC32,.Ltcp185-4\n"
+    ".reloc .Ltcp76+867,R_X86_64_PC32,.Ltcp104-4\n"
+    ".reloc .Ltcp76+1050,R_X86_64_PLT32,.Ltcp81-4\n"
+    ".reloc .Ltcp76+1159,R_X86_64_PLT32,.Ltcp81-4\n"
+    ".reloc .Ltcp76+1277,R_X86_64_PLT32,.Ltcp86-4\n"
+    ".reloc .Ltcp76+1327,R_X86_64_PLT32,.Ltcp86-4\n"
+    ".reloc .Ltcp76+1374,R_X86_64_PLT32,.Ltcp86-4\n"
+    ".reloc .Ltcp76+1547,R_X86_64_PLT32,.Ltcp82-4\n"
+    ".reloc .Ltcp76+1608,R_X86_64_PLT32,.Ltcp86-4\n"
+    ".reloc .Ltcp76+1652,R_X86_64_PLT32,.Ltcp86-4\n"
+    ".reloc .Ltcp76+1694,R_X86_64_PLT32,.Ltcp86-4\n"
+    ".reloc .Ltcp76+1737,R_X86_64_PC32,.Ltcp104-4\n"
+    ".reloc .Ltcp76+1750,R_X86_64_PLT32,.Ltcp79-4\n"
+    ".reloc .Ltcp76+1776,R_X86_64_PLT32,.Ltcp86-4\n"
+    ".reloc .Ltcp76+1806,R_X86_64_PC32,.Ltcp104-4\n"
+    ".reloc .Ltcp76+1819,R_X86_64_PLT32,.Ltcp79-4\n"
+    ".reloc .Ltcp76+1845,R_X86_64_PLT32,.Ltcp86-4\n"
+    ".section .rodata.tcp.77,\"a\",%progbits\n"
     ".balign 4\n"
-    ".Ltcp76:\n"
+    ".Ltcp77:\n"
     ".octa 0x0,0x0,0x0\n"
     ".octa 0x0,0x0,0x0\n"
     ".quad 0x0\n"
-    ".reloc .Ltcp76+0,R_X86_64_PC32,.Ltcp75+50\n"
-    ".reloc .Ltcp76+4,R_X86_64_PC32,.Ltcp75+153\n"
-    ".reloc .Ltcp76+8,R_X86_64_PC32,.Ltcp75+125\n"
-    ".reloc .Ltcp76+12,R_X86_64_PC32,.Ltcp75+138\n"
-    ".reloc .Ltcp76+16,R_X86_64_PC32,.Ltcp75+90\n"
-    ".reloc .Ltcp76+20,R_X86_64_PC32,.Ltcp75+183\n"
-    ".reloc .Ltcp76+24,R_X86_64_PC32,.Ltcp75+201\n"
-    ".reloc .Ltcp76+28,R_X86_64_PC32,.Ltcp75+163\n"
-    ".reloc .Ltcp76+32,R_X86_64_PC32,.Ltcp75+243\n"
-    ".reloc .Ltcp76+36,R_X86_64_PC32,.Ltcp75+136\n"
-    ".reloc .Ltcp76+40,R_X86_64_PC32,.Ltcp75+234\n"
-    ".reloc .Ltcp76+44,R_X86_64_PC32,.Ltcp75+106\n"
-    ".reloc .Ltcp76+48,R_X86_64_PC32,.Ltcp75+139\n"
-    ".reloc .Ltcp76+52,R_X86_64_PC32,.Ltcp75+518\n"
-    ".reloc .Ltcp76+56,R_X86_64_PC32,.Ltcp75+522\n"
-    ".reloc .Ltcp76+60,R_X86_64_PC32,.Ltcp75+526\n"
-    ".reloc .Ltcp76+64,R_X86_64_PC32,.Ltcp75+550\n"
-    ".reloc .Ltcp76+68,R_X86_64_PC32,.Ltcp75+534\n"
-    ".reloc .Ltcp76+72,R_X86_64_PC32,.Ltcp75+538\n"
-    ".reloc .Ltcp76+76,R_X86_64_PC32,.Ltcp75+542\n"
-    ".reloc .Ltcp76+80,R_X86_64_PC32,.Ltcp75+667\n"
-    ".reloc .Ltcp76+84,R_X86_64_PC32,.Ltcp75+550\n"
-    ".reloc .Ltcp76+88,R_X86_64_PC32,.Ltcp75+554\n"
-    ".reloc .Ltcp76+92,R_X86_64_PC32,.Ltcp75+558\n"
-    ".reloc .Ltcp76+96,R_X86_64_PC32,.Ltcp75+582\n"
-    ".reloc .Ltcp76+100,R_X86_64_PC32,.Ltcp75+900\n"
-    ".section .text.tcp.77,\"ax\",%progbits\n"
+    ".reloc .Ltcp77+0,R_X86_64_PC32,.Ltcp76+50\n"
+    ".reloc .Ltcp77+4,R_X86_64_PC32,.Ltcp76+153\n"
+    ".reloc .Ltcp77+8,R_X86_64_PC32,.Ltcp76+125\n"
+    ".reloc .Ltcp77+12,R_X86_64_PC32,.Ltcp76+138\n"
+    ".reloc .Ltcp77+16,R_X86_64_PC32,.Ltcp76+90\n"
+    ".reloc .Ltcp77+20,R_X86_64_PC32,.Ltcp76+183\n"
+    ".reloc .Ltcp77+24,R_X86_64_PC32,.Ltcp76+201\n"
+    ".reloc .Ltcp77+28,R_X86_64_PC32,.Ltcp76+163\n"
+    ".reloc .Ltcp77+32,R_X86_64_PC32,.Ltcp76+243\n"
+    ".reloc .Ltcp77+36,R_X86_64_PC32,.Ltcp76+136\n"
+    ".reloc .Ltcp77+40,R_X86_64_PC32,.Ltcp76+234\n"
+    ".reloc .Ltcp77+44,R_X86_64_PC32,.Ltcp76+106\n"
+    ".reloc .Ltcp77+48,R_X86_64_PC32,.Ltcp76+139\n"
+    ".reloc .Ltcp77+52,R_X86_64_PC32,.Ltcp76+518\n"
+    ".reloc .Ltcp77+56,R_X86_64_PC32,.Ltcp76+522\n"
+    ".reloc .Ltcp77+60,R_X86_64_PC32,.Ltcp76+526\n"
+    ".reloc .Ltcp77+64,R_X86_64_PC32,.Ltcp76+550\n"
+    ".reloc .Ltcp77+68,R_X86_64_PC32,.Ltcp76+534\n"
+    ".reloc .Ltcp77+72,R_X86_64_PC32,.Ltcp76+538\n"
+    ".reloc .Ltcp77+76,R_X86_64_PC32,.Ltcp76+542\n"
+    ".reloc .Ltcp77+80,R_X86_64_PC32,.Ltcp76+667\n"
+    ".reloc .Ltcp77+84,R_X86_64_PC32,.Ltcp76+550\n"
+    ".reloc .Ltcp77+88,R_X86_64_PC32,.Ltcp76+554\n"
+    ".reloc .Ltcp77+92,R_X86_64_PC32,.Ltcp76+558\n"
+    ".reloc .Ltcp77+96,R_X86_64_PC32,.Ltcp76+582\n"
+    ".reloc .Ltcp77+100,R_X86_64_PC32,.Ltcp76+900\n"
+    ".section .text.tcp.78,\"ax\",%progbits\n"
     ".balign 16\n"
-    ".Ltcp77:\n"
+    ".Ltcp78:\n"
     ".type \"kit_text::numbers::push_word_number::<#fc995fe602e3aacb>\",%function\n"
     ".size \"kit_text::numbers::push_word_number::<#fc995fe602e3aacb>\",463\n"
     "\"kit_text::numbers::push_word_number::<#fc995fe602e3aacb>\":\n"
@@ -8275,13 +8337,13 @@ __asm__(
     ".octa 0xc48148c0311063894c087b894c2b894c,0x8948c35f415e415d415c415b00000080,0x1b0c18900000000e8d68948d58949df\n"
     ".octa 0xebea894c10638b4c087b8b4cd974c984\n"
     ".byte 0xad\n"
-    ".reloc .Ltcp77+149,R_X86_64_PC32,.Ltcp104-4\n"
-    ".reloc .Ltcp77+258,R_X86_64_PC32,.Ltcp104-4\n"
-    ".reloc .Ltcp77+298,R_X86_64_PC32,.Ltcp104-4\n"
-    ".reloc .Ltcp77+438,R_X86_64_PLT32,.Ltcp85-4\n"
-    ".section .text.tcp.78,\"ax\",%progbits\n"
+    ".reloc .Ltcp78+149,R_X86_64_PC32,.Ltcp105-4\n"
+    ".reloc .Ltcp78+258,R_X86_64_PC32,.Ltcp105-4\n"
+    ".reloc .Ltcp78+298,R_X86_64_PC32,.Ltcp105-4\n"
+    ".reloc .Ltcp78+438,R_X86_64_PLT32,.Ltcp86-4\n"
+    ".section .text.tcp.79,\"ax\",%progbits\n"
     ".balign 16\n"
-    ".Ltcp78:\n"
+    ".Ltcp79:\n"
     ".type \"core::fmt::formatter::Formatter::write_indented::<#66b2f40cbd927778>\",%function\n"
     ".size \"core::fmt::formatter::Formatter::write_indented::<#66b2f40cbd927778>\",306\n"
     "\"core::fmt::formatter::Formatter::write_indented::<#66b2f40cbd927778>\":\n"
@@ -8293,15 +8355,15 @@ __asm__(
     ".octa 0xe6014de375cbff482975c08400000000,0x8348ea894cf6894cff894c004047c641,0xe95d5f415e415d415c415b08c4\n"
     ".octa 0x5f415e415d415c415b08c4834801b000\n"
     ".short 0xc35d\n"
-    ".reloc .Ltcp78+66,R_X86_64_PLT32,.Ltcp79-4\n"
-    ".reloc .Ltcp78+147,R_X86_64_PC32,.Ltcp54+8\n"
-    ".reloc .Ltcp78+160,R_X86_64_PLT32,.Ltcp79-4\n"
-    ".reloc .Ltcp78+227,R_X86_64_PC32,.Ltcp54+8\n"
-    ".reloc .Ltcp78+240,R_X86_64_PLT32,.Ltcp79-4\n"
-    ".reloc .Ltcp78+285,R_X86_64_PLT32,.Ltcp79-4\n"
-    ".section .text.tcp.79,\"ax\",%progbits\n"
+    ".reloc .Ltcp79+66,R_X86_64_PLT32,.Ltcp80-4\n"
+    ".reloc .Ltcp79+147,R_X86_64_PC32,.Ltcp55+8\n"
+    ".reloc .Ltcp79+160,R_X86_64_PLT32,.Ltcp80-4\n"
+    ".reloc .Ltcp79+227,R_X86_64_PC32,.Ltcp55+8\n"
+    ".reloc .Ltcp79+240,R_X86_64_PLT32,.Ltcp80-4\n"
+    ".reloc .Ltcp79+285,R_X86_64_PLT32,.Ltcp80-4\n"
+    ".section .text.tcp.80,\"ax\",%progbits\n"
     ".balign 16\n"
-    ".Ltcp79:\n"
+    ".Ltcp80:\n"
     ".type \"core::fmt::formatter::Formatter::write_raw::<#66b2f40cbd927778>\",%function\n"
     ".size \"core::fmt::formatter::Formatter::write_raw::<#66b2f40cbd927778>\",706\n"
     "\"core::fmt::formatter::Formatter::write_raw::<#66b2f40cbd927778>\":\n"
@@ -8325,10 +8387,10 @@ __asm__(
     ".octa 0x48fffffedae9ffffff69840fc2394cef,0xe8d78949d68948f68949fb89,0x4cf6894cffffff54840fc98401b0c189\n"
     ".octa 0xfe70e9105b8b48084b8b48df8948fa89\n"
     ".short 0xffff\n"
-    ".reloc .Ltcp79+668,R_X86_64_PLT32,.Ltcp85-4\n"
-    ".section .text.tcp.80,\"ax\",%progbits\n"
+    ".reloc .Ltcp80+668,R_X86_64_PLT32,.Ltcp86-4\n"
+    ".section .text.tcp.81,\"ax\",%progbits\n"
     ".balign 16\n"
-    ".Ltcp80:\n"
+    ".Ltcp81:\n"
     ".type \"core::fmt::formatter::Formatter::write_piece::<#2411bf40c49e81b6>\",%function\n"
     ".size \"core::fmt::formatter::Formatter::write_piece::<#2411bf40c49e81b6>\",383\n"
     "\"core::fmt::formatter::Formatter::write_piece::<#2411bf40c49e81b6>\":\n"
@@ -8346,11 +8408,11 @@ __asm__(
     ".quad 0x894c107b8b4c0873\n"
     ".long 0xea894ce6\n"
     ".short 0xa3eb\n"
-    ".reloc .Ltcp80+336,R_X86_64_PLT32,.Ltcp78-4\n"
-    ".reloc .Ltcp80+355,R_X86_64_PLT32,.Ltcp85-4\n"
-    ".section .text.tcp.81,\"ax\",%progbits\n"
+    ".reloc .Ltcp81+336,R_X86_64_PLT32,.Ltcp79-4\n"
+    ".reloc .Ltcp81+355,R_X86_64_PLT32,.Ltcp86-4\n"
+    ".section .text.tcp.82,\"ax\",%progbits\n"
     ".balign 16\n"
-    ".Ltcp81:\n"
+    ".Ltcp82:\n"
     ".type \"core::fmt::formatter::Formatter::write_piece::<#fa26af870f156c24>\",%function\n"
     ".size \"core::fmt::formatter::Formatter::write_piece::<#fa26af870f156c24>\",319\n"
     "\"core::fmt::formatter::Formatter::write_piece::<#fa26af870f156c24>\":\n"
@@ -8367,11 +8429,11 @@ __asm__(
     ".quad 0x894c107b8b4c0873\n"
     ".long 0xea894ce6\n"
     ".short 0xa3eb\n"
-    ".reloc .Ltcp81+272,R_X86_64_PLT32,.Ltcp78-4\n"
-    ".reloc .Ltcp81+291,R_X86_64_PLT32,.Ltcp85-4\n"
-    ".section .text.tcp.82,\"ax\",%progbits\n"
+    ".reloc .Ltcp82+272,R_X86_64_PLT32,.Ltcp79-4\n"
+    ".reloc .Ltcp82+291,R_X86_64_PLT32,.Ltcp86-4\n"
+    ".section .text.tcp.83,\"ax\",%progbits\n"
     ".balign 16\n"
-    ".Ltcp82:\n"
+    ".Ltcp83:\n"
     ".type \"kit_text::options::push_block::<#fc995fe602e3aacb>\",%function\n"
     ".size \"kit_text::options::push_block::<#fc995fe602e3aacb>\",743\n"
     "\"kit_text::options::push_block::<#fc995fe602e3aacb>\":\n"
@@ -8394,16 +8456,16 @@ __asm__(
     ".octa 0xc48148c0311063894c087b894c33894c,0x8948c35f415e415d415c415b00000080,0x1b0c18900000000e8d68948d58949df\n"
     ".octa 0xebea894c10638b4c087b8b4cd974c984\n"
     ".byte 0xac\n"
-    ".reloc .Ltcp82+143,R_X86_64_PC32,.Ltcp104-4\n"
-    ".reloc .Ltcp82+272,R_X86_64_PC32,.Ltcp104-4\n"
-    ".reloc .Ltcp82+330,R_X86_64_PC32,.Ltcp104-4\n"
-    ".reloc .Ltcp82+464,R_X86_64_PC32,.Ltcp104-4\n"
-    ".reloc .Ltcp82+556,R_X86_64_PC32,.Ltcp104-4\n"
-    ".reloc .Ltcp82+595,R_X86_64_PC32,.Ltcp104-4\n"
-    ".reloc .Ltcp82+718,R_X86_64_PLT32,.Ltcp85-4\n"
-    ".section .text.tcp.83,\"ax\",%progbits\n"
+    ".reloc .Ltcp83+143,R_X86_64_PC32,.Ltcp105-4\n"
+    ".reloc .Ltcp83+272,R_X86_64_PC32,.Ltcp105-4\n"
+    ".reloc .Ltcp83+330,R_X86_64_PC32,.Ltcp105-4\n"
+    ".reloc .Ltcp83+464,R_X86_64_PC32,.Ltcp105-4\n"
+    ".reloc .Ltcp83+556,R_X86_64_PC32,.Ltcp105-4\n"
+    ".reloc .Ltcp83+595,R_X86_64_PC32,.Ltcp105-4\n"
+    ".reloc .Ltcp83+718,R_X86_64_PLT32,.Ltcp86-4\n"
+    ".section .text.tcp.84,\"ax\",%progbits\n"
     ".balign 16\n"
-    ".Ltcp83:\n"
+    ".Ltcp84:\n"
     ".type \"kit_text::faults::push_fault::<#fc995fe602e3aacb>\",%function\n"
     ".size \"kit_text::faults::push_fault::<#fc995fe602e3aacb>\",362\n"
     "\"kit_text::faults::push_fault::<#fc995fe602e3aacb>\":\n"
@@ -8417,12 +8479,12 @@ __asm__(
     ".octa 0x4801b00873894c9b76f1394c01b08a75\n"
     ".quad 0x415b00000088c481\n"
     ".short 0xc35e\n"
-    ".reloc .Ltcp83+122,R_X86_64_PC32,.Ltcp124-4\n"
-    ".reloc .Ltcp83+176,R_X86_64_PLT32,.Ltcp81-4\n"
-    ".reloc .Ltcp83+279,R_X86_64_PLT32,.Ltcp85-4\n"
-    ".section .text.tcp.84,\"ax\",%progbits\n"
+    ".reloc .Ltcp84+122,R_X86_64_PC32,.Ltcp125-4\n"
+    ".reloc .Ltcp84+176,R_X86_64_PLT32,.Ltcp82-4\n"
+    ".reloc .Ltcp84+279,R_X86_64_PLT32,.Ltcp86-4\n"
+    ".section .text.tcp.85,\"ax\",%progbits\n"
     ".balign 16\n"
-    ".Ltcp84:\n"
+    ".Ltcp85:\n"
     ".type \"kit_report::answers::push_refused::<#fc995fe602e3aacb>\",%function\n"
     ".size \"kit_report::answers::push_refused::<#fc995fe602e3aacb>\",337\n"
     "\"kit_report::answers::push_refused::<#fc995fe602e3aacb>\":\n"
@@ -8434,11 +8496,11 @@ __asm__(
     ".octa 0xe800000008be10247c8d48c35e41,0x2024448b4818244c8b480f74c0840000,0xf20244c280f102444280fffffff56e9\n"
     ".octa 0x3110f104b110f602444290f70244c29,0x9b76f1394c01b08a75f6854d084b8b48,0x5e415b00000088c4814801b00873894c\n"
     ".byte 0xc3\n"
-    ".reloc .Ltcp84+151,R_X86_64_PLT32,.Ltcp81-4\n"
-    ".reloc .Ltcp84+254,R_X86_64_PLT32,.Ltcp85-4\n"
-    ".section .text.tcp.85,\"ax\",%progbits\n"
+    ".reloc .Ltcp85+151,R_X86_64_PLT32,.Ltcp82-4\n"
+    ".reloc .Ltcp85+254,R_X86_64_PLT32,.Ltcp86-4\n"
+    ".section .text.tcp.86,\"ax\",%progbits\n"
     ".balign 16\n"
-    ".Ltcp85:\n"
+    ".Ltcp86:\n"
     ".type \"std_alloc::vec::Vec::grow_amortized::<#774cccd130ef0a54>\",%function\n"
     ".size \"std_alloc::vec::Vec::grow_amortized::<#774cccd130ef0a54>\",544\n"
     "\"std_alloc::vec::Vec::grow_amortized::<#774cccd130ef0a54>\":\n"
@@ -8457,9 +8519,9 @@ __asm__(
     ".octa 0x801f0fc189481b7403e08349c1,0xc8ff49c1ff480b0c88440e0cb60f4400,0x66ffffff14870ffcf88348d02948ef75\n"
     ".octa 0xb4488010e44b60f0b04880e04b60f90,0x88030e44b60f020b4488020e44b60f01,0xfffee2e9d575ca394804c18348030b44\n"
     ".byte 0xff\n"
-    ".section .text.tcp.86,\"ax\",%progbits\n"
+    ".section .text.tcp.87,\"ax\",%progbits\n"
     ".balign 16\n"
-    ".Ltcp86:\n"
+    ".Ltcp87:\n"
     ".type \"core::fmt::formatter::Formatter::write_piece::<#ab7f6a11be6e0e81>\",%function\n"
     ".size \"core::fmt::formatter::Formatter::write_piece::<#ab7f6a11be6e0e81>\",356\n"
     "\"core::fmt::formatter::Formatter::write_piece::<#ab7f6a11be6e0e81>\":\n"
@@ -8476,11 +8538,11 @@ __asm__(
     ".quad 0x894c107b8b4c0873\n"
     ".long 0xea894ce6\n"
     ".short 0xa3eb\n"
-    ".reloc .Ltcp86+309,R_X86_64_PLT32,.Ltcp78-4\n"
-    ".reloc .Ltcp86+328,R_X86_64_PLT32,.Ltcp85-4\n"
-    ".section .text.tcp.87,\"ax\",%progbits\n"
+    ".reloc .Ltcp87+309,R_X86_64_PLT32,.Ltcp79-4\n"
+    ".reloc .Ltcp87+328,R_X86_64_PLT32,.Ltcp86-4\n"
+    ".section .text.tcp.88,\"ax\",%progbits\n"
     ".balign 16\n"
-    ".Ltcp87:\n"
+    ".Ltcp88:\n"
     ".type \"std_alloc::string::String::write_fmt::<#43545b4072f2aa1d>\",%function\n"
     ".size \"std_alloc::string::String::write_fmt::<#43545b4072f2aa1d>\",652\n"
     "\"std_alloc::string::String::write_fmt::<#43545b4072f2aa1d>\":\n"
@@ -8502,11 +8564,11 @@ __asm__(
     ".octa 0x44290f60244c290f10244c280f240428,0xff854d084b8b4803110f104b110f5024,0x7b894c0676f9394c01b0fffffefa850f\n"
     ".octa 0x5f415e415d415c415b78c4834801b008\n"
     ".short 0xc35d\n"
-    ".reloc .Ltcp87+315,R_X86_64_PLT32,.Ltcp86-4\n"
-    ".reloc .Ltcp87+556,R_X86_64_PLT32,.Ltcp85-4\n"
-    ".section .text.tcp.88,\"ax\",%progbits\n"
+    ".reloc .Ltcp88+315,R_X86_64_PLT32,.Ltcp87-4\n"
+    ".reloc .Ltcp88+556,R_X86_64_PLT32,.Ltcp86-4\n"
+    ".section .text.tcp.89,\"ax\",%progbits\n"
     ".balign 16\n"
-    ".Ltcp88:\n"
+    ".Ltcp89:\n"
     ".type \"std_alloc::string::String::write_fmt::<#8ef6768b53a45598>\",%function\n"
     ".size \"std_alloc::string::String::write_fmt::<#8ef6768b53a45598>\",1137\n"
     "\"std_alloc::string::String::write_fmt::<#8ef6768b53a45598>\":\n"
@@ -8543,13 +8605,13 @@ __asm__(
     ".octa 0x24648b4c0824448b48fffffcf1840fc0\n"
     ".long 0xfd83e910\n"
     ".short 0xffff\n"
-    ".reloc .Ltcp88+331,R_X86_64_PLT32,.Ltcp86-4\n"
-    ".reloc .Ltcp88+878,R_X86_64_PLT32,.Ltcp85-4\n"
-    ".reloc .Ltcp88+936,R_X86_64_PLT32,.Ltcp78-4\n"
-    ".reloc .Ltcp88+1110,R_X86_64_PLT32,.Ltcp85-4\n"
-    ".section .text.tcp.89,\"ax\",%progbits\n"
+    ".reloc .Ltcp89+331,R_X86_64_PLT32,.Ltcp87-4\n"
+    ".reloc .Ltcp89+878,R_X86_64_PLT32,.Ltcp86-4\n"
+    ".reloc .Ltcp89+936,R_X86_64_PLT32,.Ltcp79-4\n"
+    ".reloc .Ltcp89+1110,R_X86_64_PLT32,.Ltcp86-4\n"
+    ".section .text.tcp.90,\"ax\",%progbits\n"
     ".balign 16\n"
-    ".Ltcp89:\n"
+    ".Ltcp90:\n"
     ".type \"tcp_web::exports::put_fault::<#96589b6357422c20>\",%function\n"
     ".size \"tcp_web::exports::put_fault::<#96589b6357422c20>\",1955\n"
     "\"tcp_web::exports::put_fault::<#96589b6357422c20>\":\n"
@@ -8603,32 +8665,32 @@ __asm__(
     ".octa 0x24548b4824348b48e7894cfffff8b685,0x830f702454394800000004b817894908\n"
     ".quad 0xfff892e9fffffd44\n"
     ".byte 0xff\n"
-    ".reloc .Ltcp89+158,R_X86_64_PLT32,.Ltcp92-4\n"
-    ".reloc .Ltcp89+200,R_X86_64_PC32,.Ltcp0+860\n"
-    ".reloc .Ltcp89+223,R_X86_64_PC32,.Ltcp0+796\n"
-    ".reloc .Ltcp89+317,R_X86_64_PLT32,.Ltcp92-4\n"
-    ".reloc .Ltcp89+364,R_X86_64_PC32,.Ltcp172-4\n"
-    ".reloc .Ltcp89+422,R_X86_64_PC32,.Ltcp0+860\n"
-    ".reloc .Ltcp89+664,R_X86_64_PC32,.Ltcp135-4\n"
-    ".reloc .Ltcp89+671,R_X86_64_PC32,.Ltcp136-4\n"
-    ".reloc .Ltcp89+1006,R_X86_64_PLT32,.Ltcp92-4\n"
-    ".reloc .Ltcp89+1514,R_X86_64_PLT32,.Ltcp90-4\n"
-    ".reloc .Ltcp89+1540,R_X86_64_PLT32,.Ltcp90-4\n"
-    ".reloc .Ltcp89+1566,R_X86_64_PLT32,.Ltcp92-4\n"
-    ".reloc .Ltcp89+1617,R_X86_64_PLT32,.Ltcp92-4\n"
-    ".reloc .Ltcp89+1659,R_X86_64_PC32,.Ltcp103-4\n"
-    ".reloc .Ltcp89+1672,R_X86_64_PLT32,.Ltcp90-4\n"
-    ".reloc .Ltcp89+1699,R_X86_64_PC32,.Ltcp100-4\n"
-    ".reloc .Ltcp89+1712,R_X86_64_PLT32,.Ltcp90-4\n"
-    ".reloc .Ltcp89+1743,R_X86_64_PLT32,.Ltcp92-4\n"
-    ".reloc .Ltcp89+1786,R_X86_64_PLT32,.Ltcp92-4\n"
-    ".reloc .Ltcp89+1818,R_X86_64_PLT32,.Ltcp90-4\n"
-    ".reloc .Ltcp89+1851,R_X86_64_PLT32,.Ltcp92-4\n"
-    ".reloc .Ltcp89+1887,R_X86_64_PC32,.Ltcp100-4\n"
-    ".reloc .Ltcp89+1900,R_X86_64_PLT32,.Ltcp90-4\n"
-    ".section .text.tcp.90,\"ax\",%progbits\n"
+    ".reloc .Ltcp90+158,R_X86_64_PLT32,.Ltcp93-4\n"
+    ".reloc .Ltcp90+200,R_X86_64_PC32,.Ltcp0+1724\n"
+    ".reloc .Ltcp90+223,R_X86_64_PC32,.Ltcp0+796\n"
+    ".reloc .Ltcp90+317,R_X86_64_PLT32,.Ltcp93-4\n"
+    ".reloc .Ltcp90+364,R_X86_64_PC32,.Ltcp173-4\n"
+    ".reloc .Ltcp90+422,R_X86_64_PC32,.Ltcp0+1724\n"
+    ".reloc .Ltcp90+664,R_X86_64_PC32,.Ltcp136-4\n"
+    ".reloc .Ltcp90+671,R_X86_64_PC32,.Ltcp137-4\n"
+    ".reloc .Ltcp90+1006,R_X86_64_PLT32,.Ltcp93-4\n"
+    ".reloc .Ltcp90+1514,R_X86_64_PLT32,.Ltcp91-4\n"
+    ".reloc .Ltcp90+1540,R_X86_64_PLT32,.Ltcp91-4\n"
+    ".reloc .Ltcp90+1566,R_X86_64_PLT32,.Ltcp93-4\n"
+    ".reloc .Ltcp90+1617,R_X86_64_PLT32,.Ltcp93-4\n"
+    ".reloc .Ltcp90+1659,R_X86_64_PC32,.Ltcp104-4\n"
+    ".reloc .Ltcp90+1672,R_X86_64_PLT32,.Ltcp91-4\n"
+    ".reloc .Ltcp90+1699,R_X86_64_PC32,.Ltcp101-4\n"
+    ".reloc .Ltcp90+1712,R_X86_64_PLT32,.Ltcp91-4\n"
+    ".reloc .Ltcp90+1743,R_X86_64_PLT32,.Ltcp93-4\n"
+    ".reloc .Ltcp90+1786,R_X86_64_PLT32,.Ltcp93-4\n"
+    ".reloc .Ltcp90+1818,R_X86_64_PLT32,.Ltcp91-4\n"
+    ".reloc .Ltcp90+1851,R_X86_64_PLT32,.Ltcp93-4\n"
+    ".reloc .Ltcp90+1887,R_X86_64_PC32,.Ltcp101-4\n"
+    ".reloc .Ltcp90+1900,R_X86_64_PLT32,.Ltcp91-4\n"
+    ".section .text.tcp.91,\"ax\",%progbits\n"
     ".balign 16\n"
-    ".Ltcp90:\n"
+    ".Ltcp91:\n"
     ".type \"core::fmt::formatter::Formatter::write_indented::<#b0b7e8f0682f909d>\",%function\n"
     ".size \"core::fmt::formatter::Formatter::write_indented::<#b0b7e8f0682f909d>\",306\n"
     "\"core::fmt::formatter::Formatter::write_indented::<#b0b7e8f0682f909d>\":\n"
@@ -8640,15 +8702,15 @@ __asm__(
     ".octa 0xe6014de375cbff482975c08400000000,0x8348ea894cf6894cff894c004047c641,0xe95d5f415e415d415c415b08c4\n"
     ".octa 0x5f415e415d415c415b08c4834801b000\n"
     ".short 0xc35d\n"
-    ".reloc .Ltcp90+66,R_X86_64_PLT32,.Ltcp91-4\n"
-    ".reloc .Ltcp90+147,R_X86_64_PC32,.Ltcp54+8\n"
-    ".reloc .Ltcp90+160,R_X86_64_PLT32,.Ltcp91-4\n"
-    ".reloc .Ltcp90+227,R_X86_64_PC32,.Ltcp54+8\n"
-    ".reloc .Ltcp90+240,R_X86_64_PLT32,.Ltcp91-4\n"
-    ".reloc .Ltcp90+285,R_X86_64_PLT32,.Ltcp91-4\n"
-    ".section .text.tcp.91,\"ax\",%progbits\n"
+    ".reloc .Ltcp91+66,R_X86_64_PLT32,.Ltcp92-4\n"
+    ".reloc .Ltcp91+147,R_X86_64_PC32,.Ltcp55+8\n"
+    ".reloc .Ltcp91+160,R_X86_64_PLT32,.Ltcp92-4\n"
+    ".reloc .Ltcp91+227,R_X86_64_PC32,.Ltcp55+8\n"
+    ".reloc .Ltcp91+240,R_X86_64_PLT32,.Ltcp92-4\n"
+    ".reloc .Ltcp91+285,R_X86_64_PLT32,.Ltcp92-4\n"
+    ".section .text.tcp.92,\"ax\",%progbits\n"
     ".balign 16\n"
-    ".Ltcp91:\n"
+    ".Ltcp92:\n"
     ".type \"core::fmt::formatter::Formatter::write_raw::<#b0b7e8f0682f909d>\",%function\n"
     ".size \"core::fmt::formatter::Formatter::write_raw::<#b0b7e8f0682f909d>\",706\n"
     "\"core::fmt::formatter::Formatter::write_raw::<#b0b7e8f0682f909d>\":\n"
@@ -8672,10 +8734,10 @@ __asm__(
     ".octa 0x48fffffedae9ffffff69840fc2394cef,0xe8d78949d68948f68949fb89,0x4cf6894cffffff54840fc98401b0c189\n"
     ".octa 0xfe70e9105b8b48084b8b48df8948fa89\n"
     ".short 0xffff\n"
-    ".reloc .Ltcp91+668,R_X86_64_PLT32,.Ltcp92-4\n"
-    ".section .text.tcp.92,\"ax\",%progbits\n"
+    ".reloc .Ltcp92+668,R_X86_64_PLT32,.Ltcp93-4\n"
+    ".section .text.tcp.93,\"ax\",%progbits\n"
     ".balign 16\n"
-    ".Ltcp92:\n"
+    ".Ltcp93:\n"
     ".type \"std_alloc::vec::Vec::grow_amortized::<#d75ad40d6e24f1b1>\",%function\n"
     ".size \"std_alloc::vec::Vec::grow_amortized::<#d75ad40d6e24f1b1>\",544\n"
     "\"std_alloc::vec::Vec::grow_amortized::<#d75ad40d6e24f1b1>\":\n"
@@ -8694,9 +8756,9 @@ __asm__(
     ".octa 0x801f0fc189481b7403e08349c1,0xc8ff49c1ff480b0c88440e0cb60f4400,0x66ffffff14870ffcf88348d02948ef75\n"
     ".octa 0xb4488010e44b60f0b04880e04b60f90,0x88030e44b60f020b4488020e44b60f01,0xfffee2e9d575ca394804c18348030b44\n"
     ".byte 0xff\n"
-    ".section .text.tcp.93,\"ax\",%progbits\n"
+    ".section .text.tcp.94,\"ax\",%progbits\n"
     ".balign 16\n"
-    ".Ltcp93:\n"
+    ".Ltcp94:\n"
     ".type \"kit_report::report::push_end_line::<#fc995fe602e3aacb>\",%function\n"
     ".size \"kit_report::report::push_end_line::<#fc995fe602e3aacb>\",248\n"
     "\"kit_report::report::push_end_line::<#fc995fe602e3aacb>\":\n"
@@ -8706,14 +8768,14 @@ __asm__(
     ".octa 0x48052454b60f3875c08401b540000000,0x8b482475c08400000000e8f6894cdf89,0x4c6138b482274c13948104b8b480843\n"
     ".octa 0x104b894808438948138948c0ff480a02,0x1bec35d5e415b50c48348e889ed31,0x8b48e474c08400000000e8df89480000\n"
     ".quad 0xc3eb104b8b480843\n"
-    ".reloc .Ltcp93+54,R_X86_64_PC32,.Ltcp54+44\n"
-    ".reloc .Ltcp93+85,R_X86_64_PC32,.Ltcp103-4\n"
-    ".reloc .Ltcp93+143,R_X86_64_PLT32,.Ltcp94-4\n"
-    ".reloc .Ltcp93+166,R_X86_64_PLT32,.Ltcp95-4\n"
-    ".reloc .Ltcp93+230,R_X86_64_PLT32,.Ltcp85-4\n"
-    ".section .text.tcp.94,\"ax\",%progbits\n"
+    ".reloc .Ltcp94+54,R_X86_64_PC32,.Ltcp55+44\n"
+    ".reloc .Ltcp94+85,R_X86_64_PC32,.Ltcp104-4\n"
+    ".reloc .Ltcp94+143,R_X86_64_PLT32,.Ltcp95-4\n"
+    ".reloc .Ltcp94+166,R_X86_64_PLT32,.Ltcp96-4\n"
+    ".reloc .Ltcp94+230,R_X86_64_PLT32,.Ltcp86-4\n"
+    ".section .text.tcp.95,\"ax\",%progbits\n"
     ".balign 16\n"
-    ".Ltcp94:\n"
+    ".Ltcp95:\n"
     ".type \"std_alloc::string::String::write_fmt::<#63f633939ab7fc33>\",%function\n"
     ".size \"std_alloc::string::String::write_fmt::<#63f633939ab7fc33>\",2548\n"
     "\"std_alloc::string::String::write_fmt::<#63f633939ab7fc33>\":\n"
@@ -8789,26 +8851,26 @@ __asm__(
     ".quad 0xb008728948fffffc\n"
     ".long 0xfc25e901\n"
     ".short 0xffff\n"
-    ".reloc .Ltcp94+434,R_X86_64_PC32,.Ltcp135-4\n"
-    ".reloc .Ltcp94+441,R_X86_64_PC32,.Ltcp136-4\n"
-    ".reloc .Ltcp94+800,R_X86_64_PC32,.Ltcp185-4\n"
-    ".reloc .Ltcp94+811,R_X86_64_PC32,.Ltcp186-4\n"
-    ".reloc .Ltcp94+1318,R_X86_64_PC32,.Ltcp102+60\n"
-    ".reloc .Ltcp94+1329,R_X86_64_PC32,.Ltcp187-4\n"
-    ".reloc .Ltcp94+1758,R_X86_64_PLT32,.Ltcp85-4\n"
-    ".reloc .Ltcp94+1805,R_X86_64_PLT32,.Ltcp78-4\n"
-    ".reloc .Ltcp94+1836,R_X86_64_PLT32,.Ltcp85-4\n"
-    ".reloc .Ltcp94+1882,R_X86_64_PLT32,.Ltcp78-4\n"
-    ".reloc .Ltcp94+2039,R_X86_64_PLT32,.Ltcp85-4\n"
-    ".reloc .Ltcp94+2075,R_X86_64_PLT32,.Ltcp78-4\n"
-    ".reloc .Ltcp94+2110,R_X86_64_PLT32,.Ltcp85-4\n"
-    ".reloc .Ltcp94+2160,R_X86_64_PLT32,.Ltcp78-4\n"
-    ".reloc .Ltcp94+2310,R_X86_64_PLT32,.Ltcp85-4\n"
-    ".reloc .Ltcp94+2347,R_X86_64_PLT32,.Ltcp78-4\n"
-    ".reloc .Ltcp94+2410,R_X86_64_PLT32,.Ltcp85-4\n"
-    ".section .text.tcp.95,\"ax\",%progbits\n"
+    ".reloc .Ltcp95+434,R_X86_64_PC32,.Ltcp136-4\n"
+    ".reloc .Ltcp95+441,R_X86_64_PC32,.Ltcp137-4\n"
+    ".reloc .Ltcp95+800,R_X86_64_PC32,.Ltcp186-4\n"
+    ".reloc .Ltcp95+811,R_X86_64_PC32,.Ltcp187-4\n"
+    ".reloc .Ltcp95+1318,R_X86_64_PC32,.Ltcp103+60\n"
+    ".reloc .Ltcp95+1329,R_X86_64_PC32,.Ltcp188-4\n"
+    ".reloc .Ltcp95+1758,R_X86_64_PLT32,.Ltcp86-4\n"
+    ".reloc .Ltcp95+1805,R_X86_64_PLT32,.Ltcp79-4\n"
+    ".reloc .Ltcp95+1836,R_X86_64_PLT32,.Ltcp86-4\n"
+    ".reloc .Ltcp95+1882,R_X86_64_PLT32,.Ltcp79-4\n"
+    ".reloc .Ltcp95+2039,R_X86_64_PLT32,.Ltcp86-4\n"
+    ".reloc .Ltcp95+2075,R_X86_64_PLT32,.Ltcp79-4\n"
+    ".reloc .Ltcp95+2110,R_X86_64_PLT32,.Ltcp86-4\n"
+    ".reloc .Ltcp95+2160,R_X86_64_PLT32,.Ltcp79-4\n"
+    ".reloc .Ltcp95+2310,R_X86_64_PLT32,.Ltcp86-4\n"
+    ".reloc .Ltcp95+2347,R_X86_64_PLT32,.Ltcp79-4\n"
+    ".reloc .Ltcp95+2410,R_X86_64_PLT32,.Ltcp86-4\n"
+    ".section .text.tcp.96,\"ax\",%progbits\n"
     ".balign 16\n"
-    ".Ltcp95:\n"
+    ".Ltcp96:\n"
     ".type \"kit_report::report::push_counts::<#fc995fe602e3aacb>\",%function\n"
     ".size \"kit_report::report::push_counts::<#fc995fe602e3aacb>\",2133\n"
     "\"kit_report::report::push_counts::<#fc995fe602e3aacb>\":\n"
@@ -8863,44 +8925,44 @@ __asm__(
     ".octa 0x4803110f104b110f70244c290f602444,0x4c01b01574cd39491a74ed854d084b8b,0x97fbf293c80420b8b4819761b72e939\n"
     ".octa 0x4801b0086b894c0676e9394c01b00deb,0x5d5f415e415d415c415b00000168c481\n"
     ".byte 0xc3\n"
-    ".reloc .Ltcp95+119,R_X86_64_PC32,.Ltcp156-4\n"
-    ".reloc .Ltcp95+126,R_X86_64_PC32,.Ltcp157-4\n"
-    ".reloc .Ltcp95+140,R_X86_64_PC32,.Ltcp177-4\n"
-    ".reloc .Ltcp95+183,R_X86_64_PC32,.Ltcp178-4\n"
-    ".reloc .Ltcp95+226,R_X86_64_PC32,.Ltcp179-4\n"
-    ".reloc .Ltcp95+266,R_X86_64_PC32,.Ltcp180-4\n"
-    ".reloc .Ltcp95+306,R_X86_64_PC32,.Ltcp181-4\n"
-    ".reloc .Ltcp95+349,R_X86_64_PC32,.Ltcp182-4\n"
-    ".reloc .Ltcp95+578,R_X86_64_PLT32,.Ltcp80-4\n"
-    ".reloc .Ltcp95+750,R_X86_64_PLT32,.Ltcp80-4\n"
-    ".reloc .Ltcp95+850,R_X86_64_PC32,.Ltcp179-4\n"
-    ".reloc .Ltcp95+903,R_X86_64_PLT32,.Ltcp96-4\n"
-    ".reloc .Ltcp95+1003,R_X86_64_PC32,.Ltcp180-4\n"
-    ".reloc .Ltcp95+1054,R_X86_64_PLT32,.Ltcp96-4\n"
-    ".reloc .Ltcp95+1154,R_X86_64_PC32,.Ltcp181-4\n"
-    ".reloc .Ltcp95+1197,R_X86_64_PLT32,.Ltcp85-4\n"
-    ".reloc .Ltcp95+1227,R_X86_64_PC32,.Ltcp178-4\n"
-    ".reloc .Ltcp95+1240,R_X86_64_PLT32,.Ltcp78-4\n"
-    ".reloc .Ltcp95+1266,R_X86_64_PLT32,.Ltcp85-4\n"
-    ".reloc .Ltcp95+1296,R_X86_64_PC32,.Ltcp179-4\n"
-    ".reloc .Ltcp95+1309,R_X86_64_PLT32,.Ltcp78-4\n"
-    ".reloc .Ltcp95+1364,R_X86_64_PLT32,.Ltcp80-4\n"
-    ".reloc .Ltcp95+1464,R_X86_64_PC32,.Ltcp182-4\n"
-    ".reloc .Ltcp95+1504,R_X86_64_PLT32,.Ltcp85-4\n"
-    ".reloc .Ltcp95+1534,R_X86_64_PC32,.Ltcp180-4\n"
-    ".reloc .Ltcp95+1547,R_X86_64_PLT32,.Ltcp78-4\n"
-    ".reloc .Ltcp95+1729,R_X86_64_PLT32,.Ltcp85-4\n"
-    ".reloc .Ltcp95+1814,R_X86_64_PC32,.Ltcp181-4\n"
-    ".reloc .Ltcp95+1827,R_X86_64_PLT32,.Ltcp78-4\n"
-    ".reloc .Ltcp95+1853,R_X86_64_PLT32,.Ltcp85-4\n"
-    ".reloc .Ltcp95+1883,R_X86_64_PC32,.Ltcp182-4\n"
-    ".reloc .Ltcp95+1896,R_X86_64_PLT32,.Ltcp78-4\n"
-    ".reloc .Ltcp95+1922,R_X86_64_PLT32,.Ltcp85-4\n"
-    ".reloc .Ltcp95+1960,R_X86_64_PLT32,.Ltcp78-4\n"
-    ".reloc .Ltcp95+2013,R_X86_64_PLT32,.Ltcp85-4\n"
-    ".section .text.tcp.96,\"ax\",%progbits\n"
+    ".reloc .Ltcp96+119,R_X86_64_PC32,.Ltcp157-4\n"
+    ".reloc .Ltcp96+126,R_X86_64_PC32,.Ltcp158-4\n"
+    ".reloc .Ltcp96+140,R_X86_64_PC32,.Ltcp178-4\n"
+    ".reloc .Ltcp96+183,R_X86_64_PC32,.Ltcp179-4\n"
+    ".reloc .Ltcp96+226,R_X86_64_PC32,.Ltcp180-4\n"
+    ".reloc .Ltcp96+266,R_X86_64_PC32,.Ltcp181-4\n"
+    ".reloc .Ltcp96+306,R_X86_64_PC32,.Ltcp182-4\n"
+    ".reloc .Ltcp96+349,R_X86_64_PC32,.Ltcp183-4\n"
+    ".reloc .Ltcp96+578,R_X86_64_PLT32,.Ltcp81-4\n"
+    ".reloc .Ltcp96+750,R_X86_64_PLT32,.Ltcp81-4\n"
+    ".reloc .Ltcp96+850,R_X86_64_PC32,.Ltcp180-4\n"
+    ".reloc .Ltcp96+903,R_X86_64_PLT32,.Ltcp97-4\n"
+    ".reloc .Ltcp96+1003,R_X86_64_PC32,.Ltcp181-4\n"
+    ".reloc .Ltcp96+1054,R_X86_64_PLT32,.Ltcp97-4\n"
+    ".reloc .Ltcp96+1154,R_X86_64_PC32,.Ltcp182-4\n"
+    ".reloc .Ltcp96+1197,R_X86_64_PLT32,.Ltcp86-4\n"
+    ".reloc .Ltcp96+1227,R_X86_64_PC32,.Ltcp179-4\n"
+    ".reloc .Ltcp96+1240,R_X86_64_PLT32,.Ltcp79-4\n"
+    ".reloc .Ltcp96+1266,R_X86_64_PLT32,.Ltcp86-4\n"
+    ".reloc .Ltcp96+1296,R_X86_64_PC32,.Ltcp180-4\n"
+    ".reloc .Ltcp96+1309,R_X86_64_PLT32,.Ltcp79-4\n"
+    ".reloc .Ltcp96+1364,R_X86_64_PLT32,.Ltcp81-4\n"
+    ".reloc .Ltcp96+1464,R_X86_64_PC32,.Ltcp183-4\n"
+    ".reloc .Ltcp96+1504,R_X86_64_PLT32,.Ltcp86-4\n"
+    ".reloc .Ltcp96+1534,R_X86_64_PC32,.Ltcp181-4\n"
+    ".reloc .Ltcp96+1547,R_X86_64_PLT32,.Ltcp79-4\n"
+    ".reloc .Ltcp96+1729,R_X86_64_PLT32,.Ltcp86-4\n"
+    ".reloc .Ltcp96+1814,R_X86_64_PC32,.Ltcp182-4\n"
+    ".reloc .Ltcp96+1827,R_X86_64_PLT32,.Ltcp79-4\n"
+    ".reloc .Ltcp96+1853,R_X86_64_PLT32,.Ltcp86-4\n"
+    ".reloc .Ltcp96+1883,R_X86_64_PC32,.Ltcp183-4\n"
+    ".reloc .Ltcp96+1896,R_X86_64_PLT32,.Ltcp79-4\n"
+    ".reloc .Ltcp96+1922,R_X86_64_PLT32,.Ltcp86-4\n"
+    ".reloc .Ltcp96+1960,R_X86_64_PLT32,.Ltcp79-4\n"
+    ".reloc .Ltcp96+2013,R_X86_64_PLT32,.Ltcp86-4\n"
+    ".section .text.tcp.97,\"ax\",%progbits\n"
     ".balign 16\n"
-    ".Ltcp96:\n"
+    ".Ltcp97:\n"
     ".type \"core::fmt::formatter::Formatter::write_piece::<#9759a26100429c7f>\",%function\n"
     ".size \"core::fmt::formatter::Formatter::write_piece::<#9759a26100429c7f>\",367\n"
     "\"core::fmt::formatter::Formatter::write_piece::<#9759a26100429c7f>\":\n"
@@ -8918,11 +8980,11 @@ __asm__(
     ".quad 0x894c107b8b4c0873\n"
     ".long 0xea894ce6\n"
     ".short 0xa3eb\n"
-    ".reloc .Ltcp96+320,R_X86_64_PLT32,.Ltcp78-4\n"
-    ".reloc .Ltcp96+339,R_X86_64_PLT32,.Ltcp85-4\n"
-    ".section .text.tcp.97,\"ax\",%progbits\n"
+    ".reloc .Ltcp97+320,R_X86_64_PLT32,.Ltcp79-4\n"
+    ".reloc .Ltcp97+339,R_X86_64_PLT32,.Ltcp86-4\n"
+    ".section .text.tcp.98,\"ax\",%progbits\n"
     ".balign 16\n"
-    ".Ltcp97:\n"
+    ".Ltcp98:\n"
     ".globl tcp_web_list\n"
     ".hidden tcp_web_list\n"
     ".type tcp_web_list,%function\n"
@@ -9014,36 +9076,36 @@ __asm__(
     ".quad 0xc031fffffd20850f\n"
     ".long 0xfffb38e9\n"
     ".byte 0xff\n"
-    ".reloc .Ltcp97+361,R_X86_64_PLT32,.Ltcp1-4\n"
-    ".reloc .Ltcp97+582,R_X86_64_PLT32,.Ltcp2-4\n"
-    ".reloc .Ltcp97+693,R_X86_64_PLT32,.Ltcp2-4\n"
-    ".reloc .Ltcp97+762,R_X86_64_PLT32,.Ltcp5-4\n"
-    ".reloc .Ltcp97+802,R_X86_64_PLT32,.Ltcp5-4\n"
-    ".reloc .Ltcp97+846,R_X86_64_PLT32,.Ltcp7-4\n"
-    ".reloc .Ltcp97+905,R_X86_64_PC32,.Ltcp103-4\n"
-    ".reloc .Ltcp97+1013,R_X86_64_PLT32,.Ltcp11-4\n"
-    ".reloc .Ltcp97+1164,R_X86_64_PLT32,.Ltcp14-4\n"
-    ".reloc .Ltcp97+1267,R_X86_64_PLT32,.Ltcp1-4\n"
-    ".reloc .Ltcp97+1352,R_X86_64_PLT32,.Ltcp2-4\n"
-    ".reloc .Ltcp97+1372,R_X86_64_PC32,.Ltcp103-4\n"
-    ".reloc .Ltcp97+1385,R_X86_64_PLT32,.Ltcp12-4\n"
-    ".reloc .Ltcp97+1447,R_X86_64_PLT32,.Ltcp25-4\n"
-    ".reloc .Ltcp97+1485,R_X86_64_PLT32,.Ltcp25-4\n"
-    ".reloc .Ltcp97+1536,R_X86_64_PC32,.Ltcp130-4\n"
-    ".reloc .Ltcp97+1579,R_X86_64_PC32,.Ltcp131-4\n"
-    ".reloc .Ltcp97+1622,R_X86_64_PC32,.Ltcp100-4\n"
-    ".reloc .Ltcp97+2126,R_X86_64_PLT32,.Ltcp11-4\n"
-    ".reloc .Ltcp97+2320,R_X86_64_PLT32,.Ltcp11-4\n"
-    ".reloc .Ltcp97+2715,R_X86_64_PLT32,.Ltcp25-4\n"
-    ".reloc .Ltcp97+3074,R_X86_64_PC32,.Ltcp131-4\n"
-    ".reloc .Ltcp97+3087,R_X86_64_PLT32,.Ltcp12-4\n"
-    ".reloc .Ltcp97+3113,R_X86_64_PLT32,.Ltcp25-4\n"
-    ".reloc .Ltcp97+3170,R_X86_64_PC32,.Ltcp100-4\n"
-    ".reloc .Ltcp97+3183,R_X86_64_PLT32,.Ltcp12-4\n"
-    ".reloc .Ltcp97+3263,R_X86_64_PLT32,.Ltcp25-4\n"
-    ".section .text.tcp.98,\"ax\",%progbits\n"
+    ".reloc .Ltcp98+361,R_X86_64_PLT32,.Ltcp1-4\n"
+    ".reloc .Ltcp98+582,R_X86_64_PLT32,.Ltcp2-4\n"
+    ".reloc .Ltcp98+693,R_X86_64_PLT32,.Ltcp2-4\n"
+    ".reloc .Ltcp98+762,R_X86_64_PLT32,.Ltcp6-4\n"
+    ".reloc .Ltcp98+802,R_X86_64_PLT32,.Ltcp6-4\n"
+    ".reloc .Ltcp98+846,R_X86_64_PLT32,.Ltcp8-4\n"
+    ".reloc .Ltcp98+905,R_X86_64_PC32,.Ltcp104-4\n"
+    ".reloc .Ltcp98+1013,R_X86_64_PLT32,.Ltcp12-4\n"
+    ".reloc .Ltcp98+1164,R_X86_64_PLT32,.Ltcp15-4\n"
+    ".reloc .Ltcp98+1267,R_X86_64_PLT32,.Ltcp1-4\n"
+    ".reloc .Ltcp98+1352,R_X86_64_PLT32,.Ltcp2-4\n"
+    ".reloc .Ltcp98+1372,R_X86_64_PC32,.Ltcp104-4\n"
+    ".reloc .Ltcp98+1385,R_X86_64_PLT32,.Ltcp13-4\n"
+    ".reloc .Ltcp98+1447,R_X86_64_PLT32,.Ltcp26-4\n"
+    ".reloc .Ltcp98+1485,R_X86_64_PLT32,.Ltcp26-4\n"
+    ".reloc .Ltcp98+1536,R_X86_64_PC32,.Ltcp131-4\n"
+    ".reloc .Ltcp98+1579,R_X86_64_PC32,.Ltcp132-4\n"
+    ".reloc .Ltcp98+1622,R_X86_64_PC32,.Ltcp101-4\n"
+    ".reloc .Ltcp98+2126,R_X86_64_PLT32,.Ltcp12-4\n"
+    ".reloc .Ltcp98+2320,R_X86_64_PLT32,.Ltcp12-4\n"
+    ".reloc .Ltcp98+2715,R_X86_64_PLT32,.Ltcp26-4\n"
+    ".reloc .Ltcp98+3074,R_X86_64_PC32,.Ltcp132-4\n"
+    ".reloc .Ltcp98+3087,R_X86_64_PLT32,.Ltcp13-4\n"
+    ".reloc .Ltcp98+3113,R_X86_64_PLT32,.Ltcp26-4\n"
+    ".reloc .Ltcp98+3170,R_X86_64_PC32,.Ltcp101-4\n"
+    ".reloc .Ltcp98+3183,R_X86_64_PLT32,.Ltcp13-4\n"
+    ".reloc .Ltcp98+3263,R_X86_64_PLT32,.Ltcp26-4\n"
+    ".section .text.tcp.99,\"ax\",%progbits\n"
     ".balign 16\n"
-    ".Ltcp98:\n"
+    ".Ltcp99:\n"
     ".globl tcp_web_replay\n"
     ".hidden tcp_web_replay\n"
     ".type tcp_web_replay,%function\n"
@@ -9090,495 +9152,496 @@ __asm__(
     ".octa 0x20c08349010c110f42f00144110f4210,0x46840f1cc2f6b674c23948e175c0394c,0x48b44fce08348d08948c18948ffffff\n"
     ".octa 0x3948ef75c8394804c183480f0489440e\n"
     ".quad 0xffffff21e98d74c2\n"
-    ".reloc .Ltcp98+176,R_X86_64_PLT32,.Ltcp26-4\n"
-    ".reloc .Ltcp98+378,R_X86_64_PLT32,.Ltcp33-4\n"
-    ".reloc .Ltcp98+439,R_X86_64_PLT32,.Ltcp33-4\n"
-    ".reloc .Ltcp98+695,R_X86_64_PLT32,.Ltcp34-4\n"
-    ".reloc .Ltcp98+760,R_X86_64_PLT32,.Ltcp93-4\n"
-    ".reloc .Ltcp98+790,R_X86_64_PLT32,.Ltcp93-4\n"
-    ".reloc .Ltcp98+858,R_X86_64_PLT32,.Ltcp89-4\n"
-    ".section .rodata.tcp.99,\"a\",%progbits\n"
-    ".balign 1\n"
-    ".Ltcp99:\n"
-    ".byte 0x2d\n"
+    ".reloc .Ltcp99+176,R_X86_64_PLT32,.Ltcp27-4\n"
+    ".reloc .Ltcp99+378,R_X86_64_PLT32,.Ltcp34-4\n"
+    ".reloc .Ltcp99+439,R_X86_64_PLT32,.Ltcp34-4\n"
+    ".reloc .Ltcp99+695,R_X86_64_PLT32,.Ltcp35-4\n"
+    ".reloc .Ltcp99+760,R_X86_64_PLT32,.Ltcp94-4\n"
+    ".reloc .Ltcp99+790,R_X86_64_PLT32,.Ltcp94-4\n"
+    ".reloc .Ltcp99+858,R_X86_64_PLT32,.Ltcp90-4\n"
     ".section .rodata.tcp.100,\"a\",%progbits\n"
     ".balign 1\n"
     ".Ltcp100:\n"
-    ".byte 0xa\n"
+    ".byte 0x2d\n"
     ".section .rodata.tcp.101,\"a\",%progbits\n"
     ".balign 1\n"
     ".Ltcp101:\n"
+    ".byte 0xa\n"
     ".section .rodata.tcp.102,\"a\",%progbits\n"
-    ".balign 8\n"
+    ".balign 1\n"
     ".Ltcp102:\n"
+    ".section .rodata.tcp.103,\"a\",%progbits\n"
+    ".balign 8\n"
+    ".Ltcp103:\n"
     ".octa 0x34312065766f62612074666968732061,0x29332e32202c33323337204346522820,0x20657265687765736c652d7465736572\n"
     ".octa 0x646e6f636573202c342e372e30312e33,0x70000000000000009,0x70000000000000005\n"
-    ".section .rodata.tcp.103,\"a\",%progbits\n"
-    ".balign 1\n"
-    ".Ltcp103:\n"
-    ".byte 0x20\n"
     ".section .rodata.tcp.104,\"a\",%progbits\n"
     ".balign 1\n"
     ".Ltcp104:\n"
+    ".byte 0x20\n"
+    ".section .rodata.tcp.105,\"a\",%progbits\n"
+    ".balign 1\n"
+    ".Ltcp105:\n"
     ".octa 0x37303630353034303330323031303030,0x35313431333132313131303139303830,0x33323232313230323931383137313631\n"
     ".octa 0x31333033393238323732363235323432,0x39333833373336333533343333333233,0x37343634353434343334323431343034\n"
     ".octa 0x35353435333532353135303539343834,0x33363236313630363935383537353635,0x31373037393638363736363635363436\n"
     ".octa 0x39373837373736373537343733373237,0x37383638353834383338323831383038,0x35393439333932393139303939383838\n"
     ".quad 0x3939383937393639\n"
-    ".section .rodata.tcp.105,\"a\",%progbits\n"
-    ".balign 1\n"
-    ".Ltcp105:\n"
-    ".short 0x4341\n"
-    ".byte 0x4b\n"
     ".section .rodata.tcp.106,\"a\",%progbits\n"
     ".balign 1\n"
     ".Ltcp106:\n"
-    ".long 0x2c4b4341\n"
-    ".short 0x5350\n"
-    ".byte 0x48\n"
+    ".short 0x4341\n"
+    ".byte 0x4b\n"
     ".section .rodata.tcp.107,\"a\",%progbits\n"
     ".balign 1\n"
     ".Ltcp107:\n"
-    ".short 0x5953\n"
-    ".byte 0x4e\n"
+    ".long 0x2c4b4341\n"
+    ".short 0x5350\n"
+    ".byte 0x48\n"
     ".section .rodata.tcp.108,\"a\",%progbits\n"
     ".balign 1\n"
     ".Ltcp108:\n"
-    ".long 0x2c4b4341\n"
     ".short 0x5953\n"
     ".byte 0x4e\n"
     ".section .rodata.tcp.109,\"a\",%progbits\n"
     ".balign 1\n"
     ".Ltcp109:\n"
     ".long 0x2c4b4341\n"
-    ".short 0x4946\n"
+    ".short 0x5953\n"
     ".byte 0x4e\n"
     ".section .rodata.tcp.110,\"a\",%progbits\n"
     ".balign 1\n"
     ".Ltcp110:\n"
     ".long 0x2c4b4341\n"
-    ".short 0x5352\n"
-    ".byte 0x54\n"
+    ".short 0x4946\n"
+    ".byte 0x4e\n"
     ".section .rodata.tcp.111,\"a\",%progbits\n"
     ".balign 1\n"
     ".Ltcp111:\n"
-    ".short 0x5743\n"
-    ".byte 0x52\n"
+    ".long 0x2c4b4341\n"
+    ".short 0x5352\n"
+    ".byte 0x54\n"
     ".section .rodata.tcp.112,\"a\",%progbits\n"
     ".balign 1\n"
     ".Ltcp112:\n"
-    ".short 0x4345\n"
-    ".byte 0x45\n"
+    ".short 0x5743\n"
+    ".byte 0x52\n"
     ".section .rodata.tcp.113,\"a\",%progbits\n"
     ".balign 1\n"
     ".Ltcp113:\n"
-    ".short 0x5255\n"
-    ".byte 0x47\n"
+    ".short 0x4345\n"
+    ".byte 0x45\n"
     ".section .rodata.tcp.114,\"a\",%progbits\n"
     ".balign 1\n"
     ".Ltcp114:\n"
-    ".short 0x5350\n"
-    ".byte 0x48\n"
+    ".short 0x5255\n"
+    ".byte 0x47\n"
     ".section .rodata.tcp.115,\"a\",%progbits\n"
     ".balign 1\n"
     ".Ltcp115:\n"
-    ".short 0x5352\n"
-    ".byte 0x54\n"
+    ".short 0x5350\n"
+    ".byte 0x48\n"
     ".section .rodata.tcp.116,\"a\",%progbits\n"
     ".balign 1\n"
     ".Ltcp116:\n"
-    ".short 0x4946\n"
-    ".byte 0x4e\n"
+    ".short 0x5352\n"
+    ".byte 0x54\n"
     ".section .rodata.tcp.117,\"a\",%progbits\n"
     ".balign 1\n"
     ".Ltcp117:\n"
-    ".byte 0x2c\n"
+    ".short 0x4946\n"
+    ".byte 0x4e\n"
     ".section .rodata.tcp.118,\"a\",%progbits\n"
     ".balign 1\n"
     ".Ltcp118:\n"
-    ".octa 0x332074696b70637420776f646e697720,0x74696177656d6974322074696b706374,0x4b43412d5453414c544e45532d4e5953\n"
-    ".octa 0x20646575657571202074616570657220,0x20646165726e752020746867696c6620\n"
+    ".byte 0x2c\n"
     ".section .rodata.tcp.119,\"a\",%progbits\n"
     ".balign 1\n"
     ".Ltcp119:\n"
-    ".quad 0x736e6f6974706f20\n"
-    ".byte 0x20\n"
+    ".octa 0x332074696b70637420776f646e697720,0x74696177656d6974322074696b706374,0x4b43412d5453414c544e45532d4e5953\n"
+    ".octa 0x20646575657571202074616570657220,0x20646165726e752020746867696c6620,0x223a22646e65222c207374656b636170\n"
+    ".octa 0x6b636f6c42646c4f3a22656d6974222c,0x3a2273646e65222c20747361656c202c\n"
     ".section .rodata.tcp.120,\"a\",%progbits\n"
     ".balign 1\n"
     ".Ltcp120:\n"
-    ".short 0x6f6e\n"
-    ".byte 0x70\n"
+    ".quad 0x736e6f6974706f20\n"
+    ".byte 0x20\n"
     ".section .rodata.tcp.121,\"a\",%progbits\n"
     ".balign 1\n"
     ".Ltcp121:\n"
-    ".short 0x7377\n"
-    ".byte 0x3a\n"
+    ".short 0x6f6e\n"
+    ".byte 0x70\n"
     ".section .rodata.tcp.122,\"a\",%progbits\n"
     ".balign 1\n"
     ".Ltcp122:\n"
-    ".long 0x6b636173\n"
-    ".short 0x6b6f\n"
+    ".short 0x7377\n"
+    ".byte 0x3a\n"
     ".section .rodata.tcp.123,\"a\",%progbits\n"
     ".balign 1\n"
     ".Ltcp123:\n"
     ".long 0x6b636173\n"
-    ".byte 0x3a\n"
+    ".short 0x6b6f\n"
     ".section .rodata.tcp.124,\"a\",%progbits\n"
     ".balign 1\n"
     ".Ltcp124:\n"
-    ".quad 0x656d726f666c616d\n"
-    ".short 0x2064\n"
+    ".long 0x6b636173\n"
+    ".byte 0x3a\n"
     ".section .rodata.tcp.125,\"a\",%progbits\n"
     ".balign 1\n"
     ".Ltcp125:\n"
-    ".long 0x4c6f6f54\n"
-    ".short 0x6e6f\n"
-    ".byte 0x67\n"
+    ".quad 0x656d726f666c616d\n"
+    ".short 0x2064\n"
     ".section .rodata.tcp.126,\"a\",%progbits\n"
     ".balign 1\n"
     ".Ltcp126:\n"
-    ".quad 0x6b63656843646142\n"
-    ".short 0x7573\n"
-    ".byte 0x6d\n"
+    ".long 0x4c6f6f54\n"
+    ".short 0x6e6f\n"
+    ".byte 0x67\n"
     ".section .rodata.tcp.127,\"a\",%progbits\n"
     ".balign 1\n"
     ".Ltcp127:\n"
-    ".quad 0x657366664f646142\n"
-    ".byte 0x74\n"
+    ".quad 0x6b63656843646142\n"
+    ".short 0x7573\n"
+    ".byte 0x6d\n"
     ".section .rodata.tcp.128,\"a\",%progbits\n"
     ".balign 1\n"
     ".Ltcp128:\n"
-    ".quad 0x6f6974704f646142\n"
-    ".long 0x7461206e\n"
-    ".byte 0x20\n"
+    ".quad 0x657366664f646142\n"
+    ".byte 0x74\n"
     ".section .rodata.tcp.129,\"a\",%progbits\n"
     ".balign 1\n"
     ".Ltcp129:\n"
-    ".quad 0x6964646150646142\n"
-    ".long 0x6120676e\n"
-    ".short 0x2074\n"
+    ".quad 0x6f6974704f646142\n"
+    ".long 0x7461206e\n"
+    ".byte 0x20\n"
     ".section .rodata.tcp.130,\"a\",%progbits\n"
     ".balign 1\n"
     ".Ltcp130:\n"
-    ".long 0x61746f74\n"
-    ".short 0x206c\n"
+    ".quad 0x6964646150646142\n"
+    ".long 0x6120676e\n"
+    ".short 0x2074\n"
     ".section .rodata.tcp.131,\"a\",%progbits\n"
     ".balign 1\n"
     ".Ltcp131:\n"
-    ".quad 0x6d726f666c616d20\n"
-    ".short 0x6465\n"
-    ".byte 0x20\n"
+    ".long 0x61746f74\n"
+    ".short 0x206c\n"
     ".section .rodata.tcp.132,\"a\",%progbits\n"
     ".balign 1\n"
     ".Ltcp132:\n"
-    ".long 0x666e6f63\n"
-    ".short 0x6769\n"
+    ".quad 0x6d726f666c616d20\n"
+    ".short 0x6465\n"
+    ".byte 0x20\n"
     ".section .rodata.tcp.133,\"a\",%progbits\n"
     ".balign 1\n"
     ".Ltcp133:\n"
-    ".long 0x65706572\n"
-    ".short 0x7461\n"
+    ".long 0x666e6f63\n"
+    ".short 0x6769\n"
     ".section .rodata.tcp.134,\"a\",%progbits\n"
     ".balign 1\n"
     ".Ltcp134:\n"
-    ".long 0x696d696c\n"
-    ".byte 0x74\n"
+    ".long 0x65706572\n"
+    ".short 0x7461\n"
     ".section .rodata.tcp.135,\"a\",%progbits\n"
     ".balign 1\n"
     ".Ltcp135:\n"
-    ".byte 0x41\n"
+    ".long 0x696d696c\n"
+    ".byte 0x74\n"
     ".section .rodata.tcp.136,\"a\",%progbits\n"
     ".balign 1\n"
     ".Ltcp136:\n"
-    ".byte 0x42\n"
+    ".byte 0x41\n"
     ".section .rodata.tcp.137,\"a\",%progbits\n"
     ".balign 1\n"
     ".Ltcp137:\n"
-    ".long 0x6e6e6f63\n"
-    ".short 0x6365\n"
-    ".byte 0x74\n"
+    ".byte 0x42\n"
     ".section .rodata.tcp.138,\"a\",%progbits\n"
     ".balign 1\n"
     ".Ltcp138:\n"
-    ".long 0x7473696c\n"
-    ".short 0x6e65\n"
+    ".long 0x6e6e6f63\n"
+    ".short 0x6365\n"
+    ".byte 0x74\n"
     ".section .rodata.tcp.139,\"a\",%progbits\n"
     ".balign 1\n"
     ".Ltcp139:\n"
-    ".long 0x65636572\n"
-    ".short 0x7669\n"
-    ".byte 0x65\n"
+    ".long 0x7473696c\n"
+    ".short 0x6e65\n"
     ".section .rodata.tcp.140,\"a\",%progbits\n"
     ".balign 1\n"
     ".Ltcp140:\n"
-    ".long 0x736f6c63\n"
+    ".long 0x65636572\n"
+    ".short 0x7669\n"
     ".byte 0x65\n"
     ".section .rodata.tcp.141,\"a\",%progbits\n"
     ".balign 1\n"
     ".Ltcp141:\n"
-    ".long 0x726f6261\n"
-    ".byte 0x74\n"
+    ".long 0x736f6c63\n"
+    ".byte 0x65\n"
     ".section .rodata.tcp.142,\"a\",%progbits\n"
     ".balign 1\n"
     ".Ltcp142:\n"
-    ".quad 0x656c776f6e6b6361\n"
-    ".short 0x6764\n"
-    ".byte 0x65\n"
+    ".long 0x726f6261\n"
+    ".byte 0x74\n"
     ".section .rodata.tcp.143,\"a\",%progbits\n"
     ".balign 1\n"
     ".Ltcp143:\n"
-    ".long 0x656d6974\n"
-    ".byte 0x72\n"
+    ".quad 0x656c776f6e6b6361\n"
+    ".short 0x6764\n"
+    ".byte 0x65\n"
     ".section .rodata.tcp.144,\"a\",%progbits\n"
     ".balign 1\n"
     ".Ltcp144:\n"
-    ".octa 0x656764656c776f6e6b63612d74696d65\n"
-    ".long 0x746e656d\n"
+    ".long 0x656d6974\n"
+    ".byte 0x72\n"
     ".section .rodata.tcp.145,\"a\",%progbits\n"
     ".balign 1\n"
     ".Ltcp145:\n"
-    ".quad 0x662d646e65736572\n"
-    ".long 0x74737269\n"
+    ".octa 0x656764656c776f6e6b63612d74696d65\n"
+    ".long 0x746e656d\n"
     ".section .rodata.tcp.146,\"a\",%progbits\n"
     ".balign 1\n"
     ".Ltcp146:\n"
-    ".long 0x696c6564\n"
-    ".short 0x6576\n"
-    ".byte 0x72\n"
+    ".quad 0x662d646e65736572\n"
+    ".long 0x74737269\n"
     ".section .rodata.tcp.147,\"a\",%progbits\n"
     ".balign 1\n"
     ".Ltcp147:\n"
-    ".long 0x616d6164\n"
-    ".short 0x6567\n"
+    ".long 0x696c6564\n"
+    ".short 0x6576\n"
+    ".byte 0x72\n"
     ".section .rodata.tcp.148,\"a\",%progbits\n"
     ".balign 1\n"
     ".Ltcp148:\n"
-    ".quad 0x6d736e6172746572\n"
-    ".short 0x7469\n"
+    ".long 0x616d6164\n"
+    ".short 0x6567\n"
     ".section .rodata.tcp.149,\"a\",%progbits\n"
     ".balign 1\n"
     ".Ltcp149:\n"
-    ".long 0x726f6572\n"
-    ".short 0x6564\n"
-    ".byte 0x72\n"
+    ".quad 0x6d736e6172746572\n"
+    ".short 0x7469\n"
     ".section .rodata.tcp.150,\"a\",%progbits\n"
     ".balign 1\n"
     ".Ltcp150:\n"
-    ".long 0x66696873\n"
-    ".byte 0x74\n"
+    ".long 0x726f6572\n"
+    ".short 0x6564\n"
+    ".byte 0x72\n"
     ".section .rodata.tcp.151,\"a\",%progbits\n"
     ".balign 1\n"
     ".Ltcp151:\n"
-    ".short 0x6b6f\n"
-    ".byte 0x20\n"
+    ".long 0x66696873\n"
+    ".byte 0x74\n"
     ".section .rodata.tcp.152,\"a\",%progbits\n"
     ".balign 1\n"
     ".Ltcp152:\n"
-    ".long 0x6b6f6f74\n"
+    ".short 0x6b6f\n"
     ".byte 0x20\n"
     ".section .rodata.tcp.153,\"a\",%progbits\n"
     ".balign 1\n"
     ".Ltcp153:\n"
-    ".long 0x65747962\n"
-    ".short 0x2073\n"
+    ".long 0x6b6f6f74\n"
+    ".byte 0x20\n"
     ".section .rodata.tcp.154,\"a\",%progbits\n"
     ".balign 1\n"
     ".Ltcp154:\n"
-    ".long 0x68746f6e\n"
-    ".short 0x6e69\n"
-    ".byte 0x67\n"
+    ".long 0x65747962\n"
+    ".short 0x2073\n"
     ".section .rodata.tcp.155,\"a\",%progbits\n"
     ".balign 1\n"
     ".Ltcp155:\n"
-    ".short 0x6e65\n"
-    ".byte 0x64\n"
+    ".long 0x68746f6e\n"
+    ".short 0x6e69\n"
+    ".byte 0x67\n"
     ".section .rodata.tcp.156,\"a\",%progbits\n"
     ".balign 1\n"
     ".Ltcp156:\n"
-    ".short 0x6579\n"
-    ".byte 0x73\n"
+    ".short 0x6e65\n"
+    ".byte 0x64\n"
     ".section .rodata.tcp.157,\"a\",%progbits\n"
     ".balign 1\n"
     ".Ltcp157:\n"
-    ".short 0x6f6e\n"
+    ".short 0x6579\n"
+    ".byte 0x73\n"
     ".section .rodata.tcp.158,\"a\",%progbits\n"
     ".balign 1\n"
     ".Ltcp158:\n"
-    ".long 0x67616c66\n"
-    ".short 0x2073\n"
+    ".short 0x6f6e\n"
     ".section .rodata.tcp.159,\"a\",%progbits\n"
     ".balign 1\n"
     ".Ltcp159:\n"
-    ".long 0x706f7264\n"
-    ".short 0x6570\n"
-    ".byte 0x64\n"
+    ".long 0x67616c66\n"
+    ".short 0x2073\n"
     ".section .rodata.tcp.160,\"a\",%progbits\n"
     ".balign 1\n"
     ".Ltcp160:\n"
-    ".quad 0x65737365636f7270\n"
+    ".long 0x706f7264\n"
+    ".short 0x6570\n"
     ".byte 0x64\n"
     ".section .rodata.tcp.161,\"a\",%progbits\n"
     ".balign 1\n"
     ".Ltcp161:\n"
-    ".long 0x534f4c43\n"
-    ".short 0x4445\n"
+    ".quad 0x65737365636f7270\n"
+    ".byte 0x64\n"
     ".section .rodata.tcp.162,\"a\",%progbits\n"
     ".balign 1\n"
     ".Ltcp162:\n"
-    ".long 0x5453494c\n"
-    ".short 0x4e45\n"
+    ".long 0x534f4c43\n"
+    ".short 0x4445\n"
     ".section .rodata.tcp.163,\"a\",%progbits\n"
     ".balign 1\n"
     ".Ltcp163:\n"
-    ".quad 0x454345522d4e5953\n"
-    ".long 0x44455649\n"
+    ".long 0x5453494c\n"
+    ".short 0x4e45\n"
     ".section .rodata.tcp.164,\"a\",%progbits\n"
     ".balign 1\n"
     ".Ltcp164:\n"
-    ".quad 0x53494c4241545345\n"
-    ".short 0x4548\n"
-    ".byte 0x44\n"
+    ".quad 0x454345522d4e5953\n"
+    ".long 0x44455649\n"
     ".section .rodata.tcp.165,\"a\",%progbits\n"
     ".balign 1\n"
     ".Ltcp165:\n"
-    ".quad 0x544941572d4e4946\n"
-    ".short 0x312d\n"
+    ".quad 0x53494c4241545345\n"
+    ".short 0x4548\n"
+    ".byte 0x44\n"
     ".section .rodata.tcp.166,\"a\",%progbits\n"
     ".balign 1\n"
     ".Ltcp166:\n"
     ".quad 0x544941572d4e4946\n"
-    ".short 0x322d\n"
+    ".short 0x312d\n"
     ".section .rodata.tcp.167,\"a\",%progbits\n"
     ".balign 1\n"
     ".Ltcp167:\n"
-    ".quad 0x41572d45534f4c43\n"
-    ".short 0x5449\n"
+    ".quad 0x544941572d4e4946\n"
+    ".short 0x322d\n"
     ".section .rodata.tcp.168,\"a\",%progbits\n"
     ".balign 1\n"
     ".Ltcp168:\n"
-    ".long 0x534f4c43\n"
-    ".short 0x4e49\n"
-    ".byte 0x47\n"
+    ".quad 0x41572d45534f4c43\n"
+    ".short 0x5449\n"
     ".section .rodata.tcp.169,\"a\",%progbits\n"
     ".balign 1\n"
     ".Ltcp169:\n"
-    ".quad 0x4941572d454d4954\n"
-    ".byte 0x54\n"
+    ".long 0x534f4c43\n"
+    ".short 0x4e49\n"
+    ".byte 0x47\n"
     ".section .rodata.tcp.170,\"a\",%progbits\n"
     ".balign 1\n"
     ".Ltcp170:\n"
-    ".quad 0x6465737566657220\n"
-    ".byte 0x20\n"
+    ".quad 0x4941572d454d4954\n"
+    ".byte 0x54\n"
     ".section .rodata.tcp.171,\"a\",%progbits\n"
     ".balign 1\n"
     ".Ltcp171:\n"
-    ".long 0x656e6f64\n"
+    ".quad 0x6465737566657220\n"
     ".byte 0x20\n"
     ".section .rodata.tcp.172,\"a\",%progbits\n"
     ".balign 1\n"
     ".Ltcp172:\n"
-    ".quad 0x203a74696b706374\n"
-    ".long 0x666e6f63\n"
-    ".short 0x6769\n"
+    ".long 0x656e6f64\n"
     ".byte 0x20\n"
     ".section .rodata.tcp.173,\"a\",%progbits\n"
     ".balign 1\n"
     ".Ltcp173:\n"
-    ".quad 0x65646e652d746f6e\n"
-    ".byte 0x64\n"
+    ".quad 0x203a74696b706374\n"
+    ".long 0x666e6f63\n"
+    ".short 0x6769\n"
+    ".byte 0x20\n"
     ".section .rodata.tcp.174,\"a\",%progbits\n"
     ".balign 1\n"
     ".Ltcp174:\n"
-    ".long 0x6564726f\n"
-    ".short 0x6c72\n"
-    ".byte 0x79\n"
+    ".quad 0x65646e652d746f6e\n"
+    ".byte 0x64\n"
     ".section .rodata.tcp.175,\"a\",%progbits\n"
     ".balign 1\n"
     ".Ltcp175:\n"
-    ".long 0x65736572\n"
-    ".byte 0x74\n"
+    ".long 0x6564726f\n"
+    ".short 0x6c72\n"
+    ".byte 0x79\n"
     ".section .rodata.tcp.176,\"a\",%progbits\n"
     ".balign 1\n"
     ".Ltcp176:\n"
-    ".long 0x726f6261\n"
-    ".short 0x6574\n"
-    ".byte 0x64\n"
+    ".long 0x65736572\n"
+    ".byte 0x74\n"
     ".section .rodata.tcp.177,\"a\",%progbits\n"
     ".balign 1\n"
     ".Ltcp177:\n"
-    ".quad 0x6574706563636120\n"
-    ".short 0x2064\n"
+    ".long 0x726f6261\n"
+    ".short 0x6574\n"
+    ".byte 0x64\n"
     ".section .rodata.tcp.178,\"a\",%progbits\n"
     ".balign 1\n"
     ".Ltcp178:\n"
-    ".quad 0x726576696c656420\n"
-    ".short 0x6465\n"
-    ".byte 0x20\n"
+    ".quad 0x6574706563636120\n"
+    ".short 0x2064\n"
     ".section .rodata.tcp.179,\"a\",%progbits\n"
     ".balign 1\n"
     ".Ltcp179:\n"
-    ".quad 0x657361656c657220\n"
-    ".short 0x2064\n"
+    ".quad 0x726576696c656420\n"
+    ".short 0x6465\n"
+    ".byte 0x20\n"
     ".section .rodata.tcp.180,\"a\",%progbits\n"
     ".balign 1\n"
     ".Ltcp180:\n"
-    ".quad 0x6465726564726f20\n"
-    ".byte 0x20\n"
+    ".quad 0x657361656c657220\n"
+    ".short 0x2064\n"
     ".section .rodata.tcp.181,\"a\",%progbits\n"
     ".balign 1\n"
     ".Ltcp181:\n"
-    ".long 0x6e657320\n"
-    ".short 0x2074\n"
+    ".quad 0x6465726564726f20\n"
+    ".byte 0x20\n"
     ".section .rodata.tcp.182,\"a\",%progbits\n"
     ".balign 1\n"
     ".Ltcp182:\n"
+    ".long 0x6e657320\n"
+    ".short 0x2074\n"
+    ".section .rodata.tcp.183,\"a\",%progbits\n"
+    ".balign 1\n"
+    ".Ltcp183:\n"
     ".long 0x646e6520\n"
     ".short 0x6465\n"
     ".byte 0x20\n"
-    ".section .rodata.tcp.183,\"a\",%progbits\n"
-    ".balign 8\n"
-    ".Ltcp183:\n"
-    ".octa 0x7000000000000000a\n"
-    ".quad 0x8\n"
-    ".section .data.rel.ro.tcp.184,\"aw\",%progbits\n"
+    ".section .rodata.tcp.184,\"a\",%progbits\n"
     ".balign 8\n"
     ".Ltcp184:\n"
-    ".octa 0x0\n"
-    ".quad 0x0\n"
-    ".reloc .Ltcp184+0,R_X86_64_64,.Ltcp148+0\n"
-    ".reloc .Ltcp184+8,R_X86_64_64,.Ltcp149+0\n"
-    ".reloc .Ltcp184+16,R_X86_64_64,.Ltcp118+24\n"
-    ".section .rodata.tcp.185,\"a\",%progbits\n"
+    ".octa 0x7000000000000000a\n"
+    ".quad 0x8\n"
+    ".section .data.rel.ro.tcp.185,\"aw\",%progbits\n"
     ".balign 8\n"
     ".Ltcp185:\n"
+    ".octa 0x0\n"
+    ".quad 0x0\n"
+    ".reloc .Ltcp185+0,R_X86_64_64,.Ltcp149+0\n"
+    ".reloc .Ltcp185+8,R_X86_64_64,.Ltcp150+0\n"
+    ".reloc .Ltcp185+16,R_X86_64_64,.Ltcp119+24\n"
+    ".section .rodata.tcp.186,\"a\",%progbits\n"
+    ".balign 8\n"
+    ".Ltcp186:\n"
     ".octa 0x60000000000000006,0xc0000000000000008,0xa000000000000000b\n"
     ".octa 0xa000000000000000a,0x80000000000000007\n"
     ".quad 0x9\n"
-    ".section .data.rel.ro.tcp.186,\"aw\",%progbits\n"
-    ".balign 8\n"
-    ".Ltcp186:\n"
-    ".octa 0x0,0x0,0x0\n"
-    ".octa 0x0,0x0\n"
-    ".quad 0x0\n"
-    ".reloc .Ltcp186+0,R_X86_64_64,.Ltcp161+0\n"
-    ".reloc .Ltcp186+8,R_X86_64_64,.Ltcp162+0\n"
-    ".reloc .Ltcp186+16,R_X86_64_64,.Ltcp118+32\n"
-    ".reloc .Ltcp186+24,R_X86_64_64,.Ltcp163+0\n"
-    ".reloc .Ltcp186+32,R_X86_64_64,.Ltcp164+0\n"
-    ".reloc .Ltcp186+40,R_X86_64_64,.Ltcp165+0\n"
-    ".reloc .Ltcp186+48,R_X86_64_64,.Ltcp166+0\n"
-    ".reloc .Ltcp186+56,R_X86_64_64,.Ltcp167+0\n"
-    ".reloc .Ltcp186+64,R_X86_64_64,.Ltcp168+0\n"
-    ".reloc .Ltcp186+72,R_X86_64_64,.Ltcp118+40\n"
-    ".reloc .Ltcp186+80,R_X86_64_64,.Ltcp169+0\n"
     ".section .data.rel.ro.tcp.187,\"aw\",%progbits\n"
     ".balign 8\n"
     ".Ltcp187:\n"
+    ".octa 0x0,0x0,0x0\n"
     ".octa 0x0,0x0\n"
-    ".reloc .Ltcp187+0,R_X86_64_64,.Ltcp173+0\n"
-    ".reloc .Ltcp187+8,R_X86_64_64,.Ltcp174+0\n"
-    ".reloc .Ltcp187+16,R_X86_64_64,.Ltcp175+0\n"
-    ".reloc .Ltcp187+24,R_X86_64_64,.Ltcp176+0\n"
+    ".quad 0x0\n"
+    ".reloc .Ltcp187+0,R_X86_64_64,.Ltcp162+0\n"
+    ".reloc .Ltcp187+8,R_X86_64_64,.Ltcp163+0\n"
+    ".reloc .Ltcp187+16,R_X86_64_64,.Ltcp119+32\n"
+    ".reloc .Ltcp187+24,R_X86_64_64,.Ltcp164+0\n"
+    ".reloc .Ltcp187+32,R_X86_64_64,.Ltcp165+0\n"
+    ".reloc .Ltcp187+40,R_X86_64_64,.Ltcp166+0\n"
+    ".reloc .Ltcp187+48,R_X86_64_64,.Ltcp167+0\n"
+    ".reloc .Ltcp187+56,R_X86_64_64,.Ltcp168+0\n"
+    ".reloc .Ltcp187+64,R_X86_64_64,.Ltcp169+0\n"
+    ".reloc .Ltcp187+72,R_X86_64_64,.Ltcp119+40\n"
+    ".reloc .Ltcp187+80,R_X86_64_64,.Ltcp170+0\n"
+    ".section .data.rel.ro.tcp.188,\"aw\",%progbits\n"
+    ".balign 8\n"
+    ".Ltcp188:\n"
+    ".octa 0x0,0x0\n"
+    ".reloc .Ltcp188+0,R_X86_64_64,.Ltcp174+0\n"
+    ".reloc .Ltcp188+8,R_X86_64_64,.Ltcp175+0\n"
+    ".reloc .Ltcp188+16,R_X86_64_64,.Ltcp176+0\n"
+    ".reloc .Ltcp188+24,R_X86_64_64,.Ltcp177+0\n"
     ".popsection\n"
 );
 #elif defined(MACHINE_AARCH64)
@@ -9602,8 +9665,23 @@ __asm__(
     ".octa 0xffffffe800000000fffffff800000000,0x20000000000000000,0x30000000000000000\n"
     ".octa 0xffffffe8fffffff0fffffff800000000,0x3,0x1\n"
     ".octa 0x10000000000000000,0x676465202d2074786e202d20616e7520,0x20656e696c203134203a74696b706374\n"
-    ".octa 0x29312e33202c33393239204346522820,0x29342e33202c33393239204346522820,0x66656463626139383736353433323130\n"
-    ".octa 0x20656e696c203134203a74696b706374\n"
+    ".octa 0x435420666f20746e656d676573206f6e,0x4920726f2034765049207265766f2050,0xffffffffffffffe8fffffffffffffff0\n"
+    ".octa 0xfffffffffffffff80000000000000000,0xffffffffffffffc8ffffffffffffffd0,0xffffffffffffffd8ffffffffffffffe0\n"
+    ".octa 0x207461687720746e65732073646e6520,0x616877202c73646962726f6620504354,0x726f7774656e20656874207265766574\n"
+    ".octa 0x7461687720746e657320646e65206f4e,0x20746168742073656c75722065687420,0x6962726f662064656972742065726577\n"
+    ".octa 0x6764756a2073617720676e6968746f4e,0x65727574706163223a22646e696b227b,0xffffffffffffffffff00000000000000\n"
+    ".octa 0xfffffffafffffff4ffffffee,0xffffffffffffffff0000000000000006,0x65626d756e2065766974616c65725b20\n"
+    ".octa 0x202c676e6968746f6e20746e6573203a,0xf0e0d0c0b0a09080706050401000203,0x6d75736b636568635f676e6f7277222c\n"
+    ".octa 0xffffffffffffffff0000000000000006,0x6f6e206863696877202c736b636f6c62,0x7020656d61632074616874204e595320\n"
+    ".octa 0x303220434652282064657474696d7265,0x69772073726577736e61204e59532061,0x6c61637320776f646e69772061206874\n"
+    ".octa 0x666f204e5953206f6e20746168742065,0x2c333233372043465228206465726566,0x74207075204e494620726f2074786574\n"
+    ".octa 0x7461204e49462065687420646e61202c,0x29342e33202c33393239204346522820,0x333932392043465228204b4341206f6e\n"
+    ".octa 0x34312065766f62612074666968732061,0x29332e32202c33323337204346522820,0x4e595320666f206e6f6974706f206e61\n"
+    ".octa 0x67657320726568746f6e61206e692073,0x202c33393239204346522820746e656d,0x6220746120676e696464617020656874\n"
+    ".octa 0x736e69676562206e6f6974706f206f6e,0x2074657366666f206174616420656874,0x207369206d75736b6365686320656874\n"
+    ".octa 0x74612073616820746e656d6765732061,0x657479622035313535362074736f6d20,0x29312e33202c33393239204346522820\n"
+    ".octa 0x70206e6920747372696620656874202c,0xfff80000fff80000fff80000fff8,0x29312e33202c33393239204346522820\n"
+    ".octa 0x29342e33202c33393239204346522820,0x66656463626139383736353433323130,0x20656e696c203134203a74696b706374\n"
     ".section .text.tcp.1,\"ax\",%progbits\n"
     ".balign 4\n"
     ".Ltcp1:\n"
@@ -9657,28 +9735,37 @@ __asm__(
     ".section .text.tcp.4,\"ax\",%progbits\n"
     ".balign 4\n"
     ".Ltcp4:\n"
-    ".type \"core::cmp::slices::groups_equal::<i8,31'core::cmp::numbers::U8PartialEq{}>\",%function\n"
-    ".size \"core::cmp::slices::groups_equal::<i8,31'core::cmp::numbers::U8PartialEq{}>\",544\n"
-    "\"core::cmp::slices::groups_equal::<i8,31'core::cmp::numbers::U8PartialEq{}>\":\n"
-    ".inst 0xf1002029,0x540001c8,0xd1001028,0xbd400000,0xbd400041,0x8b080009,0x8b080048,0xd409120,0xd409101,0x9e660008\n"
-    ".inst 0x9e660029,0xeb09011f,0x1a9f07e8,0x52000100,0xd65f03c0,0xf1008028,0x540002c8,0xf100213f,0x52800108,0x5280020a\n"
-    ".inst 0x9a883128,0xf100413f,0xfd400000,0xfd400041,0xfc686802,0xfc686843,0x9a8a3128,0xfc696845,0xfc686804,0x6e180440\n"
-    ".inst 0x6e180461,0xfc686842,0xfc696803,0x6e180464,0x6e1804a2,0x6e218c00,0x6e228c81,0x1400005c,0xf101043f,0x540002a2\n"
-    ".inst 0xad400001,0x8b080049,0xad400843,0x8b080008,0xad401524,0x6e238c21,0x6e228c00,0xad400d02,0x6e205821,0x6e205800\n"
-    ".inst 0x6e248c42,0x6e258c63,0x4ee31c00,0x4ee21c21,0x4ea01c20,0x6e30a800,0x1e260008,0x12000108,0x52000100,0xd65f03c0\n"
-    ".inst 0x927ae429,0x9100800a,0x9100804c,0x5280040b,0xaa0103ed,0xad7f0d80,0xad7f0941,0xacc21584,0x6e208c20,0x6e238c41\n"
-    ".inst 0xacc20d42,0x6e205800,0x6e205821,0x6e248c42,0x6e258c63,0x4ee21c00,0x4ee31c21,0x4ea01c20,0x6e30a800,0x1e26000e\n"
-    ".inst 0x3700012e,0xd10101ad,0x9101016b,0xf10101bf,0x54fffda2,0xcb09002a,0xf100815f,0x540000c2,0x14000023,0xd1008169\n"
-    ".inst 0xcb09002a,0xf100815f,0x540003e3,0x8b09000b,0x8b090049,0xacc10560,0xacc10d22,0x9000000c,0x6e238c21,0x6e228c00\n"
-    ".inst 0x3dc00182,0x4e611c41,0x4e601c40,0x6e014022,0x6e004003,0x4e023821,0x4e033800,0x4e71b821,0x4e71b800,0x1e26002c\n"
-    ".inst 0x1e26000d,0x2a0c01ac,0x72003d9f,0x540000a1,0xd100814a,0xf100815f,0x54fffd62,0x14000006,0xf1007d5f,0x54000089\n"
-    ".inst 0x52800028,0x52000100,0xd65f03c0,0x8b080009,0x8b080048,0xad400d00,0xad400921,0x6e208c20,0x6e238c41,0x6e205800\n"
-    ".inst 0x4ee11c00,0x6e30a800,0x1e260008,0x12000108,0x52000100,0xd65f03c0\n"
-    ".reloc .Ltcp4+388,R_AARCH64_ADR_PREL_PG_HI21,.Ltcp0+112\n"
-    ".reloc .Ltcp4+400,R_AARCH64_LDST128_ABS_LO12_NC,.Ltcp0+112\n"
+    ".type \"core::slice::scan::any_in_quarters::<#953750c03e87c3e2>\",%function\n"
+    ".size \"core::slice::scan::any_in_quarters::<#953750c03e87c3e2>\",108\n"
+    "\"core::slice::scan::any_in_quarters::<#953750c03e87c3e2>\":\n"
+    ".inst 0xd1002048,0x52800109,0xfd400000,0xf100211f,0xfd400021,0x5280020a,0x9a893109,0xf100411f,0xfc686825,0xfc696802\n"
+    ".inst 0xfc696823,0x9a8a3109,0xfc696804,0x6e180440,0x6e180461,0xfc696822,0xfc686803,0x6e1804a2,0x6e180464,0x6e218c00\n"
+    ".inst 0x6e228c81,0x6e205800,0x4ee11c00,0x6e30a800,0x1e260008,0x12000100,0xd65f03c0\n"
     ".section .text.tcp.5,\"ax\",%progbits\n"
     ".balign 4\n"
     ".Ltcp5:\n"
+    ".type \"core::cmp::slices::groups_equal::<i8,31'core::cmp::numbers::U8PartialEq{}>\",%function\n"
+    ".size \"core::cmp::slices::groups_equal::<i8,31'core::cmp::numbers::U8PartialEq{}>\",512\n"
+    "\"core::cmp::slices::groups_equal::<i8,31'core::cmp::numbers::U8PartialEq{}>\":\n"
+    ".inst 0xa9bf7bfd,0xf100203f,0x910003fd,0x540001e8,0xd1001028,0xbd400000,0xbd400041,0x8b080009,0x8b080048,0xd409120\n"
+    ".inst 0xd409101,0x9e660008,0x9e660029,0xeb09011f,0x1a9f07e0,0x52000000,0xa8c17bfd,0xd65f03c0,0xf1008028,0x54000108\n"
+    ".inst 0xaa0103e8,0xaa0203e1,0xaa0803e2,0x94000000,0x52000000,0xa8c17bfd,0xd65f03c0,0xf101043f,0x540002c2,0xad400001\n"
+    ".inst 0x8b080049,0xad400843,0x8b080008,0xad401524,0x6e238c21,0x6e228c00,0xad400d02,0x6e205821,0x6e205800,0x6e248c42\n"
+    ".inst 0x6e258c63,0x4ee31c00,0x4ee21c21,0x4ea01c20,0x6e30a800,0x1e260008,0x12000100,0x52000000,0xa8c17bfd,0xd65f03c0\n"
+    ".inst 0x927ae429,0x9100800a,0x9100804c,0x5280040b,0xaa0103ed,0xad7f0d80,0xad7f0941,0xacc21584,0x6e208c20,0x6e238c41\n"
+    ".inst 0xacc20d42,0x6e205800,0x6e205821,0x6e248c42,0x6e258c63,0x4ee21c00,0x4ee31c21,0x4ea01c20,0x6e30a800,0x1e26000e\n"
+    ".inst 0x3700012e,0xd10101ad,0x9101016b,0xf10101bf,0x54fffda2,0xcb09002a,0xf100815f,0x540000c2,0x14000024,0xd1008169\n"
+    ".inst 0xcb09002a,0xf100815f,0x54000403,0x8b09000b,0x8b090049,0xacc10560,0xacc10d22,0x9000000c,0x6e238c21,0x6e228c00\n"
+    ".inst 0x3dc00182,0x4e611c41,0x4e601c40,0x6e014022,0x6e004003,0x4e023821,0x4e033800,0x4e71b821,0x4e71b800,0x1e26002c\n"
+    ".inst 0x1e26000d,0x2a0c01ac,0x72003d9f,0x540000a1,0xd100814a,0xf100815f,0x54fffd62,0x14000007,0xf1007d5f,0x540000a9\n"
+    ".inst 0x52800020,0x52000000,0xa8c17bfd,0xd65f03c0,0x8b080009,0x8b080048,0xad400d00,0xad400921,0x6e208c20,0x6e238c41\n"
+    ".inst 0x6e205800,0x4ee11c00,0x6e30a800,0x1e260008,0x12000100,0x52000000,0xa8c17bfd,0xd65f03c0\n"
+    ".reloc .Ltcp5+92,R_AARCH64_CALL26,.Ltcp4+0\n"
+    ".reloc .Ltcp5+348,R_AARCH64_ADR_PREL_PG_HI21,.Ltcp0+112\n"
+    ".reloc .Ltcp5+360,R_AARCH64_LDST128_ABS_LO12_NC,.Ltcp0+112\n"
+    ".section .text.tcp.6,\"ax\",%progbits\n"
+    ".balign 4\n"
+    ".Ltcp6:\n"
     ".type \"kit_text::addresses::read_addr\",%function\n"
     ".size \"kit_text::addresses::read_addr\",716\n"
     "\"kit_text::addresses::read_addr\":\n"
@@ -9700,16 +9787,16 @@ __asm__(
     ".inst 0x39000369,0x2a016108,0x33181e88,0x2a1a0108,0xb8001368,0x17ffffa9,0xaa1903e8,0xaa0303e9,0x3840150a,0x7100b95f\n"
     ".inst 0x54fff440,0xf1000529,0x54ffff81,0xf100471f,0x54fff8e3,0xaa0003fa,0x528005c0,0xaa0103fb,0xaa1903e1,0xaa1803e2\n"
     ".inst 0x94000000,0xaa1b03e1,0x2a0003e8,0xaa1a03e0,0x3707f288,0x17ffffbc,0x3900037f,0xb800137f,0x17ffff92\n"
-    ".reloc .Ltcp5+96,R_AARCH64_CALL26,.Ltcp2+0\n"
-    ".reloc .Ltcp5+212,R_AARCH64_CALL26,.Ltcp2+0\n"
-    ".reloc .Ltcp5+372,R_AARCH64_CALL26,.Ltcp2+0\n"
-    ".reloc .Ltcp5+544,R_AARCH64_CALL26,.Ltcp6+0\n"
-    ".reloc .Ltcp5+564,R_AARCH64_CALL26,.Ltcp6+0\n"
-    ".reloc .Ltcp5+584,R_AARCH64_CALL26,.Ltcp6+0\n"
-    ".reloc .Ltcp5+680,R_AARCH64_CALL26,.Ltcp2+0\n"
-    ".section .text.tcp.6,\"ax\",%progbits\n"
+    ".reloc .Ltcp6+96,R_AARCH64_CALL26,.Ltcp2+0\n"
+    ".reloc .Ltcp6+212,R_AARCH64_CALL26,.Ltcp2+0\n"
+    ".reloc .Ltcp6+372,R_AARCH64_CALL26,.Ltcp2+0\n"
+    ".reloc .Ltcp6+544,R_AARCH64_CALL26,.Ltcp7+0\n"
+    ".reloc .Ltcp6+564,R_AARCH64_CALL26,.Ltcp7+0\n"
+    ".reloc .Ltcp6+584,R_AARCH64_CALL26,.Ltcp7+0\n"
+    ".reloc .Ltcp6+680,R_AARCH64_CALL26,.Ltcp2+0\n"
+    ".section .text.tcp.7,\"ax\",%progbits\n"
     ".balign 4\n"
-    ".Ltcp6:\n"
+    ".Ltcp7:\n"
     ".type \"kit_text::addresses::read_octet\",%function\n"
     ".size \"kit_text::addresses::read_octet\",172\n"
     "\"kit_text::addresses::read_octet\":\n"
@@ -9718,9 +9805,9 @@ __asm__(
     ".inst 0x7100253f,0x2a0803e9,0x54fffe48,0x8b0a0948,0x92401d69,0xd37ff908,0xab08013f,0x54fffd62,0xf1000421,0x8b09010a\n"
     ".inst 0x54fffdc1,0xf104015f,0x52802008,0x9a883149,0x1a9f27e8,0x1a9f3129,0x2a0803e0,0x2a0903e1,0xd65f03c0,0x2a0803e9\n"
     ".inst 0x2a0803e0,0x2a0903e1,0xd65f03c0\n"
-    ".section .text.tcp.7,\"ax\",%progbits\n"
+    ".section .text.tcp.8,\"ax\",%progbits\n"
     ".balign 4\n"
-    ".Ltcp7:\n"
+    ".Ltcp8:\n"
     ".type \"kit_text::bytes::read_bytes::<#244039bd4e0652a3>\",%function\n"
     ".size \"kit_text::bytes::read_bytes::<#244039bd4e0652a3>\",724\n"
     "\"kit_text::bytes::read_bytes::<#244039bd4e0652a3>\":\n"
@@ -9744,11 +9831,11 @@ __asm__(
     ".inst 0xaa1403e9,0x54000201,0x7900001f,0xa900a413,0xf9000c14,0x17ffff6b,0x6f00e400,0x52800028,0x79000008,0x3c808000\n"
     ".inst 0x3c818000,0xa9444ff4,0xf9400bf9,0xa94357f6,0xa9425ff8,0xa8c57bfd,0xd65f03c0,0x8b0a026a,0x8b0b0042,0xaa1403e9\n"
     ".inst 0x17ffff82\n"
-    ".reloc .Ltcp7+448,R_AARCH64_ADR_PREL_PG_HI21,.Ltcp0+128\n"
-    ".reloc .Ltcp7+520,R_AARCH64_LDST128_ABS_LO12_NC,.Ltcp0+128\n"
-    ".section .text.tcp.8,\"ax\",%progbits\n"
+    ".reloc .Ltcp8+448,R_AARCH64_ADR_PREL_PG_HI21,.Ltcp0+128\n"
+    ".reloc .Ltcp8+520,R_AARCH64_LDST128_ABS_LO12_NC,.Ltcp0+128\n"
+    ".section .text.tcp.9,\"ax\",%progbits\n"
     ".balign 4\n"
-    ".Ltcp8:\n"
+    ".Ltcp9:\n"
     ".type \"tcp_numbers::sums::long_sum\",%function\n"
     ".size \"tcp_numbers::sums::long_sum\",408\n"
     "\"tcp_numbers::sums::long_sum\":\n"
@@ -9763,30 +9850,31 @@ __asm__(
     ".inst 0xaa0a03e1,0xdac00d29,0x12003d2b,0xd360fd2c,0x8b49c16b,0xb494169,0xb2c2129,0xf100114b,0x54fffce2,0x2a1f03ea\n"
     ".inst 0x1e26000b,0xf100082d,0x54fffd62,0xb0b0129,0xb1f014a,0xf100043f,0xb0a0129,0x54000061,0x3940000a,0xb0a2129\n"
     ".inst 0xb080120,0xd65f03c0\n"
-    ".section .text.tcp.9,\"ax\",%progbits\n"
+    ".section .text.tcp.10,\"ax\",%progbits\n"
     ".balign 4\n"
-    ".Ltcp9:\n"
-    ".type \"tcp_wire::options_left::OptionsLeft::next\",%function\n"
-    ".size \"tcp_wire::options_left::OptionsLeft::next\",592\n"
-    "\"tcp_wire::options_left::OptionsLeft::next\":\n"
-    ".inst 0xa9b77fff,0xf9400428,0xf9000bff,0xb4000428,0xf940002a,0x3940014c,0x340002ac,0x7100059f,0x54000341,0x2a1f03ef\n"
-    ".inst 0x2a1f03ec,0x2a1f03ee,0xaa1f03e9,0xaa1f03ed,0xa9027fff,0xf9001bff,0x5280002b,0x8b0b014a,0xcb0b0108,0x3dc00be0\n"
-    ".inst 0xa900202a,0xf9401bea,0x52800030,0x2a0c03f1,0x3d8003e0,0xf9000bea,0x14000010,0xaa1f03e9,0x2a1f03ee,0xaa0c03f0\n"
-    ".inst 0xaa0c03ed,0x2a0c03ef,0x2a0c03f1,0x14000009,0xf100051f,0x54000241,0xaa1f03f0,0xaa1f03e9,0xaa1f03ed,0x2a1f03ee\n"
-    ".inst 0x2a1f03ef,0x2a1f03f1,0x3dc003e0,0xf9400be8,0xf9000010,0x3900200f,0x39002411,0x7900140e,0xa9013409,0x3d800800\n"
-    ".inst 0xf9001808,0x910243ff,0xd65f03c0,0x3940054b,0x2a1f03ee,0xaa1f03f0,0x7100097f,0x54000323,0xeb0b011f,0xaa1003e9\n"
-    ".inst 0xaa1003ed,0x2a0e03ef,0x2a0e03f1,0x54fffd63,0x71000d9f,0x91000949,0xd100096d,0xa9047fff,0xf9002bff,0x5400024c\n"
-    ".inst 0x7100099f,0x54000560,0x71000d9f,0x54000661,0x71000d7f,0x54000621,0x3940012c,0xaa1f03ed,0x2a1f03ee,0x5280004f\n"
-    ".inst 0xaa1f03e9,0x1400003e,0xaa1003e9,0xaa1003ed,0x2a0e03ef,0x2a0e03f1,0x17ffffd4,0x7100119f,0x54000460,0x7100159f\n"
-    ".inst 0x54000441,0xd100296e,0x93ce0dcf,0xf10011ff,0x540003c2,0x6f00e400,0x7100297f,0xf90043ff,0xad0303e0,0x54000463\n"
-    ".inst 0xd343fdcd,0xaa1f03ec,0x910005ad,0x28c1392f,0xaa0f81ce,0x910183ef,0xdac00dce,0xf82c79ee,0x9100058c,0xeb0c01bf\n"
-    ".inst 0xf90043ec,0x54ffff01,0xa94637e9,0x14000017,0x7100117f,0x54000121,0x7940054e,0xaa1f03ed,0xaa1f03e9,0x2a1f03ec\n"
-    ".inst 0x5280002f,0x5ac005ce,0x14000015,0xb40000cd,0x2a1f03ee,0xa9027fff,0x528000af,0xf9001bff,0x17ffff91,0xaa1f03e9\n"
-    ".inst 0x2a1f03ec,0x2a1f03ee,0x5280006f,0x1400000a,0xaa1f03ed,0xaa1f03e9,0xf94043ef,0x3dc01fe0,0x2a1f03ec,0x2a1f03ee\n"
-    ".inst 0xf9002bef,0x5280008f,0x3d8013e0,0x3dc013e0,0xf9402bf0,0x3d800be0,0xf9001bf0,0x17ffff7e\n"
-    ".section .rodata.tcp.10,\"a\",%progbits\n"
-    ".balign 8\n"
     ".Ltcp10:\n"
+    ".type \"tcp_wire::options_left::OptionsLeft::next\",%function\n"
+    ".size \"tcp_wire::options_left::OptionsLeft::next\",608\n"
+    "\"tcp_wire::options_left::OptionsLeft::next\":\n"
+    ".inst 0xa9b77fff,0xf9400428,0xf9000bff,0xb4000428,0xf940002b,0x3940016d,0x340002ad,0x710005bf,0x54000341,0x2a1f03ef\n"
+    ".inst 0x2a1f03ed,0x2a1f03ee,0xaa1f03e9,0xaa1f03ea,0xa9027fff,0xf9001bff,0x5280002c,0x8b0c016b,0xcb0c0108,0x3dc00be0\n"
+    ".inst 0xa900202b,0xf9401beb,0x52800030,0x2a0d03f1,0x3d8003e0,0xf9000beb,0x14000010,0xaa1f03e9,0x2a1f03ee,0xaa0d03f0\n"
+    ".inst 0xaa0d03ea,0x2a0d03ef,0x2a0d03f1,0x14000009,0xf100051f,0x54000241,0xaa1f03f0,0xaa1f03e9,0xaa1f03ea,0x2a1f03ee\n"
+    ".inst 0x2a1f03ef,0x2a1f03f1,0x3dc003e0,0xf9400be8,0xf9000010,0x3900200f,0x39002411,0x7900140e,0xa9012809,0x3d800800\n"
+    ".inst 0xf9001808,0x910243ff,0xd65f03c0,0x3940056c,0x2a1f03ee,0xaa1f03f0,0x7100099f,0x54000323,0xeb0c011f,0xaa1003e9\n"
+    ".inst 0xaa1003ea,0x2a0e03ef,0x2a0e03f1,0x54fffd63,0x71000dbf,0x91000969,0xd100098a,0xa9047fff,0xf9002bff,0x5400024c\n"
+    ".inst 0x710009bf,0x540003e0,0x71000dbf,0x54000941,0x71000d9f,0x54000901,0x3940012d,0xaa1f03ea,0x2a1f03ee,0x5280004f\n"
+    ".inst 0xaa1f03e9,0x1400003d,0xaa1003e9,0xaa1003ea,0x2a0e03ef,0x2a0e03f1,0x17ffffd4,0x710011bf,0x540002e0,0x710015bf\n"
+    ".inst 0x54000721,0x927bf98e,0xf10029df,0x54000301,0x6f00e400,0x7100299f,0xf90043ff,0xad0303e0,0x54000322,0xaa1f03ea\n"
+    ".inst 0xaa1f03e9,0x14000022,0x7100119f,0x54000581,0x7940056e,0xaa1f03ea,0xaa1f03e9,0x2a1f03ed,0x5280002f,0x5ac005ce\n"
+    ".inst 0x14000020,0xb500048a,0xaa1f03e9,0x2a1f03ed,0x2a1f03ee,0x5280006f,0x1400001a,0x7100499f,0x54000060,0x7100899f\n"
+    ".inst 0x54000361,0x6f00e400,0xad0303e0,0xaa1f03ed,0x28c1392f,0xd100214a,0xf1001d5f,0xaa0f81ce,0x910183ef,0xdac00dce\n"
+    ".inst 0xf82d79ee,0x910005ad,0xf90043ed,0x54fffee8,0xa9462be9,0xf94043ef,0x3dc01fe0,0x2a1f03ed,0x2a1f03ee,0xf9002bef\n"
+    ".inst 0x5280008f,0x3d8013e0,0x3dc013e0,0xf9402bf0,0x3d800be0,0xf9001bf0,0x17ffff7f,0x2a1f03ee,0xa9027fff,0x528000af\n"
+    ".inst 0xf9001bff,0x17ffff7a\n"
+    ".section .rodata.tcp.11,\"a\",%progbits\n"
+    ".balign 8\n"
+    ".Ltcp11:\n"
     ".octa 0x202c383100000000656e696c,0x697469736f70206f00000000322e3220,0x29322e33000000002e33202c\n"
     ".octa 0x203a746e656d676573206f6e,0x20746f6e207369200000000020657479,0x6574796220746120000000006f72657a\n"
     ".octa 0x6e6f7277676e6f7277207369,0x796220303220747361656c20,0x657366664f646142736e6f6974706f20\n"
@@ -9795,12 +9883,27 @@ __asm__(
     ".octa 0x676465200000000074786e20,0x696d696c202d207478656e20,0x6d696c200000000078656e20\n"
     ".octa 0x2074696d736e617274657220,0x696177656d697420726564726f657220,0x666e6f63203a74696b706374\n"
     ".octa 0x726576696c6564206574706563636120,0x6465726564726f20657361656c657220,0x646e6520000000006e657320\n"
-    ".octa 0x6c656820656b72616d6e7520,0x6d726f666c616d200000000061746f74,0x332074696b70637420776f646e697720\n"
-    ".octa 0x74696177656d6974322074696b706374,0x4b43412d5453414c544e45532d4e5953,0x20646575657571202074616570657220\n"
-    ".octa 0x20646165726e752020746867696c6620\n"
-    ".section .text.tcp.11,\"ax\",%progbits\n"
+    ".octa 0x6c656820656b72616d6e7520,0x7373696d20657261207374656b636170,0x65687720646570706f7264203a676e69\n"
+    ".octa 0x6177206572757470616320656874206e,0x6f206e6920726f202c6e656b61742073,0x622074656b636170206574656c6f7362\n"
+    ".octa 0x657261206863696877202c736b636f6c,0x74656b636170202c646165722074276e,0x2e7469206f7420646964206b\n"
+    ".octa 0x656b636170222c22000000000a2e6465,0x63656e6e6f63222c000000003a227374,0x7475635f7369222c000000006e6f6974\n"
+    ".octa 0x3a227973736f6c5f7369222c,0x656d67617266222c73726568746f222c,0x68735f747563222c000000002273746e\n"
+    ".octa 0x737961727473222c000000002274726f,0x2273656c75725f6c6c61222c,0x3a2273676e69646e6966222c\n"
+    ".octa 0x800080008000f0003f003f003f00ff,0xf000f000fffff0000fffcfff80000,0x6b636170000a000a000aa000\n"
+    ".octa 0x61656c6373676e69646e6966,0x6f20736574796220746e656d67657320,0x20676e6968746f6e0000000065742066\n"
+    ".octa 0x13121110000000006764756a,0x3a22656c7572222c00000000656d202c,0x6974616c6572222c746e756f63222c22\n"
+    ".octa 0x3a2274786574222c000000003a226576,0x227473726966222c3a22656d616e222c,0x223a2274636964726576222c\n"
+    ".octa 0x2273676e69646e6966222c22,0x2273656c75725f6c6c61222c,0x3a2273746e656d676573222c\n"
+    ".octa 0x3a22646e696b227b227365747962222c,0x6f697463656e6e6f63222c22,0x202c38312272656570222c22\n"
+    ".octa 0x697469736f70206f00000000322e3220,0x29322e33000000002e33202c,0x203a746e656d676573206f6e\n"
+    ".octa 0x20746f6e207369200000000020657479,0x6574796220746120000000006f72657a,0x6e6f7277676e6f7277207369\n"
+    ".octa 0x796220303220747361656c20,0x65746f6e00000000736c6166,0x4652282000000000656b6361\n"
+    ".octa 0x6d726f666c616d200000000061746f74,0x332074696b70637420776f646e697720,0x74696177656d6974322074696b706374\n"
+    ".octa 0x4b43412d5453414c544e45532d4e5953,0x20646575657571202074616570657220,0x20646165726e752020746867696c6620\n"
+    ".octa 0x223a22646e65222c207374656b636170,0x6b636f6c42646c4f3a22656d6974222c,0x3a2273646e65222c20747361656c202c\n"
+    ".section .text.tcp.12,\"ax\",%progbits\n"
     ".balign 4\n"
-    ".Ltcp11:\n"
+    ".Ltcp12:\n"
     ".type \"core::fmt::formatter::Formatter::write_piece::<#a46843f377dcc739>\",%function\n"
     ".size \"core::fmt::formatter::Formatter::write_piece::<#a46843f377dcc739>\",468\n"
     "\"core::fmt::formatter::Formatter::write_piece::<#a46843f377dcc739>\":\n"
@@ -9818,11 +9921,11 @@ __asm__(
     ".inst 0x12001c00,0xa9444ff4,0xa94357f6,0xa9427bfd,0x910143ff,0xd65f03c0,0xaa0103f5,0xaa1303e0,0xaa0203e1,0xaa0203f6\n"
     ".inst 0x94000000,0x340000a0,0xa940d268,0xaa1503e1,0xaa1603e2,0x17ffffe3,0x52800020,0xa9444ff4,0xa94357f6,0xa9427bfd\n"
     ".inst 0x910143ff,0xd65f03c0\n"
-    ".reloc .Ltcp11+376,R_AARCH64_CALL26,.Ltcp12+0\n"
-    ".reloc .Ltcp11+420,R_AARCH64_CALL26,.Ltcp23+0\n"
-    ".section .text.tcp.12,\"ax\",%progbits\n"
+    ".reloc .Ltcp12+376,R_AARCH64_CALL26,.Ltcp13+0\n"
+    ".reloc .Ltcp12+420,R_AARCH64_CALL26,.Ltcp24+0\n"
+    ".section .text.tcp.13,\"ax\",%progbits\n"
     ".balign 4\n"
-    ".Ltcp12:\n"
+    ".Ltcp13:\n"
     ".type \"core::fmt::formatter::Formatter::write_indented::<#bc6dd3c8388e7ac9>\",%function\n"
     ".size \"core::fmt::formatter::Formatter::write_indented::<#bc6dd3c8388e7ac9>\",352\n"
     "\"core::fmt::formatter::Formatter::write_indented::<#bc6dd3c8388e7ac9>\":\n"
@@ -9835,17 +9938,17 @@ __asm__(
     ".inst 0x91000021,0xaa1303e0,0x52800082,0x94000000,0x12001c08,0x370001e8,0xf10006f7,0x54ffff01,0x8b160281,0xaa1303e0\n"
     ".inst 0xaa1503e2,0x3901027f,0xa9444ff4,0xa94357f6,0xf9400bf9,0xa9425ff8,0xa8c57bfd,0x14000000,0x2a1f03f7,0x14000002\n"
     ".inst 0x52800037,0x2a1703e0,0xa9444ff4,0xa94357f6,0xf9400bf9,0xa9425ff8,0xa8c57bfd,0xd65f03c0\n"
-    ".reloc .Ltcp12+72,R_AARCH64_CALL26,.Ltcp13+0\n"
-    ".reloc .Ltcp12+156,R_AARCH64_ADR_PREL_PG_HI21,.Ltcp92+8\n"
-    ".reloc .Ltcp12+160,R_AARCH64_ADD_ABS_LO12_NC,.Ltcp92+8\n"
-    ".reloc .Ltcp12+172,R_AARCH64_CALL26,.Ltcp13+0\n"
-    ".reloc .Ltcp12+236,R_AARCH64_ADR_PREL_PG_HI21,.Ltcp92+8\n"
-    ".reloc .Ltcp12+240,R_AARCH64_ADD_ABS_LO12_NC,.Ltcp92+8\n"
-    ".reloc .Ltcp12+252,R_AARCH64_CALL26,.Ltcp13+0\n"
-    ".reloc .Ltcp12+308,R_AARCH64_JUMP26,.Ltcp13+0\n"
-    ".section .text.tcp.13,\"ax\",%progbits\n"
+    ".reloc .Ltcp13+72,R_AARCH64_CALL26,.Ltcp14+0\n"
+    ".reloc .Ltcp13+156,R_AARCH64_ADR_PREL_PG_HI21,.Ltcp93+8\n"
+    ".reloc .Ltcp13+160,R_AARCH64_ADD_ABS_LO12_NC,.Ltcp93+8\n"
+    ".reloc .Ltcp13+172,R_AARCH64_CALL26,.Ltcp14+0\n"
+    ".reloc .Ltcp13+236,R_AARCH64_ADR_PREL_PG_HI21,.Ltcp93+8\n"
+    ".reloc .Ltcp13+240,R_AARCH64_ADD_ABS_LO12_NC,.Ltcp93+8\n"
+    ".reloc .Ltcp13+252,R_AARCH64_CALL26,.Ltcp14+0\n"
+    ".reloc .Ltcp13+308,R_AARCH64_JUMP26,.Ltcp14+0\n"
+    ".section .text.tcp.14,\"ax\",%progbits\n"
     ".balign 4\n"
-    ".Ltcp13:\n"
+    ".Ltcp14:\n"
     ".type \"core::fmt::formatter::Formatter::write_raw::<#bc6dd3c8388e7ac9>\",%function\n"
     ".size \"core::fmt::formatter::Formatter::write_raw::<#bc6dd3c8388e7ac9>\",612\n"
     "\"core::fmt::formatter::Formatter::write_raw::<#bc6dd3c8388e7ac9>\":\n"
@@ -9866,10 +9969,10 @@ __asm__(
     ".inst 0x8b0b012c,0xcb08016a,0x8b0b002b,0x8b0c028c,0xfc408560,0xb100214a,0xfc008580,0x54ffffa1,0xeb08005f,0x54fffb40\n"
     ".inst 0x17ffffca,0xaa0103f4,0xaa0203e1,0xaa0003f3,0xaa0203f5,0x94000000,0x340000c0,0xaa1303e0,0xa940ce69,0xaa1503e2\n"
     ".inst 0xaa1403e1,0x17ffffb1,0x52800028,0x17ffffcf\n"
-    ".reloc .Ltcp13+576,R_AARCH64_CALL26,.Ltcp23+0\n"
-    ".section .text.tcp.14,\"ax\",%progbits\n"
+    ".reloc .Ltcp14+576,R_AARCH64_CALL26,.Ltcp24+0\n"
+    ".section .text.tcp.15,\"ax\",%progbits\n"
     ".balign 4\n"
-    ".Ltcp14:\n"
+    ".Ltcp15:\n"
     ".type \"kit_text::meaning::push_meaning::<#244039bd4e0652a3>\",%function\n"
     ".size \"kit_text::meaning::push_meaning::<#244039bd4e0652a3>\",5904\n"
     "\"kit_text::meaning::push_meaning::<#244039bd4e0652a3>\":\n"
@@ -10030,93 +10133,93 @@ __asm__(
     ".inst 0x12001c08,0xad3c83a1,0xad000261,0x3607cee8,0x1400000a,0x9100c3e0,0x52800021,0x94000000,0x34000060,0xa943a3e9\n"
     ".inst 0x17fffe02,0xad4187e0,0xad3c87a0,0xad000660,0xf9400668,0xb4000174,0xeb08029f,0x54000120,0xeb14011f,0x54ff59a3\n"
     ".inst 0x54ff5989,0xf9400268,0x38f46908,0x3101051f,0x5400008c,0x17fffac7,0xeb14011f,0x54ff58a9,0xf9000674,0x17fffac3\n"
-    ".reloc .Ltcp14+284,R_AARCH64_CALL26,.Ltcp8+0\n"
-    ".reloc .Ltcp14+488,R_AARCH64_ADR_PREL_PG_HI21,.Ltcp118+0\n"
-    ".reloc .Ltcp14+492,R_AARCH64_ADD_ABS_LO12_NC,.Ltcp118+0\n"
-    ".reloc .Ltcp14+524,R_AARCH64_CALL26,.Ltcp19+0\n"
-    ".reloc .Ltcp14+620,R_AARCH64_ADR_PREL_PG_HI21,.Ltcp119+0\n"
-    ".reloc .Ltcp14+624,R_AARCH64_ADD_ABS_LO12_NC,.Ltcp119+0\n"
-    ".reloc .Ltcp14+644,R_AARCH64_ADR_PREL_PG_HI21,.Ltcp10+152\n"
-    ".reloc .Ltcp14+652,R_AARCH64_LDST64_ABS_LO12_NC,.Ltcp10+152\n"
-    ".reloc .Ltcp14+692,R_AARCH64_ADR_PREL_PG_HI21,.Ltcp122+0\n"
-    ".reloc .Ltcp14+696,R_AARCH64_ADD_ABS_LO12_NC,.Ltcp122+0\n"
-    ".reloc .Ltcp14+728,R_AARCH64_CALL26,.Ltcp22+0\n"
-    ".reloc .Ltcp14+852,R_AARCH64_ADR_PREL_PG_HI21,.Ltcp121+0\n"
-    ".reloc .Ltcp14+856,R_AARCH64_ADD_ABS_LO12_NC,.Ltcp121+0\n"
-    ".reloc .Ltcp14+876,R_AARCH64_ADR_PREL_PG_HI21,.Ltcp10+136\n"
-    ".reloc .Ltcp14+880,R_AARCH64_LDST64_ABS_LO12_NC,.Ltcp10+136\n"
-    ".reloc .Ltcp14+912,R_AARCH64_ADR_PREL_PG_HI21,.Ltcp120+0\n"
-    ".reloc .Ltcp14+916,R_AARCH64_ADD_ABS_LO12_NC,.Ltcp120+0\n"
-    ".reloc .Ltcp14+936,R_AARCH64_ADR_PREL_PG_HI21,.Ltcp10+144\n"
-    ".reloc .Ltcp14+944,R_AARCH64_LDST64_ABS_LO12_NC,.Ltcp10+144\n"
-    ".reloc .Ltcp14+968,R_AARCH64_ADR_PREL_PG_HI21,.Ltcp123+0\n"
-    ".reloc .Ltcp14+972,R_AARCH64_ADD_ABS_LO12_NC,.Ltcp123+0\n"
-    ".reloc .Ltcp14+1004,R_AARCH64_CALL26,.Ltcp22+0\n"
-    ".reloc .Ltcp14+1140,R_AARCH64_CALL26,.Ltcp15+0\n"
-    ".reloc .Ltcp14+1336,R_AARCH64_ADR_PREL_PG_HI21,.Ltcp98+0\n"
-    ".reloc .Ltcp14+1340,R_AARCH64_ADD_ABS_LO12_NC,.Ltcp98+0\n"
-    ".reloc .Ltcp14+2704,R_AARCH64_ADR_PREL_PG_HI21,.Ltcp99+0\n"
-    ".reloc .Ltcp14+2708,R_AARCH64_ADD_ABS_LO12_NC,.Ltcp99+0\n"
-    ".reloc .Ltcp14+2756,R_AARCH64_ADR_PREL_PG_HI21,.Ltcp100+0\n"
-    ".reloc .Ltcp14+2760,R_AARCH64_ADD_ABS_LO12_NC,.Ltcp100+0\n"
-    ".reloc .Ltcp14+2804,R_AARCH64_ADR_PREL_PG_HI21,.Ltcp104+0\n"
-    ".reloc .Ltcp14+2808,R_AARCH64_ADD_ABS_LO12_NC,.Ltcp104+0\n"
-    ".reloc .Ltcp14+2844,R_AARCH64_ADR_PREL_PG_HI21,.Ltcp101+0\n"
-    ".reloc .Ltcp14+2848,R_AARCH64_ADD_ABS_LO12_NC,.Ltcp101+0\n"
-    ".reloc .Ltcp14+2856,R_AARCH64_ADR_PREL_PG_HI21,.Ltcp102+0\n"
-    ".reloc .Ltcp14+2860,R_AARCH64_ADD_ABS_LO12_NC,.Ltcp102+0\n"
-    ".reloc .Ltcp14+2880,R_AARCH64_ADR_PREL_PG_HI21,.Ltcp103+0\n"
-    ".reloc .Ltcp14+2884,R_AARCH64_ADD_ABS_LO12_NC,.Ltcp103+0\n"
-    ".reloc .Ltcp14+2920,R_AARCH64_ADR_PREL_PG_HI21,.Ltcp106+0\n"
-    ".reloc .Ltcp14+2924,R_AARCH64_ADD_ABS_LO12_NC,.Ltcp106+0\n"
-    ".reloc .Ltcp14+2956,R_AARCH64_ADR_PREL_PG_HI21,.Ltcp108+0\n"
-    ".reloc .Ltcp14+2960,R_AARCH64_ADD_ABS_LO12_NC,.Ltcp108+0\n"
-    ".reloc .Ltcp14+2976,R_AARCH64_ADR_PREL_PG_HI21,.Ltcp107+0\n"
-    ".reloc .Ltcp14+2980,R_AARCH64_ADD_ABS_LO12_NC,.Ltcp107+0\n"
-    ".reloc .Ltcp14+2988,R_AARCH64_ADR_PREL_PG_HI21,.Ltcp109+0\n"
-    ".reloc .Ltcp14+2992,R_AARCH64_ADD_ABS_LO12_NC,.Ltcp109+0\n"
-    ".reloc .Ltcp14+3016,R_AARCH64_ADR_PREL_PG_HI21,.Ltcp102+0\n"
-    ".reloc .Ltcp14+3020,R_AARCH64_ADD_ABS_LO12_NC,.Ltcp102+0\n"
-    ".reloc .Ltcp14+3048,R_AARCH64_ADR_PREL_PG_HI21,.Ltcp111+0\n"
-    ".reloc .Ltcp14+3052,R_AARCH64_ADD_ABS_LO12_NC,.Ltcp111+0\n"
-    ".reloc .Ltcp14+3060,R_AARCH64_ADR_PREL_PG_HI21,.Ltcp110+0\n"
-    ".reloc .Ltcp14+3064,R_AARCH64_ADD_ABS_LO12_NC,.Ltcp110+0\n"
-    ".reloc .Ltcp14+3404,R_AARCH64_CALL26,.Ltcp16+0\n"
-    ".reloc .Ltcp14+3564,R_AARCH64_CALL26,.Ltcp15+0\n"
-    ".reloc .Ltcp14+3604,R_AARCH64_ADR_PREL_PG_HI21,.Ltcp112+0\n"
-    ".reloc .Ltcp14+3608,R_AARCH64_ADD_ABS_LO12_NC,.Ltcp112+0\n"
-    ".reloc .Ltcp14+3628,R_AARCH64_CALL26,.Ltcp16+0\n"
-    ".reloc .Ltcp14+3660,R_AARCH64_CALL26,.Ltcp15+0\n"
-    ".reloc .Ltcp14+3684,R_AARCH64_ADR_PREL_PG_HI21,.Ltcp105+0\n"
-    ".reloc .Ltcp14+3688,R_AARCH64_ADD_ABS_LO12_NC,.Ltcp105+0\n"
-    ".reloc .Ltcp14+3844,R_AARCH64_CALL26,.Ltcp15+0\n"
-    ".reloc .Ltcp14+3872,R_AARCH64_CALL26,.Ltcp15+0\n"
-    ".reloc .Ltcp14+3900,R_AARCH64_CALL26,.Ltcp15+0\n"
-    ".reloc .Ltcp14+3928,R_AARCH64_CALL26,.Ltcp15+0\n"
-    ".reloc .Ltcp14+4088,R_AARCH64_CALL26,.Ltcp15+0\n"
-    ".reloc .Ltcp14+4124,R_AARCH64_CALL26,.Ltcp15+0\n"
-    ".reloc .Ltcp14+4168,R_AARCH64_CALL26,.Ltcp15+0\n"
-    ".reloc .Ltcp14+4812,R_AARCH64_ADR_PREL_PG_HI21,.Ltcp113+0\n"
-    ".reloc .Ltcp14+4816,R_AARCH64_ADD_ABS_LO12_NC,.Ltcp113+0\n"
-    ".reloc .Ltcp14+4844,R_AARCH64_ADR_PREL_PG_HI21,.Ltcp10+128\n"
-    ".reloc .Ltcp14+4848,R_AARCH64_LDST64_ABS_LO12_NC,.Ltcp10+128\n"
-    ".reloc .Ltcp14+4944,R_AARCH64_CALL26,.Ltcp9+0\n"
-    ".reloc .Ltcp14+5000,R_AARCH64_CALL26,.Ltcp18+0\n"
-    ".reloc .Ltcp14+5032,R_AARCH64_CALL26,.Ltcp9+0\n"
-    ".reloc .Ltcp14+5116,R_AARCH64_CALL26,.Ltcp18+0\n"
-    ".reloc .Ltcp14+5140,R_AARCH64_CALL26,.Ltcp15+0\n"
-    ".reloc .Ltcp14+5524,R_AARCH64_CALL26,.Ltcp21+0\n"
-    ".reloc .Ltcp14+5616,R_AARCH64_CALL26,.Ltcp15+0\n"
-    ".reloc .Ltcp14+5648,R_AARCH64_CALL26,.Ltcp15+0\n"
-    ".reloc .Ltcp14+5708,R_AARCH64_CALL26,.Ltcp15+0\n"
-    ".reloc .Ltcp14+5740,R_AARCH64_CALL26,.Ltcp15+0\n"
-    ".reloc .Ltcp14+5760,R_AARCH64_ADR_PREL_PG_HI21,.Ltcp93+0\n"
-    ".reloc .Ltcp14+5764,R_AARCH64_ADD_ABS_LO12_NC,.Ltcp93+0\n"
-    ".reloc .Ltcp14+5776,R_AARCH64_CALL26,.Ltcp16+0\n"
-    ".reloc .Ltcp14+5812,R_AARCH64_CALL26,.Ltcp15+0\n"
-    ".section .text.tcp.15,\"ax\",%progbits\n"
+    ".reloc .Ltcp15+284,R_AARCH64_CALL26,.Ltcp9+0\n"
+    ".reloc .Ltcp15+488,R_AARCH64_ADR_PREL_PG_HI21,.Ltcp119+0\n"
+    ".reloc .Ltcp15+492,R_AARCH64_ADD_ABS_LO12_NC,.Ltcp119+0\n"
+    ".reloc .Ltcp15+524,R_AARCH64_CALL26,.Ltcp20+0\n"
+    ".reloc .Ltcp15+620,R_AARCH64_ADR_PREL_PG_HI21,.Ltcp120+0\n"
+    ".reloc .Ltcp15+624,R_AARCH64_ADD_ABS_LO12_NC,.Ltcp120+0\n"
+    ".reloc .Ltcp15+644,R_AARCH64_ADR_PREL_PG_HI21,.Ltcp11+152\n"
+    ".reloc .Ltcp15+652,R_AARCH64_LDST64_ABS_LO12_NC,.Ltcp11+152\n"
+    ".reloc .Ltcp15+692,R_AARCH64_ADR_PREL_PG_HI21,.Ltcp123+0\n"
+    ".reloc .Ltcp15+696,R_AARCH64_ADD_ABS_LO12_NC,.Ltcp123+0\n"
+    ".reloc .Ltcp15+728,R_AARCH64_CALL26,.Ltcp23+0\n"
+    ".reloc .Ltcp15+852,R_AARCH64_ADR_PREL_PG_HI21,.Ltcp122+0\n"
+    ".reloc .Ltcp15+856,R_AARCH64_ADD_ABS_LO12_NC,.Ltcp122+0\n"
+    ".reloc .Ltcp15+876,R_AARCH64_ADR_PREL_PG_HI21,.Ltcp11+136\n"
+    ".reloc .Ltcp15+880,R_AARCH64_LDST64_ABS_LO12_NC,.Ltcp11+136\n"
+    ".reloc .Ltcp15+912,R_AARCH64_ADR_PREL_PG_HI21,.Ltcp121+0\n"
+    ".reloc .Ltcp15+916,R_AARCH64_ADD_ABS_LO12_NC,.Ltcp121+0\n"
+    ".reloc .Ltcp15+936,R_AARCH64_ADR_PREL_PG_HI21,.Ltcp11+144\n"
+    ".reloc .Ltcp15+944,R_AARCH64_LDST64_ABS_LO12_NC,.Ltcp11+144\n"
+    ".reloc .Ltcp15+968,R_AARCH64_ADR_PREL_PG_HI21,.Ltcp124+0\n"
+    ".reloc .Ltcp15+972,R_AARCH64_ADD_ABS_LO12_NC,.Ltcp124+0\n"
+    ".reloc .Ltcp15+1004,R_AARCH64_CALL26,.Ltcp23+0\n"
+    ".reloc .Ltcp15+1140,R_AARCH64_CALL26,.Ltcp16+0\n"
+    ".reloc .Ltcp15+1336,R_AARCH64_ADR_PREL_PG_HI21,.Ltcp99+0\n"
+    ".reloc .Ltcp15+1340,R_AARCH64_ADD_ABS_LO12_NC,.Ltcp99+0\n"
+    ".reloc .Ltcp15+2704,R_AARCH64_ADR_PREL_PG_HI21,.Ltcp100+0\n"
+    ".reloc .Ltcp15+2708,R_AARCH64_ADD_ABS_LO12_NC,.Ltcp100+0\n"
+    ".reloc .Ltcp15+2756,R_AARCH64_ADR_PREL_PG_HI21,.Ltcp101+0\n"
+    ".reloc .Ltcp15+2760,R_AARCH64_ADD_ABS_LO12_NC,.Ltcp101+0\n"
+    ".reloc .Ltcp15+2804,R_AARCH64_ADR_PREL_PG_HI21,.Ltcp105+0\n"
+    ".reloc .Ltcp15+2808,R_AARCH64_ADD_ABS_LO12_NC,.Ltcp105+0\n"
+    ".reloc .Ltcp15+2844,R_AARCH64_ADR_PREL_PG_HI21,.Ltcp102+0\n"
+    ".reloc .Ltcp15+2848,R_AARCH64_ADD_ABS_LO12_NC,.Ltcp102+0\n"
+    ".reloc .Ltcp15+2856,R_AARCH64_ADR_PREL_PG_HI21,.Ltcp103+0\n"
+    ".reloc .Ltcp15+2860,R_AARCH64_ADD_ABS_LO12_NC,.Ltcp103+0\n"
+    ".reloc .Ltcp15+2880,R_AARCH64_ADR_PREL_PG_HI21,.Ltcp104+0\n"
+    ".reloc .Ltcp15+2884,R_AARCH64_ADD_ABS_LO12_NC,.Ltcp104+0\n"
+    ".reloc .Ltcp15+2920,R_AARCH64_ADR_PREL_PG_HI21,.Ltcp107+0\n"
+    ".reloc .Ltcp15+2924,R_AARCH64_ADD_ABS_LO12_NC,.Ltcp107+0\n"
+    ".reloc .Ltcp15+2956,R_AARCH64_ADR_PREL_PG_HI21,.Ltcp109+0\n"
+    ".reloc .Ltcp15+2960,R_AARCH64_ADD_ABS_LO12_NC,.Ltcp109+0\n"
+    ".reloc .Ltcp15+2976,R_AARCH64_ADR_PREL_PG_HI21,.Ltcp108+0\n"
+    ".reloc .Ltcp15+2980,R_AARCH64_ADD_ABS_LO12_NC,.Ltcp108+0\n"
+    ".reloc .Ltcp15+2988,R_AARCH64_ADR_PREL_PG_HI21,.Ltcp110+0\n"
+    ".reloc .Ltcp15+2992,R_AARCH64_ADD_ABS_LO12_NC,.Ltcp110+0\n"
+    ".reloc .Ltcp15+3016,R_AARCH64_ADR_PREL_PG_HI21,.Ltcp103+0\n"
+    ".reloc .Ltcp15+3020,R_AARCH64_ADD_ABS_LO12_NC,.Ltcp103+0\n"
+    ".reloc .Ltcp15+3048,R_AARCH64_ADR_PREL_PG_HI21,.Ltcp112+0\n"
+    ".reloc .Ltcp15+3052,R_AARCH64_ADD_ABS_LO12_NC,.Ltcp112+0\n"
+    ".reloc .Ltcp15+3060,R_AARCH64_ADR_PREL_PG_HI21,.Ltcp111+0\n"
+    ".reloc .Ltcp15+3064,R_AARCH64_ADD_ABS_LO12_NC,.Ltcp111+0\n"
+    ".reloc .Ltcp15+3404,R_AARCH64_CALL26,.Ltcp17+0\n"
+    ".reloc .Ltcp15+3564,R_AARCH64_CALL26,.Ltcp16+0\n"
+    ".reloc .Ltcp15+3604,R_AARCH64_ADR_PREL_PG_HI21,.Ltcp113+0\n"
+    ".reloc .Ltcp15+3608,R_AARCH64_ADD_ABS_LO12_NC,.Ltcp113+0\n"
+    ".reloc .Ltcp15+3628,R_AARCH64_CALL26,.Ltcp17+0\n"
+    ".reloc .Ltcp15+3660,R_AARCH64_CALL26,.Ltcp16+0\n"
+    ".reloc .Ltcp15+3684,R_AARCH64_ADR_PREL_PG_HI21,.Ltcp106+0\n"
+    ".reloc .Ltcp15+3688,R_AARCH64_ADD_ABS_LO12_NC,.Ltcp106+0\n"
+    ".reloc .Ltcp15+3844,R_AARCH64_CALL26,.Ltcp16+0\n"
+    ".reloc .Ltcp15+3872,R_AARCH64_CALL26,.Ltcp16+0\n"
+    ".reloc .Ltcp15+3900,R_AARCH64_CALL26,.Ltcp16+0\n"
+    ".reloc .Ltcp15+3928,R_AARCH64_CALL26,.Ltcp16+0\n"
+    ".reloc .Ltcp15+4088,R_AARCH64_CALL26,.Ltcp16+0\n"
+    ".reloc .Ltcp15+4124,R_AARCH64_CALL26,.Ltcp16+0\n"
+    ".reloc .Ltcp15+4168,R_AARCH64_CALL26,.Ltcp16+0\n"
+    ".reloc .Ltcp15+4812,R_AARCH64_ADR_PREL_PG_HI21,.Ltcp114+0\n"
+    ".reloc .Ltcp15+4816,R_AARCH64_ADD_ABS_LO12_NC,.Ltcp114+0\n"
+    ".reloc .Ltcp15+4844,R_AARCH64_ADR_PREL_PG_HI21,.Ltcp11+128\n"
+    ".reloc .Ltcp15+4848,R_AARCH64_LDST64_ABS_LO12_NC,.Ltcp11+128\n"
+    ".reloc .Ltcp15+4944,R_AARCH64_CALL26,.Ltcp10+0\n"
+    ".reloc .Ltcp15+5000,R_AARCH64_CALL26,.Ltcp19+0\n"
+    ".reloc .Ltcp15+5032,R_AARCH64_CALL26,.Ltcp10+0\n"
+    ".reloc .Ltcp15+5116,R_AARCH64_CALL26,.Ltcp19+0\n"
+    ".reloc .Ltcp15+5140,R_AARCH64_CALL26,.Ltcp16+0\n"
+    ".reloc .Ltcp15+5524,R_AARCH64_CALL26,.Ltcp22+0\n"
+    ".reloc .Ltcp15+5616,R_AARCH64_CALL26,.Ltcp16+0\n"
+    ".reloc .Ltcp15+5648,R_AARCH64_CALL26,.Ltcp16+0\n"
+    ".reloc .Ltcp15+5708,R_AARCH64_CALL26,.Ltcp16+0\n"
+    ".reloc .Ltcp15+5740,R_AARCH64_CALL26,.Ltcp16+0\n"
+    ".reloc .Ltcp15+5760,R_AARCH64_ADR_PREL_PG_HI21,.Ltcp94+0\n"
+    ".reloc .Ltcp15+5764,R_AARCH64_ADD_ABS_LO12_NC,.Ltcp94+0\n"
+    ".reloc .Ltcp15+5776,R_AARCH64_CALL26,.Ltcp17+0\n"
+    ".reloc .Ltcp15+5812,R_AARCH64_CALL26,.Ltcp16+0\n"
+    ".section .text.tcp.16,\"ax\",%progbits\n"
     ".balign 4\n"
-    ".Ltcp15:\n"
+    ".Ltcp16:\n"
     ".type \"std_alloc::vec::Vec::grow_amortized::<#8c6c02ecfde2865e>\",%function\n"
     ".size \"std_alloc::vec::Vec::grow_amortized::<#8c6c02ecfde2865e>\",496\n"
     "\"std_alloc::vec::Vec::grow_amortized::<#8c6c02ecfde2865e>\":\n"
@@ -10134,9 +10237,9 @@ __asm__(
     ".inst 0xaa1603e0,0x17ffffcd,0x927d0449,0x927be848,0x9100402a,0x9100426b,0x927be84c,0xad7f8540,0xf100818c,0x9100814a\n"
     ".inst 0xad3f8560,0x9100816b,0x54ffff61,0xeb08005f,0x54fff800,0xb4000149,0xaa0803e9,0x927df048,0xfc696820,0xfc296a60\n"
     ".inst 0x91002129,0xeb09011f,0x54ffff81,0xeb08005f,0x54fff6c0,0x38686829,0x38286a69,0x91000508,0x17fffffb\n"
-    ".section .text.tcp.16,\"ax\",%progbits\n"
+    ".section .text.tcp.17,\"ax\",%progbits\n"
     ".balign 4\n"
-    ".Ltcp16:\n"
+    ".Ltcp17:\n"
     ".type \"core::fmt::formatter::Formatter::write_indented::<#c443fc42141e8c95>\",%function\n"
     ".size \"core::fmt::formatter::Formatter::write_indented::<#c443fc42141e8c95>\",352\n"
     "\"core::fmt::formatter::Formatter::write_indented::<#c443fc42141e8c95>\":\n"
@@ -10149,17 +10252,17 @@ __asm__(
     ".inst 0x91000021,0xaa1303e0,0x52800082,0x94000000,0x12001c08,0x370001e8,0xf10006f7,0x54ffff01,0x8b160281,0xaa1303e0\n"
     ".inst 0xaa1503e2,0x3901027f,0xa9444ff4,0xa94357f6,0xf9400bf9,0xa9425ff8,0xa8c57bfd,0x14000000,0x2a1f03f7,0x14000002\n"
     ".inst 0x52800037,0x2a1703e0,0xa9444ff4,0xa94357f6,0xf9400bf9,0xa9425ff8,0xa8c57bfd,0xd65f03c0\n"
-    ".reloc .Ltcp16+72,R_AARCH64_CALL26,.Ltcp17+0\n"
-    ".reloc .Ltcp16+156,R_AARCH64_ADR_PREL_PG_HI21,.Ltcp92+8\n"
-    ".reloc .Ltcp16+160,R_AARCH64_ADD_ABS_LO12_NC,.Ltcp92+8\n"
-    ".reloc .Ltcp16+172,R_AARCH64_CALL26,.Ltcp17+0\n"
-    ".reloc .Ltcp16+236,R_AARCH64_ADR_PREL_PG_HI21,.Ltcp92+8\n"
-    ".reloc .Ltcp16+240,R_AARCH64_ADD_ABS_LO12_NC,.Ltcp92+8\n"
-    ".reloc .Ltcp16+252,R_AARCH64_CALL26,.Ltcp17+0\n"
-    ".reloc .Ltcp16+308,R_AARCH64_JUMP26,.Ltcp17+0\n"
-    ".section .text.tcp.17,\"ax\",%progbits\n"
+    ".reloc .Ltcp17+72,R_AARCH64_CALL26,.Ltcp18+0\n"
+    ".reloc .Ltcp17+156,R_AARCH64_ADR_PREL_PG_HI21,.Ltcp93+8\n"
+    ".reloc .Ltcp17+160,R_AARCH64_ADD_ABS_LO12_NC,.Ltcp93+8\n"
+    ".reloc .Ltcp17+172,R_AARCH64_CALL26,.Ltcp18+0\n"
+    ".reloc .Ltcp17+236,R_AARCH64_ADR_PREL_PG_HI21,.Ltcp93+8\n"
+    ".reloc .Ltcp17+240,R_AARCH64_ADD_ABS_LO12_NC,.Ltcp93+8\n"
+    ".reloc .Ltcp17+252,R_AARCH64_CALL26,.Ltcp18+0\n"
+    ".reloc .Ltcp17+308,R_AARCH64_JUMP26,.Ltcp18+0\n"
+    ".section .text.tcp.18,\"ax\",%progbits\n"
     ".balign 4\n"
-    ".Ltcp17:\n"
+    ".Ltcp18:\n"
     ".type \"core::fmt::formatter::Formatter::write_raw::<#c443fc42141e8c95>\",%function\n"
     ".size \"core::fmt::formatter::Formatter::write_raw::<#c443fc42141e8c95>\",612\n"
     "\"core::fmt::formatter::Formatter::write_raw::<#c443fc42141e8c95>\":\n"
@@ -10180,10 +10283,10 @@ __asm__(
     ".inst 0x8b0b012c,0xcb08016a,0x8b0b002b,0x8b0c028c,0xfc408560,0xb100214a,0xfc008580,0x54ffffa1,0xeb08005f,0x54fffb40\n"
     ".inst 0x17ffffca,0xaa0103f4,0xaa0203e1,0xaa0003f3,0xaa0203f5,0x94000000,0x340000c0,0xaa1303e0,0xa940ce69,0xaa1503e2\n"
     ".inst 0xaa1403e1,0x17ffffb1,0x52800028,0x17ffffcf\n"
-    ".reloc .Ltcp17+576,R_AARCH64_CALL26,.Ltcp15+0\n"
-    ".section .text.tcp.18,\"ax\",%progbits\n"
+    ".reloc .Ltcp18+576,R_AARCH64_CALL26,.Ltcp16+0\n"
+    ".section .text.tcp.19,\"ax\",%progbits\n"
     ".balign 4\n"
-    ".Ltcp18:\n"
+    ".Ltcp19:\n"
     ".type \"kit_text::options::push_option::<#244039bd4e0652a3>\",%function\n"
     ".size \"kit_text::options::push_option::<#244039bd4e0652a3>\",1660\n"
     "\"kit_text::options::push_option::<#244039bd4e0652a3>\":\n"
@@ -10231,38 +10334,38 @@ __asm__(
     ".inst 0xf9400668,0xb40001b4,0xeb08029f,0x54000160,0xeb14011f,0x54ffdd23,0xeb14011f,0x52800020,0x54ffef69,0xf9400268\n"
     ".inst 0x38f46908,0x3101051f,0x5400008c,0x17ffff76,0xeb14011f,0x54ffdbe9,0xf9000674,0x17fffedd,0xaa1303e0,0x52800021\n"
     ".inst 0x94000000,0x2a0003e8,0x52800020,0x34ffed88,0xa940a26a,0xf9400269,0x17ffff63,0x2a1603e0,0x17ffff67\n"
-    ".reloc .Ltcp18+360,R_AARCH64_ADR_PREL_PG_HI21,.Ltcp117+0\n"
-    ".reloc .Ltcp18+364,R_AARCH64_ADD_ABS_LO12_NC,.Ltcp117+0\n"
-    ".reloc .Ltcp18+388,R_AARCH64_ADR_PREL_PG_HI21,.Ltcp10+160\n"
-    ".reloc .Ltcp18+392,R_AARCH64_LDST64_ABS_LO12_NC,.Ltcp10+160\n"
-    ".reloc .Ltcp18+436,R_AARCH64_CALL26,.Ltcp20+0\n"
-    ".reloc .Ltcp18+476,R_AARCH64_ADR_PREL_PG_HI21,.Ltcp114+0\n"
-    ".reloc .Ltcp18+480,R_AARCH64_ADD_ABS_LO12_NC,.Ltcp114+0\n"
-    ".reloc .Ltcp18+544,R_AARCH64_ADR_PREL_PG_HI21,.Ltcp116+0\n"
-    ".reloc .Ltcp18+548,R_AARCH64_ADD_ABS_LO12_NC,.Ltcp116+0\n"
-    ".reloc .Ltcp18+572,R_AARCH64_ADR_PREL_PG_HI21,.Ltcp10+160\n"
-    ".reloc .Ltcp18+576,R_AARCH64_LDST64_ABS_LO12_NC,.Ltcp10+160\n"
-    ".reloc .Ltcp18+596,R_AARCH64_ADR_PREL_PG_HI21,.Ltcp115+0\n"
-    ".reloc .Ltcp18+600,R_AARCH64_ADD_ABS_LO12_NC,.Ltcp115+0\n"
-    ".reloc .Ltcp18+628,R_AARCH64_CALL26,.Ltcp19+0\n"
-    ".reloc .Ltcp18+748,R_AARCH64_ADR_PREL_PG_HI21,.Ltcp98+0\n"
-    ".reloc .Ltcp18+752,R_AARCH64_ADD_ABS_LO12_NC,.Ltcp98+0\n"
-    ".reloc .Ltcp18+1128,R_AARCH64_CALL26,.Ltcp20+0\n"
-    ".reloc .Ltcp18+1172,R_AARCH64_CALL26,.Ltcp15+0\n"
-    ".reloc .Ltcp18+1188,R_AARCH64_ADR_PREL_PG_HI21,.Ltcp98+0\n"
-    ".reloc .Ltcp18+1192,R_AARCH64_ADD_ABS_LO12_NC,.Ltcp98+0\n"
-    ".reloc .Ltcp18+1304,R_AARCH64_JUMP26,.Ltcp21+0\n"
-    ".reloc .Ltcp18+1316,R_AARCH64_CALL26,.Ltcp15+0\n"
-    ".reloc .Ltcp18+1340,R_AARCH64_CALL26,.Ltcp15+0\n"
-    ".reloc .Ltcp18+1368,R_AARCH64_CALL26,.Ltcp15+0\n"
-    ".reloc .Ltcp18+1400,R_AARCH64_CALL26,.Ltcp15+0\n"
-    ".reloc .Ltcp18+1432,R_AARCH64_CALL26,.Ltcp15+0\n"
-    ".reloc .Ltcp18+1456,R_AARCH64_CALL26,.Ltcp16+0\n"
-    ".reloc .Ltcp18+1504,R_AARCH64_CALL26,.Ltcp15+0\n"
-    ".reloc .Ltcp18+1624,R_AARCH64_CALL26,.Ltcp15+0\n"
-    ".section .text.tcp.19,\"ax\",%progbits\n"
+    ".reloc .Ltcp19+360,R_AARCH64_ADR_PREL_PG_HI21,.Ltcp118+0\n"
+    ".reloc .Ltcp19+364,R_AARCH64_ADD_ABS_LO12_NC,.Ltcp118+0\n"
+    ".reloc .Ltcp19+388,R_AARCH64_ADR_PREL_PG_HI21,.Ltcp11+160\n"
+    ".reloc .Ltcp19+392,R_AARCH64_LDST64_ABS_LO12_NC,.Ltcp11+160\n"
+    ".reloc .Ltcp19+436,R_AARCH64_CALL26,.Ltcp21+0\n"
+    ".reloc .Ltcp19+476,R_AARCH64_ADR_PREL_PG_HI21,.Ltcp115+0\n"
+    ".reloc .Ltcp19+480,R_AARCH64_ADD_ABS_LO12_NC,.Ltcp115+0\n"
+    ".reloc .Ltcp19+544,R_AARCH64_ADR_PREL_PG_HI21,.Ltcp117+0\n"
+    ".reloc .Ltcp19+548,R_AARCH64_ADD_ABS_LO12_NC,.Ltcp117+0\n"
+    ".reloc .Ltcp19+572,R_AARCH64_ADR_PREL_PG_HI21,.Ltcp11+160\n"
+    ".reloc .Ltcp19+576,R_AARCH64_LDST64_ABS_LO12_NC,.Ltcp11+160\n"
+    ".reloc .Ltcp19+596,R_AARCH64_ADR_PREL_PG_HI21,.Ltcp116+0\n"
+    ".reloc .Ltcp19+600,R_AARCH64_ADD_ABS_LO12_NC,.Ltcp116+0\n"
+    ".reloc .Ltcp19+628,R_AARCH64_CALL26,.Ltcp20+0\n"
+    ".reloc .Ltcp19+748,R_AARCH64_ADR_PREL_PG_HI21,.Ltcp99+0\n"
+    ".reloc .Ltcp19+752,R_AARCH64_ADD_ABS_LO12_NC,.Ltcp99+0\n"
+    ".reloc .Ltcp19+1128,R_AARCH64_CALL26,.Ltcp21+0\n"
+    ".reloc .Ltcp19+1172,R_AARCH64_CALL26,.Ltcp16+0\n"
+    ".reloc .Ltcp19+1188,R_AARCH64_ADR_PREL_PG_HI21,.Ltcp99+0\n"
+    ".reloc .Ltcp19+1192,R_AARCH64_ADD_ABS_LO12_NC,.Ltcp99+0\n"
+    ".reloc .Ltcp19+1304,R_AARCH64_JUMP26,.Ltcp22+0\n"
+    ".reloc .Ltcp19+1316,R_AARCH64_CALL26,.Ltcp16+0\n"
+    ".reloc .Ltcp19+1340,R_AARCH64_CALL26,.Ltcp16+0\n"
+    ".reloc .Ltcp19+1368,R_AARCH64_CALL26,.Ltcp16+0\n"
+    ".reloc .Ltcp19+1400,R_AARCH64_CALL26,.Ltcp16+0\n"
+    ".reloc .Ltcp19+1432,R_AARCH64_CALL26,.Ltcp16+0\n"
+    ".reloc .Ltcp19+1456,R_AARCH64_CALL26,.Ltcp17+0\n"
+    ".reloc .Ltcp19+1504,R_AARCH64_CALL26,.Ltcp16+0\n"
+    ".reloc .Ltcp19+1624,R_AARCH64_CALL26,.Ltcp16+0\n"
+    ".section .text.tcp.20,\"ax\",%progbits\n"
     ".balign 4\n"
-    ".Ltcp19:\n"
+    ".Ltcp20:\n"
     ".type \"std_alloc::string::String::write_fmt::<#1a211fe9d5beaab3>\",%function\n"
     ".size \"std_alloc::string::String::write_fmt::<#1a211fe9d5beaab3>\",824\n"
     "\"std_alloc::string::String::write_fmt::<#1a211fe9d5beaab3>\":\n"
@@ -10289,12 +10392,12 @@ __asm__(
     ".inst 0xaa1803e1,0xf94013f6,0xaa1903e2,0x17ffffb4,0xad4107e0,0xad0007e0,0xad000660,0xf9400668,0xb40001b4,0xeb08029f\n"
     ".inst 0x54000160,0xeb14011f,0x54000183,0xeb14011f,0x52800020,0x54fff609,0xf9400268,0x38f46908,0x3101051f,0x5400008c\n"
     ".inst 0x17ffffab,0xeb14011f,0x54000049,0xf9000674,0x52800020,0x17ffffa6\n"
-    ".reloc .Ltcp19+632,R_AARCH64_CALL26,.Ltcp15+0\n"
-    ".reloc .Ltcp19+660,R_AARCH64_CALL26,.Ltcp16+0\n"
-    ".reloc .Ltcp19+708,R_AARCH64_CALL26,.Ltcp15+0\n"
-    ".section .text.tcp.20,\"ax\",%progbits\n"
+    ".reloc .Ltcp20+632,R_AARCH64_CALL26,.Ltcp16+0\n"
+    ".reloc .Ltcp20+660,R_AARCH64_CALL26,.Ltcp17+0\n"
+    ".reloc .Ltcp20+708,R_AARCH64_CALL26,.Ltcp16+0\n"
+    ".section .text.tcp.21,\"ax\",%progbits\n"
     ".balign 4\n"
-    ".Ltcp20:\n"
+    ".Ltcp21:\n"
     ".type \"kit_text::options::push_block::<#2684e1456f717445>\",%function\n"
     ".size \"kit_text::options::push_block::<#2684e1456f717445>\",816\n"
     "\"kit_text::options::push_block::<#2684e1456f717445>\":\n"
@@ -10320,12 +10423,12 @@ __asm__(
     ".inst 0x2a1f03e0,0xa9005e76,0xf9000a75,0xa94b4ff4,0xf9404bf7,0xa94a57f6,0xa9487bfd,0x910303ff,0xd65f03c0,0xaa1303e0\n"
     ".inst 0xaa0203e1,0xaa0203f6,0x94000000,0x34000080,0xa940d668,0xaa1603e2,0x17ffffea,0x52800020,0xa94b4ff4,0xf9404bf7\n"
     ".inst 0xa94a57f6,0xa9487bfd,0x910303ff,0xd65f03c0\n"
-    ".reloc .Ltcp20+56,R_AARCH64_ADR_PREL_PG_HI21,.Ltcp98+0\n"
-    ".reloc .Ltcp20+60,R_AARCH64_ADD_ABS_LO12_NC,.Ltcp98+0\n"
-    ".reloc .Ltcp20+768,R_AARCH64_CALL26,.Ltcp15+0\n"
-    ".section .text.tcp.21,\"ax\",%progbits\n"
+    ".reloc .Ltcp21+56,R_AARCH64_ADR_PREL_PG_HI21,.Ltcp99+0\n"
+    ".reloc .Ltcp21+60,R_AARCH64_ADD_ABS_LO12_NC,.Ltcp99+0\n"
+    ".reloc .Ltcp21+768,R_AARCH64_CALL26,.Ltcp16+0\n"
+    ".section .text.tcp.22,\"ax\",%progbits\n"
     ".balign 4\n"
-    ".Ltcp21:\n"
+    ".Ltcp22:\n"
     ".type \"kit_text::bytes::push_bytes::<#244039bd4e0652a3>\",%function\n"
     ".size \"kit_text::bytes::push_bytes::<#244039bd4e0652a3>\",872\n"
     "\"kit_text::bytes::push_bytes::<#244039bd4e0652a3>\":\n"
@@ -10352,15 +10455,15 @@ __asm__(
     ".inst 0xaa0103f4,0xaa0803e1,0xaa0203f5,0x94000000,0xaa1503e2,0xaa1403e1,0x35ffe980,0x1400000f,0xaa1303e0,0x52800021\n"
     ".inst 0x94000000,0x2a0003e8,0x52800020,0x34fff3e8,0xa940a269,0x17ffff96,0xaa1303e0,0xaa1403e1,0x94000000,0x34000060\n"
     ".inst 0xa940d668,0x17ffffdb,0x52800020,0xa94f4ff4,0xf9406bf7,0xa94e57f6,0xa94c7bfd,0x910403ff,0xd65f03c0\n"
-    ".reloc .Ltcp21+348,R_AARCH64_CALL26,.Ltcp15+0\n"
-    ".reloc .Ltcp21+636,R_AARCH64_ADR_PREL_PG_HI21,.Ltcp0+752\n"
-    ".reloc .Ltcp21+640,R_AARCH64_ADD_ABS_LO12_NC,.Ltcp0+752\n"
-    ".reloc .Ltcp21+768,R_AARCH64_CALL26,.Ltcp15+0\n"
-    ".reloc .Ltcp21+796,R_AARCH64_CALL26,.Ltcp15+0\n"
-    ".reloc .Ltcp21+828,R_AARCH64_CALL26,.Ltcp15+0\n"
-    ".section .text.tcp.22,\"ax\",%progbits\n"
+    ".reloc .Ltcp22+348,R_AARCH64_CALL26,.Ltcp16+0\n"
+    ".reloc .Ltcp22+636,R_AARCH64_ADR_PREL_PG_HI21,.Ltcp0+1504\n"
+    ".reloc .Ltcp22+640,R_AARCH64_ADD_ABS_LO12_NC,.Ltcp0+1504\n"
+    ".reloc .Ltcp22+768,R_AARCH64_CALL26,.Ltcp16+0\n"
+    ".reloc .Ltcp22+796,R_AARCH64_CALL26,.Ltcp16+0\n"
+    ".reloc .Ltcp22+828,R_AARCH64_CALL26,.Ltcp16+0\n"
+    ".section .text.tcp.23,\"ax\",%progbits\n"
     ".balign 4\n"
-    ".Ltcp22:\n"
+    ".Ltcp23:\n"
     ".type \"std_alloc::string::String::write_fmt::<#b55cecdce663cb17>\",%function\n"
     ".size \"std_alloc::string::String::write_fmt::<#b55cecdce663cb17>\",888\n"
     "\"std_alloc::string::String::write_fmt::<#b55cecdce663cb17>\":\n"
@@ -10389,12 +10492,12 @@ __asm__(
     ".inst 0xaa1803e1,0xf94013f6,0xaa1903e2,0x17ffffb4,0xad4107e0,0xad0007e0,0xad000660,0xf9400668,0xb40001b4,0xeb08029f\n"
     ".inst 0x54000160,0xeb14011f,0x54000183,0xeb14011f,0x52800020,0x54fff609,0xf9400268,0x38f46908,0x3101051f,0x5400008c\n"
     ".inst 0x17ffffab,0xeb14011f,0x54000049,0xf9000674,0x52800020,0x17ffffa6\n"
-    ".reloc .Ltcp22+696,R_AARCH64_CALL26,.Ltcp15+0\n"
-    ".reloc .Ltcp22+724,R_AARCH64_CALL26,.Ltcp16+0\n"
-    ".reloc .Ltcp22+772,R_AARCH64_CALL26,.Ltcp15+0\n"
-    ".section .text.tcp.23,\"ax\",%progbits\n"
+    ".reloc .Ltcp23+696,R_AARCH64_CALL26,.Ltcp16+0\n"
+    ".reloc .Ltcp23+724,R_AARCH64_CALL26,.Ltcp17+0\n"
+    ".reloc .Ltcp23+772,R_AARCH64_CALL26,.Ltcp16+0\n"
+    ".section .text.tcp.24,\"ax\",%progbits\n"
     ".balign 4\n"
-    ".Ltcp23:\n"
+    ".Ltcp24:\n"
     ".type \"std_alloc::vec::Vec::grow_amortized::<#c6e8460222b7fe82>\",%function\n"
     ".size \"std_alloc::vec::Vec::grow_amortized::<#c6e8460222b7fe82>\",496\n"
     "\"std_alloc::vec::Vec::grow_amortized::<#c6e8460222b7fe82>\":\n"
@@ -10412,9 +10515,9 @@ __asm__(
     ".inst 0xaa1603e0,0x17ffffcd,0x927d0449,0x927be848,0x9100402a,0x9100426b,0x927be84c,0xad7f8540,0xf100818c,0x9100814a\n"
     ".inst 0xad3f8560,0x9100816b,0x54ffff61,0xeb08005f,0x54fff800,0xb4000149,0xaa0803e9,0x927df048,0xfc696820,0xfc296a60\n"
     ".inst 0x91002129,0xeb09011f,0x54ffff81,0xeb08005f,0x54fff6c0,0x38686829,0x38286a69,0x91000508,0x17fffffb\n"
-    ".section .text.tcp.24,\"ax\",%progbits\n"
+    ".section .text.tcp.25,\"ax\",%progbits\n"
     ".balign 4\n"
-    ".Ltcp24:\n"
+    ".Ltcp25:\n"
     ".type \"kit_script::script::read_script_bytes::<#244039bd4e0652a3>\",%function\n"
     ".size \"kit_script::script::read_script_bytes::<#244039bd4e0652a3>\",4880\n"
     "\"kit_script::script::read_script_bytes::<#244039bd4e0652a3>\":\n"
@@ -10540,58 +10643,58 @@ __asm__(
     ".inst 0x14000003,0xf94017eb,0xaa1f03e9,0x52800028,0xad4407e0,0xf9400fea,0x3dc02be2,0xa9002548,0xf9405be8,0x3c868140\n"
     ".inst 0x3c878141,0xad4207e0,0x3c888142,0x3dc00fe2,0xf900094b,0x3c828140,0xad430fe0,0x3c838141,0xf9004d48,0x3c848140\n"
     ".inst 0x3c858143,0x3c818142,0x910fc3ff,0xa9454ff4,0xa94457f6,0xa9435ff8,0xa94267fa,0xa9416ffc,0xa8c67bfd,0xd65f03c0\n"
-    ".reloc .Ltcp24+376,R_AARCH64_CALL26,.Ltcp2+0\n"
-    ".reloc .Ltcp24+424,R_AARCH64_ADR_PREL_PG_HI21,.Ltcp10+424\n"
-    ".reloc .Ltcp24+428,R_AARCH64_ADD_ABS_LO12_NC,.Ltcp10+424\n"
-    ".reloc .Ltcp24+452,R_AARCH64_CALL26,.Ltcp4+0\n"
-    ".reloc .Ltcp24+480,R_AARCH64_CALL26,.Ltcp1+0\n"
-    ".reloc .Ltcp24+604,R_AARCH64_ADR_PREL_PG_HI21,.Ltcp0+528\n"
-    ".reloc .Ltcp24+612,R_AARCH64_LDST128_ABS_LO12_NC,.Ltcp0+528\n"
-    ".reloc .Ltcp24+684,R_AARCH64_CALL26,.Ltcp2+0\n"
-    ".reloc .Ltcp24+728,R_AARCH64_ADR_PREL_PG_HI21,.Ltcp10+432\n"
-    ".reloc .Ltcp24+732,R_AARCH64_ADD_ABS_LO12_NC,.Ltcp10+432\n"
-    ".reloc .Ltcp24+748,R_AARCH64_CALL26,.Ltcp4+0\n"
-    ".reloc .Ltcp24+764,R_AARCH64_CALL26,.Ltcp1+0\n"
-    ".reloc .Ltcp24+872,R_AARCH64_ADR_PREL_PG_HI21,.Ltcp10+168\n"
-    ".reloc .Ltcp24+880,R_AARCH64_LDST64_ABS_LO12_NC,.Ltcp10+168\n"
-    ".reloc .Ltcp24+1104,R_AARCH64_CALL26,.Ltcp1+0\n"
-    ".reloc .Ltcp24+1324,R_AARCH64_CALL26,.Ltcp2+0\n"
-    ".reloc .Ltcp24+1404,R_AARCH64_ADR_PREL_PG_HI21,.Ltcp126+0\n"
-    ".reloc .Ltcp24+1408,R_AARCH64_ADD_ABS_LO12_NC,.Ltcp126+0\n"
-    ".reloc .Ltcp24+1424,R_AARCH64_CALL26,.Ltcp4+0\n"
-    ".reloc .Ltcp24+1508,R_AARCH64_CALL26,.Ltcp2+0\n"
-    ".reloc .Ltcp24+1584,R_AARCH64_ADR_PREL_PG_HI21,.Ltcp92+16\n"
-    ".reloc .Ltcp24+1588,R_AARCH64_ADD_ABS_LO12_NC,.Ltcp92+16\n"
-    ".reloc .Ltcp24+1600,R_AARCH64_CALL26,.Ltcp4+0\n"
-    ".reloc .Ltcp24+1760,R_AARCH64_ADR_PREL_PG_HI21,.Ltcp127+0\n"
-    ".reloc .Ltcp24+1764,R_AARCH64_ADD_ABS_LO12_NC,.Ltcp127+0\n"
-    ".reloc .Ltcp24+1780,R_AARCH64_CALL26,.Ltcp4+0\n"
-    ".reloc .Ltcp24+1888,R_AARCH64_CALL26,.Ltcp2+0\n"
-    ".reloc .Ltcp24+1980,R_AARCH64_CALL26,.Ltcp2+0\n"
-    ".reloc .Ltcp24+2140,R_AARCH64_CALL26,.Ltcp2+0\n"
-    ".reloc .Ltcp24+2200,R_AARCH64_ADR_PREL_PG_HI21,.Ltcp126+0\n"
-    ".reloc .Ltcp24+2204,R_AARCH64_ADD_ABS_LO12_NC,.Ltcp126+0\n"
-    ".reloc .Ltcp24+2220,R_AARCH64_CALL26,.Ltcp4+0\n"
-    ".reloc .Ltcp24+2304,R_AARCH64_CALL26,.Ltcp2+0\n"
-    ".reloc .Ltcp24+2456,R_AARCH64_CALL26,.Ltcp25+0\n"
-    ".reloc .Ltcp24+2812,R_AARCH64_CALL26,.Ltcp29+0\n"
-    ".reloc .Ltcp24+3004,R_AARCH64_CALL26,.Ltcp2+0\n"
-    ".reloc .Ltcp24+3268,R_AARCH64_CALL26,.Ltcp2+0\n"
-    ".reloc .Ltcp24+3340,R_AARCH64_ADR_PREL_PG_HI21,.Ltcp128+0\n"
-    ".reloc .Ltcp24+3344,R_AARCH64_ADD_ABS_LO12_NC,.Ltcp128+0\n"
-    ".reloc .Ltcp24+3364,R_AARCH64_CALL26,.Ltcp4+0\n"
-    ".reloc .Ltcp24+3564,R_AARCH64_CALL26,.Ltcp25+0\n"
-    ".reloc .Ltcp24+3656,R_AARCH64_CALL26,.Ltcp2+0\n"
-    ".reloc .Ltcp24+3732,R_AARCH64_CALL26,.Ltcp2+0\n"
-    ".reloc .Ltcp24+3800,R_AARCH64_CALL26,.Ltcp27+0\n"
-    ".reloc .Ltcp24+3900,R_AARCH64_CALL26,.Ltcp26+0\n"
-    ".reloc .Ltcp24+4176,R_AARCH64_ADR_PREL_PG_HI21,.Ltcp92+20\n"
-    ".reloc .Ltcp24+4180,R_AARCH64_ADD_ABS_LO12_NC,.Ltcp92+20\n"
-    ".reloc .Ltcp24+4200,R_AARCH64_CALL26,.Ltcp4+0\n"
-    ".reloc .Ltcp24+4660,R_AARCH64_CALL26,.Ltcp29+0\n"
-    ".section .text.tcp.25,\"ax\",%progbits\n"
+    ".reloc .Ltcp25+376,R_AARCH64_CALL26,.Ltcp2+0\n"
+    ".reloc .Ltcp25+424,R_AARCH64_ADR_PREL_PG_HI21,.Ltcp11+1128\n"
+    ".reloc .Ltcp25+428,R_AARCH64_ADD_ABS_LO12_NC,.Ltcp11+1128\n"
+    ".reloc .Ltcp25+452,R_AARCH64_CALL26,.Ltcp5+0\n"
+    ".reloc .Ltcp25+480,R_AARCH64_CALL26,.Ltcp1+0\n"
+    ".reloc .Ltcp25+604,R_AARCH64_ADR_PREL_PG_HI21,.Ltcp0+528\n"
+    ".reloc .Ltcp25+612,R_AARCH64_LDST128_ABS_LO12_NC,.Ltcp0+528\n"
+    ".reloc .Ltcp25+684,R_AARCH64_CALL26,.Ltcp2+0\n"
+    ".reloc .Ltcp25+728,R_AARCH64_ADR_PREL_PG_HI21,.Ltcp11+1136\n"
+    ".reloc .Ltcp25+732,R_AARCH64_ADD_ABS_LO12_NC,.Ltcp11+1136\n"
+    ".reloc .Ltcp25+748,R_AARCH64_CALL26,.Ltcp5+0\n"
+    ".reloc .Ltcp25+764,R_AARCH64_CALL26,.Ltcp1+0\n"
+    ".reloc .Ltcp25+872,R_AARCH64_ADR_PREL_PG_HI21,.Ltcp11+168\n"
+    ".reloc .Ltcp25+880,R_AARCH64_LDST64_ABS_LO12_NC,.Ltcp11+168\n"
+    ".reloc .Ltcp25+1104,R_AARCH64_CALL26,.Ltcp1+0\n"
+    ".reloc .Ltcp25+1324,R_AARCH64_CALL26,.Ltcp2+0\n"
+    ".reloc .Ltcp25+1404,R_AARCH64_ADR_PREL_PG_HI21,.Ltcp127+0\n"
+    ".reloc .Ltcp25+1408,R_AARCH64_ADD_ABS_LO12_NC,.Ltcp127+0\n"
+    ".reloc .Ltcp25+1424,R_AARCH64_CALL26,.Ltcp5+0\n"
+    ".reloc .Ltcp25+1508,R_AARCH64_CALL26,.Ltcp2+0\n"
+    ".reloc .Ltcp25+1584,R_AARCH64_ADR_PREL_PG_HI21,.Ltcp93+16\n"
+    ".reloc .Ltcp25+1588,R_AARCH64_ADD_ABS_LO12_NC,.Ltcp93+16\n"
+    ".reloc .Ltcp25+1600,R_AARCH64_CALL26,.Ltcp5+0\n"
+    ".reloc .Ltcp25+1760,R_AARCH64_ADR_PREL_PG_HI21,.Ltcp128+0\n"
+    ".reloc .Ltcp25+1764,R_AARCH64_ADD_ABS_LO12_NC,.Ltcp128+0\n"
+    ".reloc .Ltcp25+1780,R_AARCH64_CALL26,.Ltcp5+0\n"
+    ".reloc .Ltcp25+1888,R_AARCH64_CALL26,.Ltcp2+0\n"
+    ".reloc .Ltcp25+1980,R_AARCH64_CALL26,.Ltcp2+0\n"
+    ".reloc .Ltcp25+2140,R_AARCH64_CALL26,.Ltcp2+0\n"
+    ".reloc .Ltcp25+2200,R_AARCH64_ADR_PREL_PG_HI21,.Ltcp127+0\n"
+    ".reloc .Ltcp25+2204,R_AARCH64_ADD_ABS_LO12_NC,.Ltcp127+0\n"
+    ".reloc .Ltcp25+2220,R_AARCH64_CALL26,.Ltcp5+0\n"
+    ".reloc .Ltcp25+2304,R_AARCH64_CALL26,.Ltcp2+0\n"
+    ".reloc .Ltcp25+2456,R_AARCH64_CALL26,.Ltcp26+0\n"
+    ".reloc .Ltcp25+2812,R_AARCH64_CALL26,.Ltcp30+0\n"
+    ".reloc .Ltcp25+3004,R_AARCH64_CALL26,.Ltcp2+0\n"
+    ".reloc .Ltcp25+3268,R_AARCH64_CALL26,.Ltcp2+0\n"
+    ".reloc .Ltcp25+3340,R_AARCH64_ADR_PREL_PG_HI21,.Ltcp129+0\n"
+    ".reloc .Ltcp25+3344,R_AARCH64_ADD_ABS_LO12_NC,.Ltcp129+0\n"
+    ".reloc .Ltcp25+3364,R_AARCH64_CALL26,.Ltcp5+0\n"
+    ".reloc .Ltcp25+3564,R_AARCH64_CALL26,.Ltcp26+0\n"
+    ".reloc .Ltcp25+3656,R_AARCH64_CALL26,.Ltcp2+0\n"
+    ".reloc .Ltcp25+3732,R_AARCH64_CALL26,.Ltcp2+0\n"
+    ".reloc .Ltcp25+3800,R_AARCH64_CALL26,.Ltcp28+0\n"
+    ".reloc .Ltcp25+3900,R_AARCH64_CALL26,.Ltcp27+0\n"
+    ".reloc .Ltcp25+4176,R_AARCH64_ADR_PREL_PG_HI21,.Ltcp93+20\n"
+    ".reloc .Ltcp25+4180,R_AARCH64_ADD_ABS_LO12_NC,.Ltcp93+20\n"
+    ".reloc .Ltcp25+4200,R_AARCH64_CALL26,.Ltcp5+0\n"
+    ".reloc .Ltcp25+4660,R_AARCH64_CALL26,.Ltcp30+0\n"
+    ".section .text.tcp.26,\"ax\",%progbits\n"
     ".balign 4\n"
-    ".Ltcp25:\n"
+    ".Ltcp26:\n"
     ".type \"kit_script::events::read_event::<#244039bd4e0652a3>\",%function\n"
     ".size \"kit_script::events::read_event::<#244039bd4e0652a3>\",2840\n"
     "\"kit_script::events::read_event::<#244039bd4e0652a3>\":\n"
@@ -10666,53 +10769,53 @@ __asm__(
     ".inst 0xaa1803e0,0x528000e1,0x528000f6,0x94000000,0x360000e0,0xaa1f03e9,0x2a1f03ea,0x2a1f03eb,0xaa1f03e8,0x5280002c\n"
     ".inst 0x17ffffd5,0xaa1f03e9,0x2a1f03ea,0x2a1f03ee,0x2a1f03f6,0x2a1f03ed,0x2a1f03ec,0xaa1f03e8,0xf81f73bf,0x5280002b\n"
     ".inst 0xf81f03bf,0xf85f03af,0xf85f73b0,0xf9000bef,0xf80173f0,0xf9400bef,0xf84173f0,0xf90003ef,0xf80073f0,0x17fffe55\n"
-    ".reloc .Ltcp25+124,R_AARCH64_ADR_PREL_PG_HI21,.Ltcp134+0\n"
-    ".reloc .Ltcp25+128,R_AARCH64_ADD_ABS_LO12_NC,.Ltcp134+0\n"
-    ".reloc .Ltcp25+140,R_AARCH64_CALL26,.Ltcp4+0\n"
-    ".reloc .Ltcp25+232,R_AARCH64_ADR_PREL_PG_HI21,.Ltcp131+0\n"
-    ".reloc .Ltcp25+236,R_AARCH64_ADD_ABS_LO12_NC,.Ltcp131+0\n"
-    ".reloc .Ltcp25+248,R_AARCH64_CALL26,.Ltcp4+0\n"
-    ".reloc .Ltcp25+324,R_AARCH64_ADR_PREL_PG_HI21,.Ltcp92+24\n"
-    ".reloc .Ltcp25+328,R_AARCH64_ADD_ABS_LO12_NC,.Ltcp92+24\n"
-    ".reloc .Ltcp25+340,R_AARCH64_CALL26,.Ltcp4+0\n"
-    ".reloc .Ltcp25+416,R_AARCH64_ADR_PREL_PG_HI21,.Ltcp132+0\n"
-    ".reloc .Ltcp25+420,R_AARCH64_ADD_ABS_LO12_NC,.Ltcp132+0\n"
-    ".reloc .Ltcp25+432,R_AARCH64_CALL26,.Ltcp4+0\n"
-    ".reloc .Ltcp25+492,R_AARCH64_ADR_PREL_PG_HI21,.Ltcp133+0\n"
-    ".reloc .Ltcp25+496,R_AARCH64_ADD_ABS_LO12_NC,.Ltcp133+0\n"
-    ".reloc .Ltcp25+508,R_AARCH64_CALL26,.Ltcp4+0\n"
-    ".reloc .Ltcp25+568,R_AARCH64_ADR_PREL_PG_HI21,.Ltcp92+28\n"
-    ".reloc .Ltcp25+572,R_AARCH64_ADD_ABS_LO12_NC,.Ltcp92+28\n"
-    ".reloc .Ltcp25+584,R_AARCH64_CALL26,.Ltcp4+0\n"
-    ".reloc .Ltcp25+644,R_AARCH64_ADR_PREL_PG_HI21,.Ltcp141+0\n"
-    ".reloc .Ltcp25+648,R_AARCH64_ADD_ABS_LO12_NC,.Ltcp141+0\n"
-    ".reloc .Ltcp25+660,R_AARCH64_CALL26,.Ltcp4+0\n"
-    ".reloc .Ltcp25+720,R_AARCH64_ADR_PREL_PG_HI21,.Ltcp135+0\n"
-    ".reloc .Ltcp25+724,R_AARCH64_ADD_ABS_LO12_NC,.Ltcp135+0\n"
-    ".reloc .Ltcp25+736,R_AARCH64_CALL26,.Ltcp4+0\n"
-    ".reloc .Ltcp25+796,R_AARCH64_ADR_PREL_PG_HI21,.Ltcp137+0\n"
-    ".reloc .Ltcp25+800,R_AARCH64_ADD_ABS_LO12_NC,.Ltcp137+0\n"
-    ".reloc .Ltcp25+812,R_AARCH64_CALL26,.Ltcp4+0\n"
-    ".reloc .Ltcp25+872,R_AARCH64_ADR_PREL_PG_HI21,.Ltcp140+0\n"
-    ".reloc .Ltcp25+876,R_AARCH64_ADD_ABS_LO12_NC,.Ltcp140+0\n"
-    ".reloc .Ltcp25+888,R_AARCH64_CALL26,.Ltcp4+0\n"
-    ".reloc .Ltcp25+1028,R_AARCH64_CALL26,.Ltcp2+0\n"
-    ".reloc .Ltcp25+1276,R_AARCH64_CALL26,.Ltcp2+0\n"
-    ".reloc .Ltcp25+1560,R_AARCH64_ADR_PREL_PG_HI21,.Ltcp10+440\n"
-    ".reloc .Ltcp25+1564,R_AARCH64_ADD_ABS_LO12_NC,.Ltcp10+440\n"
-    ".reloc .Ltcp25+1576,R_AARCH64_CALL26,.Ltcp4+0\n"
-    ".reloc .Ltcp25+1672,R_AARCH64_CALL26,.Ltcp2+0\n"
-    ".reloc .Ltcp25+2112,R_AARCH64_CALL26,.Ltcp7+0\n"
-    ".reloc .Ltcp25+2284,R_AARCH64_CALL26,.Ltcp2+0\n"
-    ".reloc .Ltcp25+2640,R_AARCH64_ADR_PREL_PG_HI21,.Ltcp142+0\n"
-    ".reloc .Ltcp25+2644,R_AARCH64_ADD_ABS_LO12_NC,.Ltcp142+0\n"
-    ".reloc .Ltcp25+2656,R_AARCH64_CALL26,.Ltcp4+0\n"
-    ".reloc .Ltcp25+2712,R_AARCH64_ADR_PREL_PG_HI21,.Ltcp143+0\n"
-    ".reloc .Ltcp25+2716,R_AARCH64_ADD_ABS_LO12_NC,.Ltcp143+0\n"
-    ".reloc .Ltcp25+2732,R_AARCH64_CALL26,.Ltcp4+0\n"
-    ".section .text.tcp.26,\"ax\",%progbits\n"
+    ".reloc .Ltcp26+124,R_AARCH64_ADR_PREL_PG_HI21,.Ltcp135+0\n"
+    ".reloc .Ltcp26+128,R_AARCH64_ADD_ABS_LO12_NC,.Ltcp135+0\n"
+    ".reloc .Ltcp26+140,R_AARCH64_CALL26,.Ltcp5+0\n"
+    ".reloc .Ltcp26+232,R_AARCH64_ADR_PREL_PG_HI21,.Ltcp132+0\n"
+    ".reloc .Ltcp26+236,R_AARCH64_ADD_ABS_LO12_NC,.Ltcp132+0\n"
+    ".reloc .Ltcp26+248,R_AARCH64_CALL26,.Ltcp5+0\n"
+    ".reloc .Ltcp26+324,R_AARCH64_ADR_PREL_PG_HI21,.Ltcp93+24\n"
+    ".reloc .Ltcp26+328,R_AARCH64_ADD_ABS_LO12_NC,.Ltcp93+24\n"
+    ".reloc .Ltcp26+340,R_AARCH64_CALL26,.Ltcp5+0\n"
+    ".reloc .Ltcp26+416,R_AARCH64_ADR_PREL_PG_HI21,.Ltcp133+0\n"
+    ".reloc .Ltcp26+420,R_AARCH64_ADD_ABS_LO12_NC,.Ltcp133+0\n"
+    ".reloc .Ltcp26+432,R_AARCH64_CALL26,.Ltcp5+0\n"
+    ".reloc .Ltcp26+492,R_AARCH64_ADR_PREL_PG_HI21,.Ltcp134+0\n"
+    ".reloc .Ltcp26+496,R_AARCH64_ADD_ABS_LO12_NC,.Ltcp134+0\n"
+    ".reloc .Ltcp26+508,R_AARCH64_CALL26,.Ltcp5+0\n"
+    ".reloc .Ltcp26+568,R_AARCH64_ADR_PREL_PG_HI21,.Ltcp93+28\n"
+    ".reloc .Ltcp26+572,R_AARCH64_ADD_ABS_LO12_NC,.Ltcp93+28\n"
+    ".reloc .Ltcp26+584,R_AARCH64_CALL26,.Ltcp5+0\n"
+    ".reloc .Ltcp26+644,R_AARCH64_ADR_PREL_PG_HI21,.Ltcp142+0\n"
+    ".reloc .Ltcp26+648,R_AARCH64_ADD_ABS_LO12_NC,.Ltcp142+0\n"
+    ".reloc .Ltcp26+660,R_AARCH64_CALL26,.Ltcp5+0\n"
+    ".reloc .Ltcp26+720,R_AARCH64_ADR_PREL_PG_HI21,.Ltcp136+0\n"
+    ".reloc .Ltcp26+724,R_AARCH64_ADD_ABS_LO12_NC,.Ltcp136+0\n"
+    ".reloc .Ltcp26+736,R_AARCH64_CALL26,.Ltcp5+0\n"
+    ".reloc .Ltcp26+796,R_AARCH64_ADR_PREL_PG_HI21,.Ltcp138+0\n"
+    ".reloc .Ltcp26+800,R_AARCH64_ADD_ABS_LO12_NC,.Ltcp138+0\n"
+    ".reloc .Ltcp26+812,R_AARCH64_CALL26,.Ltcp5+0\n"
+    ".reloc .Ltcp26+872,R_AARCH64_ADR_PREL_PG_HI21,.Ltcp141+0\n"
+    ".reloc .Ltcp26+876,R_AARCH64_ADD_ABS_LO12_NC,.Ltcp141+0\n"
+    ".reloc .Ltcp26+888,R_AARCH64_CALL26,.Ltcp5+0\n"
+    ".reloc .Ltcp26+1028,R_AARCH64_CALL26,.Ltcp2+0\n"
+    ".reloc .Ltcp26+1276,R_AARCH64_CALL26,.Ltcp2+0\n"
+    ".reloc .Ltcp26+1560,R_AARCH64_ADR_PREL_PG_HI21,.Ltcp11+1144\n"
+    ".reloc .Ltcp26+1564,R_AARCH64_ADD_ABS_LO12_NC,.Ltcp11+1144\n"
+    ".reloc .Ltcp26+1576,R_AARCH64_CALL26,.Ltcp5+0\n"
+    ".reloc .Ltcp26+1672,R_AARCH64_CALL26,.Ltcp2+0\n"
+    ".reloc .Ltcp26+2112,R_AARCH64_CALL26,.Ltcp8+0\n"
+    ".reloc .Ltcp26+2284,R_AARCH64_CALL26,.Ltcp2+0\n"
+    ".reloc .Ltcp26+2640,R_AARCH64_ADR_PREL_PG_HI21,.Ltcp143+0\n"
+    ".reloc .Ltcp26+2644,R_AARCH64_ADD_ABS_LO12_NC,.Ltcp143+0\n"
+    ".reloc .Ltcp26+2656,R_AARCH64_CALL26,.Ltcp5+0\n"
+    ".reloc .Ltcp26+2712,R_AARCH64_ADR_PREL_PG_HI21,.Ltcp144+0\n"
+    ".reloc .Ltcp26+2716,R_AARCH64_ADD_ABS_LO12_NC,.Ltcp144+0\n"
+    ".reloc .Ltcp26+2732,R_AARCH64_CALL26,.Ltcp5+0\n"
+    ".section .text.tcp.27,\"ax\",%progbits\n"
     ".balign 4\n"
-    ".Ltcp26:\n"
+    ".Ltcp27:\n"
     ".type \"kit_script::line::repeat::<#2d4aa59632031e8a>\",%function\n"
     ".size \"kit_script::line::repeat::<#2d4aa59632031e8a>\",156\n"
     "\"kit_script::line::repeat::<#2d4aa59632031e8a>\":\n"
@@ -10720,9 +10823,9 @@ __asm__(
     ".inst 0xaa0b214a,0x3c9e0fe0,0xaa094149,0x5280008b,0xf9000bed,0x7900100b,0xb9000c01,0xa9012009,0x3d800800,0xa9037c0d\n"
     ".inst 0x910083ff,0xd65f03c0,0x2a0103ec,0x7100315f,0xcb0c03ed,0xeb0d011f,0x540000a8,0x8b0c010c,0xd100058c,0xd360fd8c\n"
     ".inst 0xb4fffd0c,0x6f00e400,0xf900001f,0x7900101f,0xb9003c1f,0x3c80c000,0x3c81c000,0x3c82c000,0xd65f03c0\n"
-    ".section .text.tcp.27,\"ax\",%progbits\n"
+    ".section .text.tcp.28,\"ax\",%progbits\n"
     ".balign 4\n"
-    ".Ltcp27:\n"
+    ".Ltcp28:\n"
     ".type \"kit_script::settings::read_setting\",%function\n"
     ".size \"kit_script::settings::read_setting\",1348\n"
     "\"kit_script::settings::read_setting\":\n"
@@ -10760,34 +10863,34 @@ __asm__(
     ".inst 0x540001e8,0x52800028,0x5280002a,0x5280008b,0x39002408,0x12001d28,0xf900000a,0x3900200b,0x79001408,0xb9000c1f\n"
     ".inst 0xf900081f,0xa9424ff4,0xf9400bf5,0xa8c37bfd,0xd65f03c0,0xa9007c1f,0xf900081f,0xa9424ff4,0xf9400bf5,0xa8c37bfd\n"
     ".inst 0xd65f03c0,0xa9007e7f,0xf9000a7f,0xa9424ff4,0xf9400bf5,0xa8c37bfd,0xd65f03c0\n"
-    ".reloc .Ltcp27+60,R_AARCH64_ADR_PREL_PG_HI21,.Ltcp144+0\n"
-    ".reloc .Ltcp27+64,R_AARCH64_ADD_ABS_LO12_NC,.Ltcp144+0\n"
-    ".reloc .Ltcp27+92,R_AARCH64_CALL26,.Ltcp4+0\n"
-    ".reloc .Ltcp27+156,R_AARCH64_ADR_PREL_PG_HI21,.Ltcp92+40\n"
-    ".reloc .Ltcp27+160,R_AARCH64_ADD_ABS_LO12_NC,.Ltcp92+40\n"
-    ".reloc .Ltcp27+172,R_AARCH64_CALL26,.Ltcp4+0\n"
-    ".reloc .Ltcp27+256,R_AARCH64_ADR_PREL_PG_HI21,.Ltcp92+24\n"
-    ".reloc .Ltcp27+260,R_AARCH64_ADD_ABS_LO12_NC,.Ltcp92+24\n"
-    ".reloc .Ltcp27+288,R_AARCH64_CALL26,.Ltcp4+0\n"
-    ".reloc .Ltcp27+812,R_AARCH64_ADR_PREL_PG_HI21,.Ltcp92+32\n"
-    ".reloc .Ltcp27+816,R_AARCH64_ADD_ABS_LO12_NC,.Ltcp92+32\n"
-    ".reloc .Ltcp27+844,R_AARCH64_CALL26,.Ltcp4+0\n"
-    ".reloc .Ltcp27+1036,R_AARCH64_ADR_PREL_PG_HI21,.Ltcp92+36\n"
-    ".reloc .Ltcp27+1040,R_AARCH64_ADD_ABS_LO12_NC,.Ltcp92+36\n"
-    ".reloc .Ltcp27+1068,R_AARCH64_CALL26,.Ltcp4+0\n"
-    ".reloc .Ltcp27+1092,R_AARCH64_CALL26,.Ltcp28+0\n"
-    ".section .text.tcp.28,\"ax\",%progbits\n"
+    ".reloc .Ltcp28+60,R_AARCH64_ADR_PREL_PG_HI21,.Ltcp145+0\n"
+    ".reloc .Ltcp28+64,R_AARCH64_ADD_ABS_LO12_NC,.Ltcp145+0\n"
+    ".reloc .Ltcp28+92,R_AARCH64_CALL26,.Ltcp5+0\n"
+    ".reloc .Ltcp28+156,R_AARCH64_ADR_PREL_PG_HI21,.Ltcp93+40\n"
+    ".reloc .Ltcp28+160,R_AARCH64_ADD_ABS_LO12_NC,.Ltcp93+40\n"
+    ".reloc .Ltcp28+172,R_AARCH64_CALL26,.Ltcp5+0\n"
+    ".reloc .Ltcp28+256,R_AARCH64_ADR_PREL_PG_HI21,.Ltcp93+24\n"
+    ".reloc .Ltcp28+260,R_AARCH64_ADD_ABS_LO12_NC,.Ltcp93+24\n"
+    ".reloc .Ltcp28+288,R_AARCH64_CALL26,.Ltcp5+0\n"
+    ".reloc .Ltcp28+812,R_AARCH64_ADR_PREL_PG_HI21,.Ltcp93+32\n"
+    ".reloc .Ltcp28+816,R_AARCH64_ADD_ABS_LO12_NC,.Ltcp93+32\n"
+    ".reloc .Ltcp28+844,R_AARCH64_CALL26,.Ltcp5+0\n"
+    ".reloc .Ltcp28+1036,R_AARCH64_ADR_PREL_PG_HI21,.Ltcp93+36\n"
+    ".reloc .Ltcp28+1040,R_AARCH64_ADD_ABS_LO12_NC,.Ltcp93+36\n"
+    ".reloc .Ltcp28+1068,R_AARCH64_CALL26,.Ltcp5+0\n"
+    ".reloc .Ltcp28+1092,R_AARCH64_CALL26,.Ltcp29+0\n"
+    ".section .text.tcp.29,\"ax\",%progbits\n"
     ".balign 4\n"
-    ".Ltcp28:\n"
+    ".Ltcp29:\n"
     ".type \"kit_script::settings::read_switch\",%function\n"
     ".size \"kit_script::settings::read_switch\",104\n"
     "\"kit_script::settings::read_switch\":\n"
     ".inst 0xf1000c3f,0x54000160,0xf100083f,0x54000281,0x39400008,0x7101bd1f,0x54000221,0x39400408,0x7101b91f,0x1a9f17e1\n"
     ".inst 0x2a0103e0,0xd65f03c0,0x39400008,0x7101bd1f,0x54000121,0x39400408,0x7101991f,0x540000c1,0x39400808,0x2a1f03e1\n"
     ".inst 0x7101991f,0x1a9f17e0,0xd65f03c0,0x2a1f03e1,0x2a1f03e0,0xd65f03c0\n"
-    ".section .text.tcp.29,\"ax\",%progbits\n"
+    ".section .text.tcp.30,\"ax\",%progbits\n"
     ".balign 4\n"
-    ".Ltcp29:\n"
+    ".Ltcp30:\n"
     ".type \"std_alloc::vec::Vec::grow_amortized::<#5773add98f13ddf0>\",%function\n"
     ".size \"std_alloc::vec::Vec::grow_amortized::<#5773add98f13ddf0>\",428\n"
     "\"std_alloc::vec::Vec::grow_amortized::<#5773add98f13ddf0>\":\n"
@@ -10804,9 +10907,9 @@ __asm__(
     ".inst 0xf900090a,0x17ffffd7,0xaa0003f6,0xaa1303e0\n"
     "bl memmove\n"
     ".inst 0xaa1603e0,0x17ffffd2\n"
-    ".section .text.tcp.30,\"ax\",%progbits\n"
+    ".section .text.tcp.31,\"ax\",%progbits\n"
     ".balign 4\n"
-    ".Ltcp30:\n"
+    ".Ltcp31:\n"
     ".type \"tcp_replay::party::Party::new_in::<#244039bd4e0652a3>\",%function\n"
     ".size \"tcp_replay::party::Party::new_in::<#244039bd4e0652a3>\",1836\n"
     "\"tcp_replay::party::Party::new_in::<#244039bd4e0652a3>\":\n"
@@ -10856,9 +10959,9 @@ __asm__(
     ".inst 0xf9000834,0xa9004c27,0xf940dbf3,0xb941bbf4,0x2a1f03e6,0xa9007c9f,0x52804316,0xf8096173,0xb941abf3,0x2a0303f5\n"
     ".inst 0xb809e174,0x79435bf4,0x2a0903f8,0xb901a3f3,0xaa0103f3,0x52800037,0x79034bf4,0xd348fc94,0xf900cbff,0x790333ff\n"
     ".inst 0xf9011fff,0xf9011bff,0xf90123ff,0xf90117ff,0xf90113ff,0xad000160,0xad010160,0xad020160,0x17fffe9f\n"
-    ".section .text.tcp.31,\"ax\",%progbits\n"
+    ".section .text.tcp.32,\"ax\",%progbits\n"
     ".balign 4\n"
-    ".Ltcp31:\n"
+    ".Ltcp32:\n"
     ".type \"kit_report::turns::push_turn_line::<#244039bd4e0652a3>\",%function\n"
     ".size \"kit_report::turns::push_turn_line::<#244039bd4e0652a3>\",7504\n"
     "\"kit_report::turns::push_turn_line::<#244039bd4e0652a3>\":\n"
@@ -11058,151 +11161,151 @@ __asm__(
     ".inst 0xad000660,0xf9400668,0xf94013e9,0xb40001c9,0xf94013e9,0xeb08013f,0x54000160,0xf94013e9,0xeb09011f,0x54ff7483\n"
     ".inst 0x54ff7469,0xf9400268,0xf94013e9,0x38e96908,0x3101051f,0x540000ac,0x17fffb9d,0xf94013e9,0xeb09011f,0x54ff7349\n"
     ".inst 0xf94013e8,0xf9000368,0x17fffb97\n"
-    ".reloc .Ltcp31+316,R_AARCH64_CALL26,.Ltcp32+0\n"
-    ".reloc .Ltcp31+596,R_AARCH64_ADR_PREL_PG_HI21,.Ltcp10+464\n"
-    ".reloc .Ltcp31+600,R_AARCH64_ADD_ABS_LO12_NC,.Ltcp10+464\n"
-    ".reloc .Ltcp31+628,R_AARCH64_ADR_PREL_PG_HI21,.Ltcp97+0\n"
-    ".reloc .Ltcp31+632,R_AARCH64_ADD_ABS_LO12_NC,.Ltcp97+0\n"
-    ".reloc .Ltcp31+692,R_AARCH64_CALL26,.Ltcp72+0\n"
-    ".reloc .Ltcp31+784,R_AARCH64_CALL26,.Ltcp79+0\n"
-    ".reloc .Ltcp31+868,R_AARCH64_CALL26,.Ltcp32+0\n"
-    ".reloc .Ltcp31+956,R_AARCH64_CALL26,.Ltcp66+0\n"
-    ".reloc .Ltcp31+976,R_AARCH64_CALL26,.Ltcp67+0\n"
-    ".reloc .Ltcp31+1056,R_AARCH64_CALL26,.Ltcp76+0\n"
-    ".reloc .Ltcp31+1160,R_AARCH64_CALL26,.Ltcp67+0\n"
-    ".reloc .Ltcp31+1228,R_AARCH64_ADR_PREL_PG_HI21,.Ltcp146+0\n"
-    ".reloc .Ltcp31+1232,R_AARCH64_ADD_ABS_LO12_NC,.Ltcp146+0\n"
-    ".reloc .Ltcp31+1360,R_AARCH64_ADR_PREL_PG_HI21,.Ltcp10+216\n"
-    ".reloc .Ltcp31+1364,R_AARCH64_LDST64_ABS_LO12_NC,.Ltcp10+216\n"
-    ".reloc .Ltcp31+1428,R_AARCH64_ADR_PREL_PG_HI21,.Ltcp146+0\n"
-    ".reloc .Ltcp31+1432,R_AARCH64_ADD_ABS_LO12_NC,.Ltcp146+0\n"
-    ".reloc .Ltcp31+1448,R_AARCH64_CALL26,.Ltcp69+0\n"
-    ".reloc .Ltcp31+1488,R_AARCH64_CALL26,.Ltcp66+0\n"
-    ".reloc .Ltcp31+1560,R_AARCH64_CALL26,.Ltcp75+0\n"
-    ".reloc .Ltcp31+1572,R_AARCH64_ADR_PREL_PG_HI21,.Ltcp165+0\n"
-    ".reloc .Ltcp31+1576,R_AARCH64_ADD_ABS_LO12_NC,.Ltcp165+0\n"
-    ".reloc .Ltcp31+1616,R_AARCH64_CALL26,.Ltcp80+0\n"
-    ".reloc .Ltcp31+1632,R_AARCH64_ADR_PREL_PG_HI21,.Ltcp10+464\n"
-    ".reloc .Ltcp31+1636,R_AARCH64_ADD_ABS_LO12_NC,.Ltcp10+464\n"
-    ".reloc .Ltcp31+1648,R_AARCH64_CALL26,.Ltcp70+0\n"
-    ".reloc .Ltcp31+1672,R_AARCH64_CALL26,.Ltcp77+0\n"
-    ".reloc .Ltcp31+1720,R_AARCH64_CALL26,.Ltcp72+0\n"
-    ".reloc .Ltcp31+1744,R_AARCH64_ADR_PREL_PG_HI21,.Ltcp164+0\n"
-    ".reloc .Ltcp31+1748,R_AARCH64_ADD_ABS_LO12_NC,.Ltcp164+0\n"
-    ".reloc .Ltcp31+1764,R_AARCH64_ADR_PREL_PG_HI21,.Ltcp94+0\n"
-    ".reloc .Ltcp31+1768,R_AARCH64_ADD_ABS_LO12_NC,.Ltcp94+0\n"
-    ".reloc .Ltcp31+1792,R_AARCH64_CALL26,.Ltcp81+0\n"
-    ".reloc .Ltcp31+1844,R_AARCH64_ADR_PREL_PG_HI21,.Ltcp151+0\n"
-    ".reloc .Ltcp31+1848,R_AARCH64_ADD_ABS_LO12_NC,.Ltcp151+0\n"
-    ".reloc .Ltcp31+1856,R_AARCH64_ADR_PREL_PG_HI21,.Ltcp150+0\n"
-    ".reloc .Ltcp31+1860,R_AARCH64_ADD_ABS_LO12_NC,.Ltcp150+0\n"
-    ".reloc .Ltcp31+1960,R_AARCH64_ADR_PREL_PG_HI21,.Ltcp95+0\n"
-    ".reloc .Ltcp31+1964,R_AARCH64_ADD_ABS_LO12_NC,.Ltcp95+0\n"
-    ".reloc .Ltcp31+2008,R_AARCH64_CALL26,.Ltcp75+0\n"
-    ".reloc .Ltcp31+2036,R_AARCH64_CALL26,.Ltcp77+0\n"
-    ".reloc .Ltcp31+2052,R_AARCH64_ADR_PREL_PG_HI21,.Ltcp97+0\n"
-    ".reloc .Ltcp31+2056,R_AARCH64_ADD_ABS_LO12_NC,.Ltcp97+0\n"
-    ".reloc .Ltcp31+2068,R_AARCH64_CALL26,.Ltcp70+0\n"
-    ".reloc .Ltcp31+2104,R_AARCH64_CALL26,.Ltcp77+0\n"
-    ".reloc .Ltcp31+2176,R_AARCH64_ADR_PREL_PG_HI21,.Ltcp153+0\n"
-    ".reloc .Ltcp31+2180,R_AARCH64_ADD_ABS_LO12_NC,.Ltcp153+0\n"
-    ".reloc .Ltcp31+2200,R_AARCH64_ADR_PREL_PG_HI21,.Ltcp10+184\n"
-    ".reloc .Ltcp31+2208,R_AARCH64_LDST64_ABS_LO12_NC,.Ltcp10+184\n"
-    ".reloc .Ltcp31+2252,R_AARCH64_ADR_PREL_PG_HI21,.Ltcp145+0\n"
-    ".reloc .Ltcp31+2256,R_AARCH64_ADD_ABS_LO12_NC,.Ltcp145+0\n"
-    ".reloc .Ltcp31+2332,R_AARCH64_ADR_PREL_PG_HI21,.Ltcp148+0\n"
-    ".reloc .Ltcp31+2336,R_AARCH64_ADD_ABS_LO12_NC,.Ltcp148+0\n"
-    ".reloc .Ltcp31+2356,R_AARCH64_ADR_PREL_PG_HI21,.Ltcp10+200\n"
-    ".reloc .Ltcp31+2364,R_AARCH64_LDST64_ABS_LO12_NC,.Ltcp10+200\n"
-    ".reloc .Ltcp31+2396,R_AARCH64_CALL26,.Ltcp77+0\n"
-    ".reloc .Ltcp31+2468,R_AARCH64_ADR_PREL_PG_HI21,.Ltcp154+0\n"
-    ".reloc .Ltcp31+2472,R_AARCH64_ADD_ABS_LO12_NC,.Ltcp154+0\n"
-    ".reloc .Ltcp31+2492,R_AARCH64_ADR_PREL_PG_HI21,.Ltcp10+176\n"
-    ".reloc .Ltcp31+2496,R_AARCH64_LDST64_ABS_LO12_NC,.Ltcp10+176\n"
-    ".reloc .Ltcp31+2536,R_AARCH64_ADR_PREL_PG_HI21,.Ltcp179+0\n"
-    ".reloc .Ltcp31+2540,R_AARCH64_ADD_ABS_LO12_NC,.Ltcp179+0\n"
-    ".reloc .Ltcp31+2556,R_AARCH64_ADR_PREL_PG_HI21,.Ltcp180+0\n"
-    ".reloc .Ltcp31+2560,R_AARCH64_ADD_ABS_LO12_NC,.Ltcp180+0\n"
-    ".reloc .Ltcp31+2628,R_AARCH64_CALL26,.Ltcp77+0\n"
-    ".reloc .Ltcp31+2656,R_AARCH64_ADR_PREL_PG_HI21,.Ltcp149+0\n"
-    ".reloc .Ltcp31+2660,R_AARCH64_ADD_ABS_LO12_NC,.Ltcp149+0\n"
-    ".reloc .Ltcp31+2712,R_AARCH64_ADR_PREL_PG_HI21,.Ltcp147+0\n"
-    ".reloc .Ltcp31+2716,R_AARCH64_ADD_ABS_LO12_NC,.Ltcp147+0\n"
-    ".reloc .Ltcp31+2736,R_AARCH64_ADR_PREL_PG_HI21,.Ltcp10+208\n"
-    ".reloc .Ltcp31+2740,R_AARCH64_LDST64_ABS_LO12_NC,.Ltcp10+208\n"
-    ".reloc .Ltcp31+2860,R_AARCH64_ADR_PREL_PG_HI21,.Ltcp179+0\n"
-    ".reloc .Ltcp31+2864,R_AARCH64_ADD_ABS_LO12_NC,.Ltcp179+0\n"
-    ".reloc .Ltcp31+2884,R_AARCH64_ADR_PREL_PG_HI21,.Ltcp180+0\n"
-    ".reloc .Ltcp31+2888,R_AARCH64_ADD_ABS_LO12_NC,.Ltcp180+0\n"
-    ".reloc .Ltcp31+3124,R_AARCH64_CALL26,.Ltcp21+0\n"
-    ".reloc .Ltcp31+3148,R_AARCH64_CALL26,.Ltcp77+0\n"
-    ".reloc .Ltcp31+3212,R_AARCH64_CALL26,.Ltcp77+0\n"
-    ".reloc .Ltcp31+3244,R_AARCH64_CALL26,.Ltcp77+0\n"
-    ".reloc .Ltcp31+3436,R_AARCH64_CALL26,.Ltcp77+0\n"
-    ".reloc .Ltcp31+3464,R_AARCH64_CALL26,.Ltcp77+0\n"
-    ".reloc .Ltcp31+3500,R_AARCH64_CALL26,.Ltcp77+0\n"
-    ".reloc .Ltcp31+3604,R_AARCH64_CALL26,.Ltcp78+0\n"
-    ".reloc .Ltcp31+3632,R_AARCH64_CALL26,.Ltcp77+0\n"
-    ".reloc .Ltcp31+3656,R_AARCH64_CALL26,.Ltcp8+0\n"
-    ".reloc .Ltcp31+3672,R_AARCH64_CALL26,.Ltcp77+0\n"
-    ".reloc .Ltcp31+3700,R_AARCH64_CALL26,.Ltcp77+0\n"
-    ".reloc .Ltcp31+3728,R_AARCH64_CALL26,.Ltcp77+0\n"
-    ".reloc .Ltcp31+4032,R_AARCH64_CALL26,.Ltcp77+0\n"
-    ".reloc .Ltcp31+4060,R_AARCH64_CALL26,.Ltcp77+0\n"
-    ".reloc .Ltcp31+4096,R_AARCH64_CALL26,.Ltcp77+0\n"
-    ".reloc .Ltcp31+4292,R_AARCH64_ADR_PREL_PG_HI21,.Ltcp152+0\n"
-    ".reloc .Ltcp31+4296,R_AARCH64_ADD_ABS_LO12_NC,.Ltcp152+0\n"
-    ".reloc .Ltcp31+4324,R_AARCH64_ADR_PREL_PG_HI21,.Ltcp10+192\n"
-    ".reloc .Ltcp31+4328,R_AARCH64_LDST64_ABS_LO12_NC,.Ltcp10+192\n"
-    ".reloc .Ltcp31+4376,R_AARCH64_ADR_PREL_PG_HI21,.Ltcp100+0\n"
-    ".reloc .Ltcp31+4380,R_AARCH64_ADD_ABS_LO12_NC,.Ltcp100+0\n"
-    ".reloc .Ltcp31+4424,R_AARCH64_ADR_PREL_PG_HI21,.Ltcp104+0\n"
-    ".reloc .Ltcp31+4428,R_AARCH64_ADD_ABS_LO12_NC,.Ltcp104+0\n"
-    ".reloc .Ltcp31+4464,R_AARCH64_ADR_PREL_PG_HI21,.Ltcp101+0\n"
-    ".reloc .Ltcp31+4468,R_AARCH64_ADD_ABS_LO12_NC,.Ltcp101+0\n"
-    ".reloc .Ltcp31+4492,R_AARCH64_ADR_PREL_PG_HI21,.Ltcp102+0\n"
-    ".reloc .Ltcp31+4496,R_AARCH64_ADD_ABS_LO12_NC,.Ltcp102+0\n"
-    ".reloc .Ltcp31+4516,R_AARCH64_ADR_PREL_PG_HI21,.Ltcp103+0\n"
-    ".reloc .Ltcp31+4520,R_AARCH64_ADD_ABS_LO12_NC,.Ltcp103+0\n"
-    ".reloc .Ltcp31+4556,R_AARCH64_ADR_PREL_PG_HI21,.Ltcp106+0\n"
-    ".reloc .Ltcp31+4560,R_AARCH64_ADD_ABS_LO12_NC,.Ltcp106+0\n"
-    ".reloc .Ltcp31+4592,R_AARCH64_ADR_PREL_PG_HI21,.Ltcp108+0\n"
-    ".reloc .Ltcp31+4596,R_AARCH64_ADD_ABS_LO12_NC,.Ltcp108+0\n"
-    ".reloc .Ltcp31+4612,R_AARCH64_ADR_PREL_PG_HI21,.Ltcp107+0\n"
-    ".reloc .Ltcp31+4616,R_AARCH64_ADD_ABS_LO12_NC,.Ltcp107+0\n"
-    ".reloc .Ltcp31+4624,R_AARCH64_ADR_PREL_PG_HI21,.Ltcp109+0\n"
-    ".reloc .Ltcp31+4628,R_AARCH64_ADD_ABS_LO12_NC,.Ltcp109+0\n"
-    ".reloc .Ltcp31+4652,R_AARCH64_ADR_PREL_PG_HI21,.Ltcp102+0\n"
-    ".reloc .Ltcp31+4656,R_AARCH64_ADD_ABS_LO12_NC,.Ltcp102+0\n"
-    ".reloc .Ltcp31+4684,R_AARCH64_ADR_PREL_PG_HI21,.Ltcp111+0\n"
-    ".reloc .Ltcp31+4688,R_AARCH64_ADD_ABS_LO12_NC,.Ltcp111+0\n"
-    ".reloc .Ltcp31+4696,R_AARCH64_ADR_PREL_PG_HI21,.Ltcp110+0\n"
-    ".reloc .Ltcp31+4700,R_AARCH64_ADD_ABS_LO12_NC,.Ltcp110+0\n"
-    ".reloc .Ltcp31+5048,R_AARCH64_CALL26,.Ltcp70+0\n"
-    ".reloc .Ltcp31+5204,R_AARCH64_CALL26,.Ltcp77+0\n"
-    ".reloc .Ltcp31+5240,R_AARCH64_ADR_PREL_PG_HI21,.Ltcp112+0\n"
-    ".reloc .Ltcp31+5244,R_AARCH64_ADD_ABS_LO12_NC,.Ltcp112+0\n"
-    ".reloc .Ltcp31+5256,R_AARCH64_CALL26,.Ltcp70+0\n"
-    ".reloc .Ltcp31+5280,R_AARCH64_CALL26,.Ltcp77+0\n"
-    ".reloc .Ltcp31+5300,R_AARCH64_ADR_PREL_PG_HI21,.Ltcp105+0\n"
-    ".reloc .Ltcp31+5304,R_AARCH64_ADD_ABS_LO12_NC,.Ltcp105+0\n"
-    ".reloc .Ltcp31+5452,R_AARCH64_CALL26,.Ltcp77+0\n"
-    ".reloc .Ltcp31+5476,R_AARCH64_CALL26,.Ltcp77+0\n"
-    ".reloc .Ltcp31+5600,R_AARCH64_ADR_PREL_PG_HI21,.Ltcp98+0\n"
-    ".reloc .Ltcp31+5604,R_AARCH64_ADD_ABS_LO12_NC,.Ltcp98+0\n"
-    ".reloc .Ltcp31+6936,R_AARCH64_CALL26,.Ltcp9+0\n"
-    ".reloc .Ltcp31+6980,R_AARCH64_CALL26,.Ltcp74+0\n"
-    ".reloc .Ltcp31+7052,R_AARCH64_CALL26,.Ltcp74+0\n"
-    ".reloc .Ltcp31+7088,R_AARCH64_CALL26,.Ltcp77+0\n"
-    ".reloc .Ltcp31+7292,R_AARCH64_CALL26,.Ltcp77+0\n"
-    ".reloc .Ltcp31+7316,R_AARCH64_CALL26,.Ltcp77+0\n"
-    ".reloc .Ltcp31+7336,R_AARCH64_ADR_PREL_PG_HI21,.Ltcp93+0\n"
-    ".reloc .Ltcp31+7340,R_AARCH64_ADD_ABS_LO12_NC,.Ltcp93+0\n"
-    ".reloc .Ltcp31+7352,R_AARCH64_CALL26,.Ltcp70+0\n"
-    ".reloc .Ltcp31+7388,R_AARCH64_CALL26,.Ltcp77+0\n"
-    ".section .text.tcp.32,\"ax\",%progbits\n"
+    ".reloc .Ltcp32+316,R_AARCH64_CALL26,.Ltcp33+0\n"
+    ".reloc .Ltcp32+596,R_AARCH64_ADR_PREL_PG_HI21,.Ltcp11+1168\n"
+    ".reloc .Ltcp32+600,R_AARCH64_ADD_ABS_LO12_NC,.Ltcp11+1168\n"
+    ".reloc .Ltcp32+628,R_AARCH64_ADR_PREL_PG_HI21,.Ltcp98+0\n"
+    ".reloc .Ltcp32+632,R_AARCH64_ADD_ABS_LO12_NC,.Ltcp98+0\n"
+    ".reloc .Ltcp32+692,R_AARCH64_CALL26,.Ltcp73+0\n"
+    ".reloc .Ltcp32+784,R_AARCH64_CALL26,.Ltcp80+0\n"
+    ".reloc .Ltcp32+868,R_AARCH64_CALL26,.Ltcp33+0\n"
+    ".reloc .Ltcp32+956,R_AARCH64_CALL26,.Ltcp67+0\n"
+    ".reloc .Ltcp32+976,R_AARCH64_CALL26,.Ltcp68+0\n"
+    ".reloc .Ltcp32+1056,R_AARCH64_CALL26,.Ltcp77+0\n"
+    ".reloc .Ltcp32+1160,R_AARCH64_CALL26,.Ltcp68+0\n"
+    ".reloc .Ltcp32+1228,R_AARCH64_ADR_PREL_PG_HI21,.Ltcp147+0\n"
+    ".reloc .Ltcp32+1232,R_AARCH64_ADD_ABS_LO12_NC,.Ltcp147+0\n"
+    ".reloc .Ltcp32+1360,R_AARCH64_ADR_PREL_PG_HI21,.Ltcp11+216\n"
+    ".reloc .Ltcp32+1364,R_AARCH64_LDST64_ABS_LO12_NC,.Ltcp11+216\n"
+    ".reloc .Ltcp32+1428,R_AARCH64_ADR_PREL_PG_HI21,.Ltcp147+0\n"
+    ".reloc .Ltcp32+1432,R_AARCH64_ADD_ABS_LO12_NC,.Ltcp147+0\n"
+    ".reloc .Ltcp32+1448,R_AARCH64_CALL26,.Ltcp70+0\n"
+    ".reloc .Ltcp32+1488,R_AARCH64_CALL26,.Ltcp67+0\n"
+    ".reloc .Ltcp32+1560,R_AARCH64_CALL26,.Ltcp76+0\n"
+    ".reloc .Ltcp32+1572,R_AARCH64_ADR_PREL_PG_HI21,.Ltcp166+0\n"
+    ".reloc .Ltcp32+1576,R_AARCH64_ADD_ABS_LO12_NC,.Ltcp166+0\n"
+    ".reloc .Ltcp32+1616,R_AARCH64_CALL26,.Ltcp81+0\n"
+    ".reloc .Ltcp32+1632,R_AARCH64_ADR_PREL_PG_HI21,.Ltcp11+1168\n"
+    ".reloc .Ltcp32+1636,R_AARCH64_ADD_ABS_LO12_NC,.Ltcp11+1168\n"
+    ".reloc .Ltcp32+1648,R_AARCH64_CALL26,.Ltcp71+0\n"
+    ".reloc .Ltcp32+1672,R_AARCH64_CALL26,.Ltcp78+0\n"
+    ".reloc .Ltcp32+1720,R_AARCH64_CALL26,.Ltcp73+0\n"
+    ".reloc .Ltcp32+1744,R_AARCH64_ADR_PREL_PG_HI21,.Ltcp165+0\n"
+    ".reloc .Ltcp32+1748,R_AARCH64_ADD_ABS_LO12_NC,.Ltcp165+0\n"
+    ".reloc .Ltcp32+1764,R_AARCH64_ADR_PREL_PG_HI21,.Ltcp95+0\n"
+    ".reloc .Ltcp32+1768,R_AARCH64_ADD_ABS_LO12_NC,.Ltcp95+0\n"
+    ".reloc .Ltcp32+1792,R_AARCH64_CALL26,.Ltcp82+0\n"
+    ".reloc .Ltcp32+1844,R_AARCH64_ADR_PREL_PG_HI21,.Ltcp152+0\n"
+    ".reloc .Ltcp32+1848,R_AARCH64_ADD_ABS_LO12_NC,.Ltcp152+0\n"
+    ".reloc .Ltcp32+1856,R_AARCH64_ADR_PREL_PG_HI21,.Ltcp151+0\n"
+    ".reloc .Ltcp32+1860,R_AARCH64_ADD_ABS_LO12_NC,.Ltcp151+0\n"
+    ".reloc .Ltcp32+1960,R_AARCH64_ADR_PREL_PG_HI21,.Ltcp96+0\n"
+    ".reloc .Ltcp32+1964,R_AARCH64_ADD_ABS_LO12_NC,.Ltcp96+0\n"
+    ".reloc .Ltcp32+2008,R_AARCH64_CALL26,.Ltcp76+0\n"
+    ".reloc .Ltcp32+2036,R_AARCH64_CALL26,.Ltcp78+0\n"
+    ".reloc .Ltcp32+2052,R_AARCH64_ADR_PREL_PG_HI21,.Ltcp98+0\n"
+    ".reloc .Ltcp32+2056,R_AARCH64_ADD_ABS_LO12_NC,.Ltcp98+0\n"
+    ".reloc .Ltcp32+2068,R_AARCH64_CALL26,.Ltcp71+0\n"
+    ".reloc .Ltcp32+2104,R_AARCH64_CALL26,.Ltcp78+0\n"
+    ".reloc .Ltcp32+2176,R_AARCH64_ADR_PREL_PG_HI21,.Ltcp154+0\n"
+    ".reloc .Ltcp32+2180,R_AARCH64_ADD_ABS_LO12_NC,.Ltcp154+0\n"
+    ".reloc .Ltcp32+2200,R_AARCH64_ADR_PREL_PG_HI21,.Ltcp11+184\n"
+    ".reloc .Ltcp32+2208,R_AARCH64_LDST64_ABS_LO12_NC,.Ltcp11+184\n"
+    ".reloc .Ltcp32+2252,R_AARCH64_ADR_PREL_PG_HI21,.Ltcp146+0\n"
+    ".reloc .Ltcp32+2256,R_AARCH64_ADD_ABS_LO12_NC,.Ltcp146+0\n"
+    ".reloc .Ltcp32+2332,R_AARCH64_ADR_PREL_PG_HI21,.Ltcp149+0\n"
+    ".reloc .Ltcp32+2336,R_AARCH64_ADD_ABS_LO12_NC,.Ltcp149+0\n"
+    ".reloc .Ltcp32+2356,R_AARCH64_ADR_PREL_PG_HI21,.Ltcp11+200\n"
+    ".reloc .Ltcp32+2364,R_AARCH64_LDST64_ABS_LO12_NC,.Ltcp11+200\n"
+    ".reloc .Ltcp32+2396,R_AARCH64_CALL26,.Ltcp78+0\n"
+    ".reloc .Ltcp32+2468,R_AARCH64_ADR_PREL_PG_HI21,.Ltcp155+0\n"
+    ".reloc .Ltcp32+2472,R_AARCH64_ADD_ABS_LO12_NC,.Ltcp155+0\n"
+    ".reloc .Ltcp32+2492,R_AARCH64_ADR_PREL_PG_HI21,.Ltcp11+176\n"
+    ".reloc .Ltcp32+2496,R_AARCH64_LDST64_ABS_LO12_NC,.Ltcp11+176\n"
+    ".reloc .Ltcp32+2536,R_AARCH64_ADR_PREL_PG_HI21,.Ltcp180+0\n"
+    ".reloc .Ltcp32+2540,R_AARCH64_ADD_ABS_LO12_NC,.Ltcp180+0\n"
+    ".reloc .Ltcp32+2556,R_AARCH64_ADR_PREL_PG_HI21,.Ltcp181+0\n"
+    ".reloc .Ltcp32+2560,R_AARCH64_ADD_ABS_LO12_NC,.Ltcp181+0\n"
+    ".reloc .Ltcp32+2628,R_AARCH64_CALL26,.Ltcp78+0\n"
+    ".reloc .Ltcp32+2656,R_AARCH64_ADR_PREL_PG_HI21,.Ltcp150+0\n"
+    ".reloc .Ltcp32+2660,R_AARCH64_ADD_ABS_LO12_NC,.Ltcp150+0\n"
+    ".reloc .Ltcp32+2712,R_AARCH64_ADR_PREL_PG_HI21,.Ltcp148+0\n"
+    ".reloc .Ltcp32+2716,R_AARCH64_ADD_ABS_LO12_NC,.Ltcp148+0\n"
+    ".reloc .Ltcp32+2736,R_AARCH64_ADR_PREL_PG_HI21,.Ltcp11+208\n"
+    ".reloc .Ltcp32+2740,R_AARCH64_LDST64_ABS_LO12_NC,.Ltcp11+208\n"
+    ".reloc .Ltcp32+2860,R_AARCH64_ADR_PREL_PG_HI21,.Ltcp180+0\n"
+    ".reloc .Ltcp32+2864,R_AARCH64_ADD_ABS_LO12_NC,.Ltcp180+0\n"
+    ".reloc .Ltcp32+2884,R_AARCH64_ADR_PREL_PG_HI21,.Ltcp181+0\n"
+    ".reloc .Ltcp32+2888,R_AARCH64_ADD_ABS_LO12_NC,.Ltcp181+0\n"
+    ".reloc .Ltcp32+3124,R_AARCH64_CALL26,.Ltcp22+0\n"
+    ".reloc .Ltcp32+3148,R_AARCH64_CALL26,.Ltcp78+0\n"
+    ".reloc .Ltcp32+3212,R_AARCH64_CALL26,.Ltcp78+0\n"
+    ".reloc .Ltcp32+3244,R_AARCH64_CALL26,.Ltcp78+0\n"
+    ".reloc .Ltcp32+3436,R_AARCH64_CALL26,.Ltcp78+0\n"
+    ".reloc .Ltcp32+3464,R_AARCH64_CALL26,.Ltcp78+0\n"
+    ".reloc .Ltcp32+3500,R_AARCH64_CALL26,.Ltcp78+0\n"
+    ".reloc .Ltcp32+3604,R_AARCH64_CALL26,.Ltcp79+0\n"
+    ".reloc .Ltcp32+3632,R_AARCH64_CALL26,.Ltcp78+0\n"
+    ".reloc .Ltcp32+3656,R_AARCH64_CALL26,.Ltcp9+0\n"
+    ".reloc .Ltcp32+3672,R_AARCH64_CALL26,.Ltcp78+0\n"
+    ".reloc .Ltcp32+3700,R_AARCH64_CALL26,.Ltcp78+0\n"
+    ".reloc .Ltcp32+3728,R_AARCH64_CALL26,.Ltcp78+0\n"
+    ".reloc .Ltcp32+4032,R_AARCH64_CALL26,.Ltcp78+0\n"
+    ".reloc .Ltcp32+4060,R_AARCH64_CALL26,.Ltcp78+0\n"
+    ".reloc .Ltcp32+4096,R_AARCH64_CALL26,.Ltcp78+0\n"
+    ".reloc .Ltcp32+4292,R_AARCH64_ADR_PREL_PG_HI21,.Ltcp153+0\n"
+    ".reloc .Ltcp32+4296,R_AARCH64_ADD_ABS_LO12_NC,.Ltcp153+0\n"
+    ".reloc .Ltcp32+4324,R_AARCH64_ADR_PREL_PG_HI21,.Ltcp11+192\n"
+    ".reloc .Ltcp32+4328,R_AARCH64_LDST64_ABS_LO12_NC,.Ltcp11+192\n"
+    ".reloc .Ltcp32+4376,R_AARCH64_ADR_PREL_PG_HI21,.Ltcp101+0\n"
+    ".reloc .Ltcp32+4380,R_AARCH64_ADD_ABS_LO12_NC,.Ltcp101+0\n"
+    ".reloc .Ltcp32+4424,R_AARCH64_ADR_PREL_PG_HI21,.Ltcp105+0\n"
+    ".reloc .Ltcp32+4428,R_AARCH64_ADD_ABS_LO12_NC,.Ltcp105+0\n"
+    ".reloc .Ltcp32+4464,R_AARCH64_ADR_PREL_PG_HI21,.Ltcp102+0\n"
+    ".reloc .Ltcp32+4468,R_AARCH64_ADD_ABS_LO12_NC,.Ltcp102+0\n"
+    ".reloc .Ltcp32+4492,R_AARCH64_ADR_PREL_PG_HI21,.Ltcp103+0\n"
+    ".reloc .Ltcp32+4496,R_AARCH64_ADD_ABS_LO12_NC,.Ltcp103+0\n"
+    ".reloc .Ltcp32+4516,R_AARCH64_ADR_PREL_PG_HI21,.Ltcp104+0\n"
+    ".reloc .Ltcp32+4520,R_AARCH64_ADD_ABS_LO12_NC,.Ltcp104+0\n"
+    ".reloc .Ltcp32+4556,R_AARCH64_ADR_PREL_PG_HI21,.Ltcp107+0\n"
+    ".reloc .Ltcp32+4560,R_AARCH64_ADD_ABS_LO12_NC,.Ltcp107+0\n"
+    ".reloc .Ltcp32+4592,R_AARCH64_ADR_PREL_PG_HI21,.Ltcp109+0\n"
+    ".reloc .Ltcp32+4596,R_AARCH64_ADD_ABS_LO12_NC,.Ltcp109+0\n"
+    ".reloc .Ltcp32+4612,R_AARCH64_ADR_PREL_PG_HI21,.Ltcp108+0\n"
+    ".reloc .Ltcp32+4616,R_AARCH64_ADD_ABS_LO12_NC,.Ltcp108+0\n"
+    ".reloc .Ltcp32+4624,R_AARCH64_ADR_PREL_PG_HI21,.Ltcp110+0\n"
+    ".reloc .Ltcp32+4628,R_AARCH64_ADD_ABS_LO12_NC,.Ltcp110+0\n"
+    ".reloc .Ltcp32+4652,R_AARCH64_ADR_PREL_PG_HI21,.Ltcp103+0\n"
+    ".reloc .Ltcp32+4656,R_AARCH64_ADD_ABS_LO12_NC,.Ltcp103+0\n"
+    ".reloc .Ltcp32+4684,R_AARCH64_ADR_PREL_PG_HI21,.Ltcp112+0\n"
+    ".reloc .Ltcp32+4688,R_AARCH64_ADD_ABS_LO12_NC,.Ltcp112+0\n"
+    ".reloc .Ltcp32+4696,R_AARCH64_ADR_PREL_PG_HI21,.Ltcp111+0\n"
+    ".reloc .Ltcp32+4700,R_AARCH64_ADD_ABS_LO12_NC,.Ltcp111+0\n"
+    ".reloc .Ltcp32+5048,R_AARCH64_CALL26,.Ltcp71+0\n"
+    ".reloc .Ltcp32+5204,R_AARCH64_CALL26,.Ltcp78+0\n"
+    ".reloc .Ltcp32+5240,R_AARCH64_ADR_PREL_PG_HI21,.Ltcp113+0\n"
+    ".reloc .Ltcp32+5244,R_AARCH64_ADD_ABS_LO12_NC,.Ltcp113+0\n"
+    ".reloc .Ltcp32+5256,R_AARCH64_CALL26,.Ltcp71+0\n"
+    ".reloc .Ltcp32+5280,R_AARCH64_CALL26,.Ltcp78+0\n"
+    ".reloc .Ltcp32+5300,R_AARCH64_ADR_PREL_PG_HI21,.Ltcp106+0\n"
+    ".reloc .Ltcp32+5304,R_AARCH64_ADD_ABS_LO12_NC,.Ltcp106+0\n"
+    ".reloc .Ltcp32+5452,R_AARCH64_CALL26,.Ltcp78+0\n"
+    ".reloc .Ltcp32+5476,R_AARCH64_CALL26,.Ltcp78+0\n"
+    ".reloc .Ltcp32+5600,R_AARCH64_ADR_PREL_PG_HI21,.Ltcp99+0\n"
+    ".reloc .Ltcp32+5604,R_AARCH64_ADD_ABS_LO12_NC,.Ltcp99+0\n"
+    ".reloc .Ltcp32+6936,R_AARCH64_CALL26,.Ltcp10+0\n"
+    ".reloc .Ltcp32+6980,R_AARCH64_CALL26,.Ltcp75+0\n"
+    ".reloc .Ltcp32+7052,R_AARCH64_CALL26,.Ltcp75+0\n"
+    ".reloc .Ltcp32+7088,R_AARCH64_CALL26,.Ltcp78+0\n"
+    ".reloc .Ltcp32+7292,R_AARCH64_CALL26,.Ltcp78+0\n"
+    ".reloc .Ltcp32+7316,R_AARCH64_CALL26,.Ltcp78+0\n"
+    ".reloc .Ltcp32+7336,R_AARCH64_ADR_PREL_PG_HI21,.Ltcp94+0\n"
+    ".reloc .Ltcp32+7340,R_AARCH64_ADD_ABS_LO12_NC,.Ltcp94+0\n"
+    ".reloc .Ltcp32+7352,R_AARCH64_CALL26,.Ltcp71+0\n"
+    ".reloc .Ltcp32+7388,R_AARCH64_CALL26,.Ltcp78+0\n"
+    ".section .text.tcp.33,\"ax\",%progbits\n"
     ".balign 4\n"
-    ".Ltcp32:\n"
+    ".Ltcp33:\n"
     ".type \"tcp_replay::world::step_at::<#092612425c726c7d>\",%function\n"
     ".size \"tcp_replay::world::step_at::<#092612425c726c7d>\",4980\n"
     "\"tcp_replay::world::step_at::<#092612425c726c7d>\":\n"
@@ -11336,46 +11439,46 @@ __asm__(
     ".inst 0xeb08027f,0x54ffeba0,0xb4ffbbea,0xaa0803ec,0x927df268,0xcb08018a,0x8b0c028b,0x8b0c012c,0xfc408560,0xb100214a\n"
     ".inst 0xfc2c6ae0,0x9100218c,0x54ffff81,0xeb08027f,0x54ffea00,0x17fffdd2,0xaa0003f7,0x91060060,0xaa1303e1,0xaa0303f5\n"
     ".inst 0x94000000,0x340000a0,0xaa1503e3,0xa958d6a9,0xaa1703e0,0x17fffdba,0xaa1f03e9,0x2a1f03e8,0xaa1703e0,0x17fffb90\n"
-    ".reloc .Ltcp32+12,R_AARCH64_ADR_PREL_PG_HI21,.Ltcp33+0\n"
-    ".reloc .Ltcp32+16,R_AARCH64_ADD_ABS_LO12_NC,.Ltcp33+0\n"
-    ".reloc .Ltcp32+92,R_AARCH64_ADR_PREL_PG_HI21,.Ltcp0+544\n"
-    ".reloc .Ltcp32+104,R_AARCH64_LDST128_ABS_LO12_NC,.Ltcp0+544\n"
-    ".reloc .Ltcp32+580,R_AARCH64_ADR_PREL_PG_HI21,.Ltcp95+0\n"
-    ".reloc .Ltcp32+584,R_AARCH64_ADD_ABS_LO12_NC,.Ltcp95+0\n"
-    ".reloc .Ltcp32+892,R_AARCH64_CALL26,.Ltcp39+0\n"
-    ".reloc .Ltcp32+1096,R_AARCH64_CALL26,.Ltcp37+0\n"
-    ".reloc .Ltcp32+1524,R_AARCH64_CALL26,.Ltcp49+0\n"
-    ".reloc .Ltcp32+1924,R_AARCH64_ADR_PREL_PG_HI21,.Ltcp95+0\n"
-    ".reloc .Ltcp32+1928,R_AARCH64_ADD_ABS_LO12_NC,.Ltcp95+0\n"
-    ".reloc .Ltcp32+1988,R_AARCH64_ADR_PREL_PG_HI21,.Ltcp95+0\n"
-    ".reloc .Ltcp32+1992,R_AARCH64_ADD_ABS_LO12_NC,.Ltcp95+0\n"
-    ".reloc .Ltcp32+2020,R_AARCH64_CALL26,.Ltcp34+0\n"
-    ".reloc .Ltcp32+2060,R_AARCH64_CALL26,.Ltcp34+0\n"
-    ".reloc .Ltcp32+3756,R_AARCH64_CALL26,.Ltcp37+0\n"
-    ".reloc .Ltcp32+4072,R_AARCH64_CALL26,.Ltcp34+0\n"
-    ".reloc .Ltcp32+4124,R_AARCH64_CALL26,.Ltcp34+0\n"
-    ".reloc .Ltcp32+4256,R_AARCH64_CALL26,.Ltcp36+0\n"
-    ".reloc .Ltcp32+4520,R_AARCH64_CALL26,.Ltcp49+0\n"
-    ".reloc .Ltcp32+4940,R_AARCH64_CALL26,.Ltcp34+0\n"
-    ".section .rodata.tcp.33,\"a\",%progbits\n"
+    ".reloc .Ltcp33+12,R_AARCH64_ADR_PREL_PG_HI21,.Ltcp34+0\n"
+    ".reloc .Ltcp33+16,R_AARCH64_ADD_ABS_LO12_NC,.Ltcp34+0\n"
+    ".reloc .Ltcp33+92,R_AARCH64_ADR_PREL_PG_HI21,.Ltcp0+544\n"
+    ".reloc .Ltcp33+104,R_AARCH64_LDST128_ABS_LO12_NC,.Ltcp0+544\n"
+    ".reloc .Ltcp33+580,R_AARCH64_ADR_PREL_PG_HI21,.Ltcp96+0\n"
+    ".reloc .Ltcp33+584,R_AARCH64_ADD_ABS_LO12_NC,.Ltcp96+0\n"
+    ".reloc .Ltcp33+892,R_AARCH64_CALL26,.Ltcp40+0\n"
+    ".reloc .Ltcp33+1096,R_AARCH64_CALL26,.Ltcp38+0\n"
+    ".reloc .Ltcp33+1524,R_AARCH64_CALL26,.Ltcp50+0\n"
+    ".reloc .Ltcp33+1924,R_AARCH64_ADR_PREL_PG_HI21,.Ltcp96+0\n"
+    ".reloc .Ltcp33+1928,R_AARCH64_ADD_ABS_LO12_NC,.Ltcp96+0\n"
+    ".reloc .Ltcp33+1988,R_AARCH64_ADR_PREL_PG_HI21,.Ltcp96+0\n"
+    ".reloc .Ltcp33+1992,R_AARCH64_ADD_ABS_LO12_NC,.Ltcp96+0\n"
+    ".reloc .Ltcp33+2020,R_AARCH64_CALL26,.Ltcp35+0\n"
+    ".reloc .Ltcp33+2060,R_AARCH64_CALL26,.Ltcp35+0\n"
+    ".reloc .Ltcp33+3756,R_AARCH64_CALL26,.Ltcp38+0\n"
+    ".reloc .Ltcp33+4072,R_AARCH64_CALL26,.Ltcp35+0\n"
+    ".reloc .Ltcp33+4124,R_AARCH64_CALL26,.Ltcp35+0\n"
+    ".reloc .Ltcp33+4256,R_AARCH64_CALL26,.Ltcp37+0\n"
+    ".reloc .Ltcp33+4520,R_AARCH64_CALL26,.Ltcp50+0\n"
+    ".reloc .Ltcp33+4940,R_AARCH64_CALL26,.Ltcp35+0\n"
+    ".section .rodata.tcp.34,\"a\",%progbits\n"
     ".balign 1\n"
-    ".Ltcp33:\n"
+    ".Ltcp34:\n"
     ".quad 0x83aea92565519f00\n"
     ".long 0x12b24bc9\n"
     ".byte 0x32\n"
-    ".section .text.tcp.34,\"ax\",%progbits\n"
+    ".section .text.tcp.35,\"ax\",%progbits\n"
     ".balign 4\n"
-    ".Ltcp34:\n"
+    ".Ltcp35:\n"
     ".type \"std_alloc::vec::Vec::grow_amortized::<#1c00de6245c6bd34>\",%function\n"
     ".size \"std_alloc::vec::Vec::grow_amortized::<#1c00de6245c6bd34>\",84\n"
     "\"std_alloc::vec::Vec::grow_amortized::<#1c00de6245c6bd34>\":\n"
     ".inst 0xf9400408,0xab01011f,0x54000063,0x2a1f03e0,0xd65f03c0,0xa9bf7bfd,0xf9400809,0x8b010108,0x5280010a,0xf100211f\n"
     ".inst 0x910003fd,0xd37ff92b,0x9a8a8108,0xd37efd29,0xeb0b011f,0x9a8b810a,0xf100013f,0x9a880141,0x94000000,0xa8c17bfd\n"
     ".inst 0xd65f03c0\n"
-    ".reloc .Ltcp34+72,R_AARCH64_CALL26,.Ltcp35+0\n"
-    ".section .text.tcp.35,\"ax\",%progbits\n"
+    ".reloc .Ltcp35+72,R_AARCH64_CALL26,.Ltcp36+0\n"
+    ".section .text.tcp.36,\"ax\",%progbits\n"
     ".balign 4\n"
-    ".Ltcp35:\n"
+    ".Ltcp36:\n"
     ".type \"std_alloc::vec::Vec::move_to::<#1c00de6245c6bd34>\",%function\n"
     ".size \"std_alloc::vec::Vec::move_to::<#1c00de6245c6bd34>\",452\n"
     "\"std_alloc::vec::Vec::move_to::<#1c00de6245c6bd34>\":\n"
@@ -11392,9 +11495,9 @@ __asm__(
     ".inst 0xaa1503e0,0xaa1603e1,0x17ffffca,0x927d044a,0x927be849,0x9100410b,0x9100426c,0x927be84d,0xad7f8560,0xf10081ad\n"
     ".inst 0x9100816b,0xad3f8580,0x9100818c,0x54ffff61,0xeb09005f,0x54fff7a0,0xb400014a,0xaa0903ea,0x927df049,0xfc6a6900\n"
     ".inst 0xfc2a6a60,0x9100214a,0xeb0a013f,0x54ffff81,0xeb09005f,0x54fff660,0x3869690a,0x38296a6a,0x91000529,0x17fffffb\n"
-    ".section .text.tcp.36,\"ax\",%progbits\n"
+    ".section .text.tcp.37,\"ax\",%progbits\n"
     ".balign 4\n"
-    ".Ltcp36:\n"
+    ".Ltcp37:\n"
     ".type \"tcp_reasm::ring::copy_behind\",%function\n"
     ".size \"tcp_reasm::ring::copy_behind\",324\n"
     "\"tcp_reasm::ring::copy_behind\":\n"
@@ -11409,9 +11512,9 @@ __asm__(
     ".inst 0x927d06aa,0x927beaa9,0x9100416b,0x9100426c,0x927beaad,0xad7f8560,0xf10081ad,0x9100816b,0xad3f8580,0x9100818c\n"
     ".inst 0x54ffff61,0xeb0902bf,0x54fffc00,0xb4fffa6a,0xaa0903ec,0x927df2a9,0x8b08018b,0xcb09018a,0x8b0c026c,0x8b0b000b\n"
     ".inst 0xfc408560,0xb100214a,0xfc008580,0x54ffffa1,0xeb0902bf,0x54fffa60,0x17ffffc6\n"
-    ".section .text.tcp.37,\"ax\",%progbits\n"
+    ".section .text.tcp.38,\"ax\",%progbits\n"
     ".balign 4\n"
-    ".Ltcp37:\n"
+    ".Ltcp38:\n"
     ".type \"tcp_sendq::queue::SendQueue::release::<#4d7786d65df9050b>\",%function\n"
     ".size \"tcp_sendq::queue::SendQueue::release::<#4d7786d65df9050b>\",408\n"
     "\"tcp_sendq::queue::SendQueue::release::<#4d7786d65df9050b>\":\n"
@@ -11426,10 +11529,10 @@ __asm__(
     ".inst 0xaa1f03ea,0xd341fd2b,0x8b0a016c,0xcb0b0129,0x8b0c0d0d,0xb94005ad,0x6b1301bf,0x9a8c814a,0xf100053f,0x54ffff08\n"
     ".inst 0x8b0a0d08,0xaa0003f4,0x9100c000,0xaa1f03e1,0xb9400508,0x6b13011f,0x9a8a8542,0x94000000,0xb9002e93,0xa9414ff4\n"
     ".inst 0xa8c27bfd,0xd65f03c0\n"
-    ".reloc .Ltcp37+388,R_AARCH64_CALL26,.Ltcp38+0\n"
-    ".section .text.tcp.38,\"ax\",%progbits\n"
+    ".reloc .Ltcp38+388,R_AARCH64_CALL26,.Ltcp39+0\n"
+    ".section .text.tcp.39,\"ax\",%progbits\n"
     ".balign 4\n"
-    ".Ltcp38:\n"
+    ".Ltcp39:\n"
     ".type \"tcp_sendq::marks::Marks::remove_range::<#4d7786d65df9050b>\",%function\n"
     ".size \"tcp_sendq::marks::Marks::remove_range::<#4d7786d65df9050b>\",812\n"
     "\"tcp_sendq::marks::Marks::remove_range::<#4d7786d65df9050b>\":\n"
@@ -11454,9 +11557,9 @@ __asm__(
     ".inst 0x8b0b0d0c,0xf85f818b,0xd100418c,0xf10005ad,0xf81f858b,0x54ffffc1,0x1400000e,0xaa1f03ef,0x8b0101ec,0xd10041cd\n"
     ".inst 0xcb0c0dae,0xcb0f0dad,0xcb0b018b,0x9100056b,0x8b0e010c,0x8b0d010d,0xf85f858e,0xb100056b,0xf81f85ae,0x54ffffa3\n"
     ".inst 0xa9002808,0xf9000809,0xd65f03c0\n"
-    ".section .text.tcp.39,\"ax\",%progbits\n"
+    ".section .text.tcp.40,\"ax\",%progbits\n"
     ".balign 4\n"
-    ".Ltcp39:\n"
+    ".Ltcp40:\n"
     ".type \"tcp_replay::party::Party::emit::<#244039bd4e0652a3>\",%function\n"
     ".size \"tcp_replay::party::Party::emit::<#244039bd4e0652a3>\",3680\n"
     "\"tcp_replay::party::Party::emit::<#244039bd4e0652a3>\":\n"
@@ -11556,35 +11659,35 @@ __asm__(
     ".inst 0xb9403688,0xb940029c,0xd100a3a0,0xd10303a1,0x9103c3e4,0x52800062,0xaa1f03e3,0xb9000fe8,0x94000000,0xaa0003fb\n"
     ".inst 0xb9400fe1,0xf9400fe5,0x9103c3e2,0x2a1c03e0,0xaa1b03e3,0xaa1a03e4,0xaa1703e6,0xaa1803e7,0x94000000,0x5ac00808\n"
     ".inst 0xf9400fea,0xaa1703eb,0x53107d08,0x790203e8,0x17fffcb6\n"
-    ".reloc .Ltcp39+136,R_AARCH64_CALL26,.Ltcp40+0\n"
-    ".reloc .Ltcp39+256,R_AARCH64_CALL26,.Ltcp42+0\n"
-    ".reloc .Ltcp39+280,R_AARCH64_CALL26,.Ltcp44+0\n"
-    ".reloc .Ltcp39+288,R_AARCH64_ADR_PREL_PG_HI21,.Ltcp95+0\n"
-    ".reloc .Ltcp39+292,R_AARCH64_ADD_ABS_LO12_NC,.Ltcp95+0\n"
-    ".reloc .Ltcp39+744,R_AARCH64_CALL26,.Ltcp47+0\n"
-    ".reloc .Ltcp39+948,R_AARCH64_CALL26,.Ltcp46+0\n"
-    ".reloc .Ltcp39+1072,R_AARCH64_CALL26,.Ltcp41+0\n"
-    ".reloc .Ltcp39+1592,R_AARCH64_CALL26,.Ltcp34+0\n"
-    ".reloc .Ltcp39+1936,R_AARCH64_ADR_PREL_PG_HI21,.Ltcp95+0\n"
-    ".reloc .Ltcp39+1940,R_AARCH64_ADD_ABS_LO12_NC,.Ltcp95+0\n"
-    ".reloc .Ltcp39+2052,R_AARCH64_CALL26,.Ltcp34+0\n"
-    ".reloc .Ltcp39+2348,R_AARCH64_CALL26,.Ltcp47+0\n"
-    ".reloc .Ltcp39+2856,R_AARCH64_ADR_PREL_PG_HI21,.Ltcp95+0\n"
-    ".reloc .Ltcp39+2860,R_AARCH64_ADD_ABS_LO12_NC,.Ltcp95+0\n"
-    ".reloc .Ltcp39+2876,R_AARCH64_ADR_PREL_PG_HI21,.Ltcp95+0\n"
-    ".reloc .Ltcp39+2880,R_AARCH64_ADD_ABS_LO12_NC,.Ltcp95+0\n"
-    ".reloc .Ltcp39+2980,R_AARCH64_CALL26,.Ltcp48+0\n"
-    ".reloc .Ltcp39+3340,R_AARCH64_ADR_PREL_PG_HI21,.Ltcp95+0\n"
-    ".reloc .Ltcp39+3344,R_AARCH64_ADD_ABS_LO12_NC,.Ltcp95+0\n"
-    ".reloc .Ltcp39+3500,R_AARCH64_ADR_PREL_PG_HI21,.Ltcp95+0\n"
-    ".reloc .Ltcp39+3504,R_AARCH64_ADD_ABS_LO12_NC,.Ltcp95+0\n"
-    ".reloc .Ltcp39+3564,R_AARCH64_ADR_PREL_PG_HI21,.Ltcp95+0\n"
-    ".reloc .Ltcp39+3568,R_AARCH64_ADD_ABS_LO12_NC,.Ltcp95+0\n"
-    ".reloc .Ltcp39+3612,R_AARCH64_CALL26,.Ltcp43+0\n"
-    ".reloc .Ltcp39+3652,R_AARCH64_CALL26,.Ltcp48+0\n"
-    ".section .text.tcp.40,\"ax\",%progbits\n"
+    ".reloc .Ltcp40+136,R_AARCH64_CALL26,.Ltcp41+0\n"
+    ".reloc .Ltcp40+256,R_AARCH64_CALL26,.Ltcp43+0\n"
+    ".reloc .Ltcp40+280,R_AARCH64_CALL26,.Ltcp45+0\n"
+    ".reloc .Ltcp40+288,R_AARCH64_ADR_PREL_PG_HI21,.Ltcp96+0\n"
+    ".reloc .Ltcp40+292,R_AARCH64_ADD_ABS_LO12_NC,.Ltcp96+0\n"
+    ".reloc .Ltcp40+744,R_AARCH64_CALL26,.Ltcp48+0\n"
+    ".reloc .Ltcp40+948,R_AARCH64_CALL26,.Ltcp47+0\n"
+    ".reloc .Ltcp40+1072,R_AARCH64_CALL26,.Ltcp42+0\n"
+    ".reloc .Ltcp40+1592,R_AARCH64_CALL26,.Ltcp35+0\n"
+    ".reloc .Ltcp40+1936,R_AARCH64_ADR_PREL_PG_HI21,.Ltcp96+0\n"
+    ".reloc .Ltcp40+1940,R_AARCH64_ADD_ABS_LO12_NC,.Ltcp96+0\n"
+    ".reloc .Ltcp40+2052,R_AARCH64_CALL26,.Ltcp35+0\n"
+    ".reloc .Ltcp40+2348,R_AARCH64_CALL26,.Ltcp48+0\n"
+    ".reloc .Ltcp40+2856,R_AARCH64_ADR_PREL_PG_HI21,.Ltcp96+0\n"
+    ".reloc .Ltcp40+2860,R_AARCH64_ADD_ABS_LO12_NC,.Ltcp96+0\n"
+    ".reloc .Ltcp40+2876,R_AARCH64_ADR_PREL_PG_HI21,.Ltcp96+0\n"
+    ".reloc .Ltcp40+2880,R_AARCH64_ADD_ABS_LO12_NC,.Ltcp96+0\n"
+    ".reloc .Ltcp40+2980,R_AARCH64_CALL26,.Ltcp49+0\n"
+    ".reloc .Ltcp40+3340,R_AARCH64_ADR_PREL_PG_HI21,.Ltcp96+0\n"
+    ".reloc .Ltcp40+3344,R_AARCH64_ADD_ABS_LO12_NC,.Ltcp96+0\n"
+    ".reloc .Ltcp40+3500,R_AARCH64_ADR_PREL_PG_HI21,.Ltcp96+0\n"
+    ".reloc .Ltcp40+3504,R_AARCH64_ADD_ABS_LO12_NC,.Ltcp96+0\n"
+    ".reloc .Ltcp40+3564,R_AARCH64_ADR_PREL_PG_HI21,.Ltcp96+0\n"
+    ".reloc .Ltcp40+3568,R_AARCH64_ADD_ABS_LO12_NC,.Ltcp96+0\n"
+    ".reloc .Ltcp40+3612,R_AARCH64_CALL26,.Ltcp44+0\n"
+    ".reloc .Ltcp40+3652,R_AARCH64_CALL26,.Ltcp49+0\n"
+    ".section .text.tcp.41,\"ax\",%progbits\n"
     ".balign 4\n"
-    ".Ltcp40:\n"
+    ".Ltcp41:\n"
     ".type \"tcp_replay::growth::emit_alone::<#b999dbadf68999a9>\",%function\n"
     ".size \"tcp_replay::growth::emit_alone::<#b999dbadf68999a9>\",808\n"
     "\"tcp_replay::growth::emit_alone::<#b999dbadf68999a9>\":\n"
@@ -11612,11 +11715,11 @@ __asm__(
     "bl memcpy\n"
     ".inst 0x52800028,0x790002df,0xf90006c8,0x29027ed5,0xa901ced4,0xa902ded3,0x911843ff,0xa9434ff4,0xa94257f6,0xa9415ffc\n"
     ".inst 0xa8c47bfd,0xd65f03c0\n"
-    ".reloc .Ltcp40+368,R_AARCH64_CALL26,.Ltcp46+0\n"
-    ".reloc .Ltcp40+444,R_AARCH64_CALL26,.Ltcp41+0\n"
-    ".section .text.tcp.41,\"ax\",%progbits\n"
+    ".reloc .Ltcp41+368,R_AARCH64_CALL26,.Ltcp47+0\n"
+    ".reloc .Ltcp41+444,R_AARCH64_CALL26,.Ltcp42+0\n"
+    ".section .text.tcp.42,\"ax\",%progbits\n"
     ".balign 4\n"
-    ".Ltcp41:\n"
+    ".Ltcp42:\n"
     ".type \"std_alloc::vec::Vec::grow_amortized::<#d48bdf10996749c1>\",%function\n"
     ".size \"std_alloc::vec::Vec::grow_amortized::<#d48bdf10996749c1>\",428\n"
     "\"std_alloc::vec::Vec::grow_amortized::<#d48bdf10996749c1>\":\n"
@@ -11633,9 +11736,9 @@ __asm__(
     ".inst 0xf900090a,0x17ffffd7,0xaa0003f6,0xaa1303e0\n"
     "bl memmove\n"
     ".inst 0xaa1603e0,0x17ffffd2\n"
-    ".section .text.tcp.42,\"ax\",%progbits\n"
+    ".section .text.tcp.43,\"ax\",%progbits\n"
     ".balign 4\n"
-    ".Ltcp42:\n"
+    ".Ltcp43:\n"
     ".type \"tcp_conn::endpoint::Endpoint::write_reset::<#4d7786d65df9050b>\",%function\n"
     ".size \"tcp_conn::endpoint::Endpoint::write_reset::<#4d7786d65df9050b>\",220\n"
     "\"tcp_conn::endpoint::Endpoint::write_reset::<#4d7786d65df9050b>\":\n"
@@ -11645,9 +11748,9 @@ __asm__(
     ".inst 0x33187c08,0x52800280,0xb494108,0x53087d69,0x6e703800,0xb4b6108,0x12181d29,0xb090108,0xb4a4108,0x1e260009\n"
     ".inst 0xb090108,0x52900029,0x11404108,0x72b00009,0x11006508,0x9ba97d09,0xd36ffd29,0x4b094129,0x2b090108,0x2a2803e8\n"
     ".inst 0x5ac00908,0x53107d08,0x1a8803e8,0x79002068,0xd65f03c0\n"
-    ".section .text.tcp.43,\"ax\",%progbits\n"
+    ".section .text.tcp.44,\"ax\",%progbits\n"
     ".balign 4\n"
-    ".Ltcp43:\n"
+    ".Ltcp44:\n"
     ".type \"tcp_wire::encoding::write_unsummed\",%function\n"
     ".size \"tcp_wire::encoding::write_unsummed\",908\n"
     "\"tcp_wire::encoding::write_unsummed\":\n"
@@ -11676,9 +11779,9 @@ __asm__(
     ".inst 0x79000669,0xb94006a9,0x5ac00929,0xb9000669,0xb9400aa9,0x5ac00929,0xb9000a69,0x394032a9,0xb0a0129,0x39003269\n"
     ".inst 0x394036a9,0x39003669,0x79401ea9,0x7900227f,0x5ac00929,0x53107d29,0x79001e69,0x794022a9,0xa94557f6,0x5ac00929\n"
     ".inst 0x53107d29,0x79002669,0xa9464ff4,0x9101c3ff,0xd65f03c0\n"
-    ".section .text.tcp.44,\"ax\",%progbits\n"
+    ".section .text.tcp.45,\"ax\",%progbits\n"
     ".balign 4\n"
-    ".Ltcp44:\n"
+    ".Ltcp45:\n"
     ".type \"tcp_conn::endpoint::Endpoint::write_syn::<#4d7786d65df9050b>\",%function\n"
     ".size \"tcp_conn::endpoint::Endpoint::write_syn::<#4d7786d65df9050b>\",920\n"
     "\"tcp_conn::endpoint::Endpoint::write_syn::<#4d7786d65df9050b>\":\n"
@@ -11707,11 +11810,11 @@ __asm__(
     ".inst 0x5ac00aaa,0xb090108,0x2a172309,0xb4a4108,0x4b090108,0x52900029,0x11404108,0x72b00009,0x11001508,0xb000108\n"
     ".inst 0xaa1403e0,0x9ba97d09,0xd36ffd29,0x4b094129,0x2b090108,0x2a2803e8,0x5ac00908,0x53107d08,0x1a8803e8,0x79002268\n"
     ".inst 0x9109c3ff,0xa9444ff4,0xf9400bfc,0xa94357f6,0xa9425ff8,0xa8c57bfd,0xd65f03c0\n"
-    ".reloc .Ltcp44+480,R_AARCH64_CALL26,.Ltcp43+0\n"
-    ".reloc .Ltcp44+684,R_AARCH64_CALL26,.Ltcp8+0\n"
-    ".section .text.tcp.45,\"ax\",%progbits\n"
+    ".reloc .Ltcp45+480,R_AARCH64_CALL26,.Ltcp44+0\n"
+    ".reloc .Ltcp45+684,R_AARCH64_CALL26,.Ltcp9+0\n"
+    ".section .text.tcp.46,\"ax\",%progbits\n"
     ".balign 4\n"
-    ".Ltcp45:\n"
+    ".Ltcp46:\n"
     ".type \"tcp_sendq::ring::copy_over_end\",%function\n"
     ".size \"tcp_sendq::ring::copy_over_end\",588\n"
     "\"tcp_sendq::ring::copy_over_end\":\n"
@@ -11733,9 +11836,9 @@ __asm__(
     ".inst 0x927beb08,0x9100416a,0x9100418b,0x927beb0c,0xad7f8560,0xf100818c,0x9100816b,0xad3f8540,0x9100814a,0x54ffff61\n"
     ".inst 0xeb08031f,0x54fff7e0,0xb4fff689,0xaa0803e9,0x927df308,0x8b16012a,0x8b17012b,0xcb080129,0xcb1a014a,0x8b0b026b\n"
     ".inst 0x8b0a02aa,0xfc408540,0xb1002129,0xfc008560,0x54ffffa1,0xeb08031f,0x54fff600,0x17ffffa5\n"
-    ".section .text.tcp.46,\"ax\",%progbits\n"
+    ".section .text.tcp.47,\"ax\",%progbits\n"
     ".balign 4\n"
-    ".Ltcp46:\n"
+    ".Ltcp47:\n"
     ".type \"tcp_conn::endpoint::Endpoint::write_blocks::<#4d7786d65df9050b>\",%function\n"
     ".size \"tcp_conn::endpoint::Endpoint::write_blocks::<#4d7786d65df9050b>\",1800\n"
     "\"tcp_conn::endpoint::Endpoint::write_blocks::<#4d7786d65df9050b>\":\n"
@@ -11785,12 +11888,12 @@ __asm__(
     ".inst 0x910041ef,0x910041ce,0x927be8b0,0xad7f85c0,0xf1008210,0x910081ce,0xad3f85e0,0x910081ef,0x54ffff61,0xeb0900bf\n"
     ".inst 0x54ffeda0,0xb4ffea4a,0xeb0d017f,0xaa0903ea,0x8b0b012e,0x9a8d316f,0x927df0a9,0xcb0f01ce,0x8b0a018f,0xcb09014a\n"
     ".inst 0x8b0e010e,0x8b0f026f,0xfc4085c0,0xb100214a,0xfc0085e0,0x54ffffa1,0xeb0900bf,0x54ffeb80,0x17ffff41\n"
-    ".reloc .Ltcp46+1156,R_AARCH64_CALL26,.Ltcp43+0\n"
-    ".reloc .Ltcp46+1360,R_AARCH64_CALL26,.Ltcp8+0\n"
-    ".reloc .Ltcp46+1640,R_AARCH64_CALL26,.Ltcp45+0\n"
-    ".section .text.tcp.47,\"ax\",%progbits\n"
+    ".reloc .Ltcp47+1156,R_AARCH64_CALL26,.Ltcp44+0\n"
+    ".reloc .Ltcp47+1360,R_AARCH64_CALL26,.Ltcp9+0\n"
+    ".reloc .Ltcp47+1640,R_AARCH64_CALL26,.Ltcp46+0\n"
+    ".section .text.tcp.48,\"ax\",%progbits\n"
     ".balign 4\n"
-    ".Ltcp47:\n"
+    ".Ltcp48:\n"
     ".type \"tcp_halves::sender::Sender::due::<#4d7786d65df9050b>\",%function\n"
     ".size \"tcp_halves::sender::Sender::due::<#4d7786d65df9050b>\",572\n"
     "\"tcp_halves::sender::Sender::due::<#4d7786d65df9050b>\":\n"
@@ -11809,9 +11912,9 @@ __asm__(
     ".inst 0xeb11019f,0x9a8f35ef,0xeb0d01ff,0x54fffd42,0xd37df1f1,0xb87169d1,0xf9403c32,0x8b08020e,0xeb0e0250,0x54fff309\n"
     ".inst 0x8b0b0129,0xeb0d01ff,0x92403c4a,0x9a893229,0xcb0c0129,0xeb09021f,0x9a893209,0xeb0a013f,0x9a8a3129,0x5280002a\n"
     ".inst 0xa901240e,0xa9007c0a,0xd65f03c0\n"
-    ".section .text.tcp.48,\"ax\",%progbits\n"
+    ".section .text.tcp.49,\"ax\",%progbits\n"
     ".balign 4\n"
-    ".Ltcp48:\n"
+    ".Ltcp49:\n"
     ".type \"tcp_numbers::parts::checksum_in_parts\",%function\n"
     ".size \"tcp_numbers::parts::checksum_in_parts\",1572\n"
     "\"tcp_numbers::parts::checksum_in_parts\":\n"
@@ -11855,14 +11958,14 @@ __asm__(
     ".inst 0x33187ee9,0xb566129,0xb4a4129,0xb15028a,0xb13014a,0xa9454ff4,0xb0b0129,0xb18014a,0xb4c4129,0xb080148\n"
     ".inst 0xa94457f6,0xb080128,0x52900029,0x11001908,0x72b00009,0x9ba97d09,0xa9435ff8,0xd36ffd29,0x4b094129,0x2b090108\n"
     ".inst 0x5a8803e0,0xa8c67bfd,0xd65f03c0\n"
-    ".reloc .Ltcp48+232,R_AARCH64_CALL26,.Ltcp8+0\n"
-    ".reloc .Ltcp48+692,R_AARCH64_CALL26,.Ltcp8+0\n"
-    ".reloc .Ltcp48+712,R_AARCH64_CALL26,.Ltcp8+0\n"
-    ".reloc .Ltcp48+980,R_AARCH64_CALL26,.Ltcp8+0\n"
-    ".reloc .Ltcp48+1348,R_AARCH64_CALL26,.Ltcp8+0\n"
-    ".section .text.tcp.49,\"ax\",%progbits\n"
+    ".reloc .Ltcp49+232,R_AARCH64_CALL26,.Ltcp9+0\n"
+    ".reloc .Ltcp49+692,R_AARCH64_CALL26,.Ltcp9+0\n"
+    ".reloc .Ltcp49+712,R_AARCH64_CALL26,.Ltcp9+0\n"
+    ".reloc .Ltcp49+980,R_AARCH64_CALL26,.Ltcp9+0\n"
+    ".reloc .Ltcp49+1348,R_AARCH64_CALL26,.Ltcp9+0\n"
+    ".section .text.tcp.50,\"ax\",%progbits\n"
     ".balign 4\n"
-    ".Ltcp49:\n"
+    ".Ltcp50:\n"
     ".type \"tcp_replay::party::Party::take_in::<#244039bd4e0652a3>\",%function\n"
     ".size \"tcp_replay::party::Party::take_in::<#244039bd4e0652a3>\",2232\n"
     "\"tcp_replay::party::Party::take_in::<#244039bd4e0652a3>\":\n"
@@ -11922,36 +12025,36 @@ __asm__(
     ".inst 0x2a1503e1,0x94000000,0xaa1703e1,0x2a0003e4,0x1400000c,0x721e005f,0x52800028,0xaa0003f4,0x1a881504,0x14000007\n"
     ".inst 0xeb09011f,0x52800248,0x528001c9,0x1a883124,0x14000002,0x52800064,0x910003e0,0x9100c3e6,0x2a1f03e2,0x2a1f03e3\n"
     ".inst 0x2a1303e5,0x94000000,0x6f00e420,0x3dc003e1,0xf9400bea,0xaa1403e0,0x4e201c21,0x17fffe59\n"
-    ".reloc .Ltcp49+92,R_AARCH64_ADR_PREL_PG_HI21,.Ltcp0+560\n"
-    ".reloc .Ltcp49+100,R_AARCH64_LDST128_ABS_LO12_NC,.Ltcp0+560\n"
-    ".reloc .Ltcp49+316,R_AARCH64_CALL26,.Ltcp8+0\n"
-    ".reloc .Ltcp49+436,R_AARCH64_ADR_PREL_PG_HI21,.Ltcp0+576\n"
-    ".reloc .Ltcp49+444,R_AARCH64_LDST128_ABS_LO12_NC,.Ltcp0+576\n"
-    ".reloc .Ltcp49+524,R_AARCH64_ADR_PREL_PG_HI21,.Ltcp0+592\n"
-    ".reloc .Ltcp49+532,R_AARCH64_LDST128_ABS_LO12_NC,.Ltcp0+592\n"
-    ".reloc .Ltcp49+580,R_AARCH64_ADR_PREL_PG_HI21,.Ltcp0+608\n"
-    ".reloc .Ltcp49+588,R_AARCH64_LDST128_ABS_LO12_NC,.Ltcp0+608\n"
-    ".reloc .Ltcp49+772,R_AARCH64_ADR_PREL_PG_HI21,.Ltcp0+624\n"
-    ".reloc .Ltcp49+784,R_AARCH64_LDST128_ABS_LO12_NC,.Ltcp0+624\n"
-    ".reloc .Ltcp49+1392,R_AARCH64_CALL26,.Ltcp37+0\n"
-    ".reloc .Ltcp49+1576,R_AARCH64_CALL26,.Ltcp51+0\n"
-    ".reloc .Ltcp49+1796,R_AARCH64_CALL26,.Ltcp54+0\n"
-    ".reloc .Ltcp49+1800,R_AARCH64_ADR_PREL_PG_HI21,.Ltcp0+640\n"
-    ".reloc .Ltcp49+1808,R_AARCH64_LDST128_ABS_LO12_NC,.Ltcp0+640\n"
-    ".reloc .Ltcp49+2124,R_AARCH64_CALL26,.Ltcp50+0\n"
-    ".reloc .Ltcp49+2204,R_AARCH64_CALL26,.Ltcp64+0\n"
-    ".section .text.tcp.50,\"ax\",%progbits\n"
+    ".reloc .Ltcp50+92,R_AARCH64_ADR_PREL_PG_HI21,.Ltcp0+560\n"
+    ".reloc .Ltcp50+100,R_AARCH64_LDST128_ABS_LO12_NC,.Ltcp0+560\n"
+    ".reloc .Ltcp50+316,R_AARCH64_CALL26,.Ltcp9+0\n"
+    ".reloc .Ltcp50+436,R_AARCH64_ADR_PREL_PG_HI21,.Ltcp0+576\n"
+    ".reloc .Ltcp50+444,R_AARCH64_LDST128_ABS_LO12_NC,.Ltcp0+576\n"
+    ".reloc .Ltcp50+524,R_AARCH64_ADR_PREL_PG_HI21,.Ltcp0+592\n"
+    ".reloc .Ltcp50+532,R_AARCH64_LDST128_ABS_LO12_NC,.Ltcp0+592\n"
+    ".reloc .Ltcp50+580,R_AARCH64_ADR_PREL_PG_HI21,.Ltcp0+608\n"
+    ".reloc .Ltcp50+588,R_AARCH64_LDST128_ABS_LO12_NC,.Ltcp0+608\n"
+    ".reloc .Ltcp50+772,R_AARCH64_ADR_PREL_PG_HI21,.Ltcp0+624\n"
+    ".reloc .Ltcp50+784,R_AARCH64_LDST128_ABS_LO12_NC,.Ltcp0+624\n"
+    ".reloc .Ltcp50+1392,R_AARCH64_CALL26,.Ltcp38+0\n"
+    ".reloc .Ltcp50+1576,R_AARCH64_CALL26,.Ltcp52+0\n"
+    ".reloc .Ltcp50+1796,R_AARCH64_CALL26,.Ltcp55+0\n"
+    ".reloc .Ltcp50+1800,R_AARCH64_ADR_PREL_PG_HI21,.Ltcp0+640\n"
+    ".reloc .Ltcp50+1808,R_AARCH64_LDST128_ABS_LO12_NC,.Ltcp0+640\n"
+    ".reloc .Ltcp50+2124,R_AARCH64_CALL26,.Ltcp51+0\n"
+    ".reloc .Ltcp50+2204,R_AARCH64_CALL26,.Ltcp65+0\n"
+    ".section .text.tcp.51,\"ax\",%progbits\n"
     ".balign 4\n"
-    ".Ltcp50:\n"
+    ".Ltcp51:\n"
     ".type \"tcp_conn::endpoint::Endpoint::judge_syn_sent::<#4d7786d65df9050b>\",%function\n"
     ".size \"tcp_conn::endpoint::Endpoint::judge_syn_sent::<#4d7786d65df9050b>\",116\n"
     "\"tcp_conn::endpoint::Endpoint::judge_syn_sent::<#4d7786d65df9050b>\":\n"
     ".inst 0x12001c48,0x362001a2,0xa9442c0a,0xd2c0002c,0xb9400809,0xb0a0129,0x4b090029,0x8b09014a,0xeb0c014c,0x9a8c33ec\n"
     ".inst 0x7100013f,0x9a8a4189,0xeb0b013f,0x54000181,0x52800249,0x5280010a,0x6a28013f,0x52800089,0x1a890149,0x721c011f\n"
     ".inst 0x528000ea,0x1a9f154a,0x721e011f,0x1a8a0120,0xd65f03c0,0x721e011f,0x528000c8,0x1a9f0500,0xd65f03c0\n"
-    ".section .text.tcp.51,\"ax\",%progbits\n"
+    ".section .text.tcp.52,\"ax\",%progbits\n"
     ".balign 4\n"
-    ".Ltcp51:\n"
+    ".Ltcp52:\n"
     ".type \"tcp_conn::endpoint::Endpoint::take_blocks::<#4d7786d65df9050b>\",%function\n"
     ".size \"tcp_conn::endpoint::Endpoint::take_blocks::<#4d7786d65df9050b>\",636\n"
     "\"tcp_conn::endpoint::Endpoint::take_blocks::<#4d7786d65df9050b>\":\n"
@@ -11971,13 +12074,13 @@ __asm__(
     ".inst 0xeb08003f,0x54fff3e3,0xeb0a013f,0x54fff542,0xf9404e68,0xeb08013f,0x54000063,0xeb09011f,0x54000080,0x91022260\n"
     ".inst 0x94000000,0x17ffffa2,0x91022260,0x2a0303f8,0x2a0203fa,0xaa0103f9,0x94000000,0xaa1903e1,0x2a1a03e2,0x2a1803e3\n"
     ".inst 0x34fff320,0x17fffff4,0xa94c4ff4,0xa94b57f6,0xa94a5ff8,0xa94967fa,0xa9487bfd,0x910343ff,0xd65f03c0\n"
-    ".reloc .Ltcp51+80,R_AARCH64_CALL26,.Ltcp9+0\n"
-    ".reloc .Ltcp51+184,R_AARCH64_CALL26,.Ltcp38+0\n"
-    ".reloc .Ltcp51+560,R_AARCH64_CALL26,.Ltcp53+0\n"
-    ".reloc .Ltcp51+584,R_AARCH64_CALL26,.Ltcp52+0\n"
-    ".section .text.tcp.52,\"ax\",%progbits\n"
+    ".reloc .Ltcp52+80,R_AARCH64_CALL26,.Ltcp10+0\n"
+    ".reloc .Ltcp52+184,R_AARCH64_CALL26,.Ltcp39+0\n"
+    ".reloc .Ltcp52+560,R_AARCH64_CALL26,.Ltcp54+0\n"
+    ".reloc .Ltcp52+584,R_AARCH64_CALL26,.Ltcp53+0\n"
+    ".section .text.tcp.53,\"ax\",%progbits\n"
     ".balign 4\n"
-    ".Ltcp52:\n"
+    ".Ltcp53:\n"
     ".type \"std_alloc::vec::Vec::grow_amortized::<#4a791bdeba1adbb6>\",%function\n"
     ".size \"std_alloc::vec::Vec::grow_amortized::<#4a791bdeba1adbb6>\",492\n"
     "\"std_alloc::vec::Vec::grow_amortized::<#4a791bdeba1adbb6>\":\n"
@@ -11995,9 +12098,9 @@ __asm__(
     ".inst 0xf9000909,0x17ffffc9,0xaa0003f6,0xaa1303e0\n"
     "bl memmove\n"
     ".inst 0xaa1603e0,0x17ffffc4,0xeb09011f,0x54fff840,0xf869782a,0xf8297a6a,0x91000529,0x17fffffb\n"
-    ".section .text.tcp.53,\"ax\",%progbits\n"
+    ".section .text.tcp.54,\"ax\",%progbits\n"
     ".balign 4\n"
-    ".Ltcp53:\n"
+    ".Ltcp54:\n"
     ".type \"std_alloc::vec::Vec::put_at::<#4a791bdeba1adbb6>\",%function\n"
     ".size \"std_alloc::vec::Vec::put_at::<#4a791bdeba1adbb6>\",472\n"
     "\"std_alloc::vec::Vec::put_at::<#4a791bdeba1adbb6>\":\n"
@@ -12013,11 +12116,11 @@ __asm__(
     ".inst 0xad7f85a2,0xd10011ce,0x3c8081a1,0x3c9f81a2,0xd10081ad,0xb5ffff6e,0xeb0b019f,0x54000180,0xcb0b0d0c,0xcb0a012a\n"
     ".inst 0x8b090d8c,0xcb0b0149,0xd103fd29,0xaa0c03ea,0xf85f8d4b,0xf1000529,0xf900018b,0xaa0a03ec,0x54ffff81,0x90000009\n"
     ".inst 0x3dc00121,0x2a0203e9,0xaa038129,0x4ee18400,0xf8217909,0xf9000008,0x3c808000,0xd65f03c0\n"
-    ".reloc .Ltcp53+436,R_AARCH64_ADR_PREL_PG_HI21,.Ltcp0+656\n"
-    ".reloc .Ltcp53+440,R_AARCH64_LDST128_ABS_LO12_NC,.Ltcp0+656\n"
-    ".section .text.tcp.54,\"ax\",%progbits\n"
+    ".reloc .Ltcp54+436,R_AARCH64_ADR_PREL_PG_HI21,.Ltcp0+656\n"
+    ".reloc .Ltcp54+440,R_AARCH64_LDST128_ABS_LO12_NC,.Ltcp0+656\n"
+    ".section .text.tcp.55,\"ax\",%progbits\n"
     ".balign 4\n"
-    ".Ltcp54:\n"
+    ".Ltcp55:\n"
     ".type \"tcp_conn::endpoint::Endpoint::take_its_text::<#4d7786d65df9050b>\",%function\n"
     ".size \"tcp_conn::endpoint::Endpoint::take_its_text::<#4d7786d65df9050b>\",4624\n"
     "\"tcp_conn::endpoint::Endpoint::take_its_text::<#4d7786d65df9050b>\":\n"
@@ -12143,23 +12246,23 @@ __asm__(
     ".inst 0x8b0c010c,0x8b0b02eb,0xfc408560,0xb100214a,0xfc008580,0x54ffffa1,0xeb09029f,0x54ffc240,0x17fffe03,0xaa0003fb\n"
     ".inst 0x9103a000,0x8b1302c1,0x8b1802e2,0xaa0603f9,0x94000000,0x17fffde9,0xaa0003f6,0x9103a000,0xaa1f03e1,0xaa1503e2\n"
     ".inst 0xaa1403e3,0x94000000,0x17fffe0a\n"
-    ".reloc .Ltcp54+376,R_AARCH64_CALL26,.Ltcp56+0\n"
-    ".reloc .Ltcp54+852,R_AARCH64_CALL26,.Ltcp56+0\n"
-    ".reloc .Ltcp54+1100,R_AARCH64_CALL26,.Ltcp56+0\n"
-    ".reloc .Ltcp54+2028,R_AARCH64_CALL26,.Ltcp55+0\n"
-    ".reloc .Ltcp54+2952,R_AARCH64_ADR_PREL_PG_HI21,.Ltcp95+0\n"
-    ".reloc .Ltcp54+2956,R_AARCH64_ADD_ABS_LO12_NC,.Ltcp95+0\n"
-    ".reloc .Ltcp54+2976,R_AARCH64_CALL26,.Ltcp55+0\n"
-    ".reloc .Ltcp54+3108,R_AARCH64_CALL26,.Ltcp57+0\n"
-    ".reloc .Ltcp54+3196,R_AARCH64_CALL26,.Ltcp58+0\n"
-    ".reloc .Ltcp54+3252,R_AARCH64_CALL26,.Ltcp55+0\n"
-    ".reloc .Ltcp54+3280,R_AARCH64_CALL26,.Ltcp55+0\n"
-    ".reloc .Ltcp54+4144,R_AARCH64_CALL26,.Ltcp55+0\n"
-    ".reloc .Ltcp54+4588,R_AARCH64_CALL26,.Ltcp55+0\n"
-    ".reloc .Ltcp54+4616,R_AARCH64_CALL26,.Ltcp55+0\n"
-    ".section .text.tcp.55,\"ax\",%progbits\n"
+    ".reloc .Ltcp55+376,R_AARCH64_CALL26,.Ltcp57+0\n"
+    ".reloc .Ltcp55+852,R_AARCH64_CALL26,.Ltcp57+0\n"
+    ".reloc .Ltcp55+1100,R_AARCH64_CALL26,.Ltcp57+0\n"
+    ".reloc .Ltcp55+2028,R_AARCH64_CALL26,.Ltcp56+0\n"
+    ".reloc .Ltcp55+2952,R_AARCH64_ADR_PREL_PG_HI21,.Ltcp96+0\n"
+    ".reloc .Ltcp55+2956,R_AARCH64_ADD_ABS_LO12_NC,.Ltcp96+0\n"
+    ".reloc .Ltcp55+2976,R_AARCH64_CALL26,.Ltcp56+0\n"
+    ".reloc .Ltcp55+3108,R_AARCH64_CALL26,.Ltcp58+0\n"
+    ".reloc .Ltcp55+3196,R_AARCH64_CALL26,.Ltcp59+0\n"
+    ".reloc .Ltcp55+3252,R_AARCH64_CALL26,.Ltcp56+0\n"
+    ".reloc .Ltcp55+3280,R_AARCH64_CALL26,.Ltcp56+0\n"
+    ".reloc .Ltcp55+4144,R_AARCH64_CALL26,.Ltcp56+0\n"
+    ".reloc .Ltcp55+4588,R_AARCH64_CALL26,.Ltcp56+0\n"
+    ".reloc .Ltcp55+4616,R_AARCH64_CALL26,.Ltcp56+0\n"
+    ".section .text.tcp.56,\"ax\",%progbits\n"
     ".balign 4\n"
-    ".Ltcp55:\n"
+    ".Ltcp56:\n"
     ".type \"tcp_reasm::ring::grow::<#4d7786d65df9050b>\",%function\n"
     ".size \"tcp_reasm::ring::grow::<#4d7786d65df9050b>\",556\n"
     "\"tcp_reasm::ring::grow::<#4d7786d65df9050b>\":\n"
@@ -12181,11 +12284,11 @@ __asm__(
     ".inst 0x8b140116,0xf9400278,0xeb16011f,0x54fff343,0x17ffffa1,0xaa1803e3,0xaa1603e2,0xf9400a74,0xcb080289,0xeb09031f\n"
     ".inst 0x54fff549,0xaa1303e0,0xaa0303e1,0xaa0203f5,0xaa0303f6,0x94000000,0x34fff800,0xa940d268,0xaa1603e3,0xaa1503e2\n"
     ".inst 0x17ffffa0\n"
-    ".reloc .Ltcp55+448,R_AARCH64_CALL26,.Ltcp34+0\n"
-    ".reloc .Ltcp55+532,R_AARCH64_CALL26,.Ltcp34+0\n"
-    ".section .text.tcp.56,\"ax\",%progbits\n"
+    ".reloc .Ltcp56+448,R_AARCH64_CALL26,.Ltcp35+0\n"
+    ".reloc .Ltcp56+532,R_AARCH64_CALL26,.Ltcp35+0\n"
+    ".section .text.tcp.57,\"ax\",%progbits\n"
     ".balign 4\n"
-    ".Ltcp56:\n"
+    ".Ltcp57:\n"
     ".type \"tcp_reasm::lay::lay_between::<#4d7786d65df9050b>\",%function\n"
     ".size \"tcp_reasm::lay::lay_between::<#4d7786d65df9050b>\",1664\n"
     "\"tcp_reasm::lay::lay_between::<#4d7786d65df9050b>\":\n"
@@ -12234,19 +12337,19 @@ __asm__(
     ".inst 0xfc0085a0,0x54ffffa1,0xeb0a033f,0x54ffd2c0,0x17ffff41,0xaa1803e0,0xaa1a03e2,0xaa1b03e3,0x94000000,0xf9400708\n"
     ".inst 0xcb1b0323,0x8b1b0342,0xeb08007f,0x54ffdbc9,0x17ffff4d,0xa94a4ff4,0xa94957f6,0xa9485ff8,0xa94767fa,0xa9466ffc\n"
     ".inst 0xa9457bfd,0x9102c3ff,0xd65f03c0\n"
-    ".reloc .Ltcp56+920,R_AARCH64_CALL26,.Ltcp55+0\n"
-    ".reloc .Ltcp56+972,R_AARCH64_CALL26,.Ltcp55+0\n"
-    ".reloc .Ltcp56+1604,R_AARCH64_CALL26,.Ltcp55+0\n"
-    ".section .text.tcp.57,\"ax\",%progbits\n"
+    ".reloc .Ltcp57+920,R_AARCH64_CALL26,.Ltcp56+0\n"
+    ".reloc .Ltcp57+972,R_AARCH64_CALL26,.Ltcp56+0\n"
+    ".reloc .Ltcp57+1604,R_AARCH64_CALL26,.Ltcp56+0\n"
+    ".section .text.tcp.58,\"ax\",%progbits\n"
     ".balign 4\n"
-    ".Ltcp57:\n"
+    ".Ltcp58:\n"
     ".type \"tcp_reasm::rows::settle\",%function\n"
     ".size \"tcp_reasm::rows::settle\",32\n"
     "\"tcp_reasm::rows::settle\":\n"
     ".inst 0xb40000e1,0xe040c40,0xfd400001,0xf1000421,0x2ea02c21,0xfc010401,0x54ffff81,0xd65f03c0\n"
-    ".section .text.tcp.58,\"ax\",%progbits\n"
+    ".section .text.tcp.59,\"ax\",%progbits\n"
     ".balign 4\n"
-    ".Ltcp58:\n"
+    ".Ltcp59:\n"
     ".type \"std_alloc::vec::Vec::grow_amortized::<#b976a99715059d0b>\",%function\n"
     ".size \"std_alloc::vec::Vec::grow_amortized::<#b976a99715059d0b>\",392\n"
     "\"std_alloc::vec::Vec::grow_amortized::<#b976a99715059d0b>\":\n"
@@ -12262,9 +12365,9 @@ __asm__(
     ".inst 0xa9002d09,0xf900090a,0x17ffffdc,0xaa0003f6,0xaa1303e0\n"
     "bl memmove\n"
     ".inst 0xaa1603e0,0x17ffffd7\n"
-    ".section .text.tcp.59,\"ax\",%progbits\n"
+    ".section .text.tcp.60,\"ax\",%progbits\n"
     ".balign 4\n"
-    ".Ltcp59:\n"
+    ".Ltcp60:\n"
     ".type \"tcp_conn::endpoint::Endpoint::follow_other::<#4d7786d65df9050b>\",%function\n"
     ".size \"tcp_conn::endpoint::Endpoint::follow_other::<#4d7786d65df9050b>\",344\n"
     "\"tcp_conn::endpoint::Endpoint::follow_other::<#4d7786d65df9050b>\":\n"
@@ -12277,20 +12380,20 @@ __asm__(
     ".inst 0x79400069,0x5280002a,0xb9014802,0xb9015008,0x91055008,0xb901440a,0x79029809,0xf900011f,0x52800028,0x39050408\n"
     ".inst 0xd65f03c0,0xb9400868,0x2a1f03e9,0x2a1f03ea,0x3945100b,0x7100057f,0x54fff760,0x7940006b,0x5280002c,0xb9014802\n"
     ".inst 0xb901440c,0x7902980b,0xb9015008,0xb9015409,0xb901580a,0xd65f03c0\n"
-    ".reloc .Ltcp59+4,R_AARCH64_ADR_PREL_PG_HI21,.Ltcp60+0\n"
-    ".reloc .Ltcp59+8,R_AARCH64_ADD_ABS_LO12_NC,.Ltcp60+0\n"
-    ".reloc .Ltcp59+124,R_AARCH64_CALL26,.Ltcp37+0\n"
-    ".reloc .Ltcp59+212,R_AARCH64_JUMP26,.Ltcp61+0\n"
-    ".reloc .Ltcp59+220,R_AARCH64_JUMP26,.Ltcp63+0\n"
-    ".section .rodata.tcp.60,\"a\",%progbits\n"
+    ".reloc .Ltcp60+4,R_AARCH64_ADR_PREL_PG_HI21,.Ltcp61+0\n"
+    ".reloc .Ltcp60+8,R_AARCH64_ADD_ABS_LO12_NC,.Ltcp61+0\n"
+    ".reloc .Ltcp60+124,R_AARCH64_CALL26,.Ltcp38+0\n"
+    ".reloc .Ltcp60+212,R_AARCH64_JUMP26,.Ltcp62+0\n"
+    ".reloc .Ltcp60+220,R_AARCH64_JUMP26,.Ltcp64+0\n"
+    ".section .rodata.tcp.61,\"a\",%progbits\n"
     ".balign 1\n"
-    ".Ltcp60:\n"
+    ".Ltcp61:\n"
     ".octa 0x13d003d3d0e3d2f0e012c0001200000\n"
     ".short 0x31\n"
     ".byte 0x0\n"
-    ".section .text.tcp.61,\"ax\",%progbits\n"
+    ".section .text.tcp.62,\"ax\",%progbits\n"
     ".balign 4\n"
-    ".Ltcp61:\n"
+    ".Ltcp62:\n"
     ".type \"tcp_conn::endpoint::Endpoint::peer_opens::<#4d7786d65df9050b>\",%function\n"
     ".size \"tcp_conn::endpoint::Endpoint::peer_opens::<#4d7786d65df9050b>\",140\n"
     "\"tcp_conn::endpoint::Endpoint::peer_opens::<#4d7786d65df9050b>\":\n"
@@ -12298,12 +12401,12 @@ __asm__(
     ".inst 0x910043fd,0x79007008,0x910023e0,0xf9400c42,0xf9401263,0x79001bff,0xb9000bff,0x94000000,0x9000000a,0xb9400be8\n"
     ".inst 0x79401be9,0x3dc00140,0xa9417bfd,0xb803a288,0x79007e89,0x52800029,0x3d801280,0xb9400668,0x39034289,0x39050289\n"
     ".inst 0x11000508,0xb900d688,0xa9424ff4,0x9100c3ff,0xd65f03c0\n"
-    ".reloc .Ltcp61+68,R_AARCH64_CALL26,.Ltcp62+0\n"
-    ".reloc .Ltcp61+72,R_AARCH64_ADR_PREL_PG_HI21,.Ltcp0+672\n"
-    ".reloc .Ltcp61+84,R_AARCH64_LDST128_ABS_LO12_NC,.Ltcp0+672\n"
-    ".section .text.tcp.62,\"ax\",%progbits\n"
+    ".reloc .Ltcp62+68,R_AARCH64_CALL26,.Ltcp63+0\n"
+    ".reloc .Ltcp62+72,R_AARCH64_ADR_PREL_PG_HI21,.Ltcp0+672\n"
+    ".reloc .Ltcp62+84,R_AARCH64_LDST128_ABS_LO12_NC,.Ltcp0+672\n"
+    ".section .text.tcp.63,\"ax\",%progbits\n"
     ".balign 4\n"
-    ".Ltcp62:\n"
+    ".Ltcp63:\n"
     ".type \"tcp_halves::options::link_of\",%function\n"
     ".size \"tcp_halves::options::link_of\",356\n"
     "\"tcp_halves::options::link_of\":\n"
@@ -12316,11 +12419,11 @@ __asm__(
     ".inst 0x7101011f,0x1a898108,0x72001f1f,0x52804309,0x1a88012a,0x72001eff,0x12001ec9,0x1a9f07e8,0x7100393f,0x1a8b3129\n"
     ".inst 0x3940828b,0x39408a8c,0x7900026a,0x3900167f,0xf94033f9,0x7100057f,0xa15018a,0x1a9f17eb,0x3900126a,0x6a080168\n"
     ".inst 0xa94857f6,0x1a9f1129,0x39000a68,0x39000e69,0xa9494ff4,0xa9475ff8,0xa9457bfd,0x910283ff,0xd65f03c0\n"
-    ".reloc .Ltcp62+64,R_AARCH64_CALL26,.Ltcp9+0\n"
-    ".reloc .Ltcp62+128,R_AARCH64_CALL26,.Ltcp9+0\n"
-    ".section .text.tcp.63,\"ax\",%progbits\n"
+    ".reloc .Ltcp63+64,R_AARCH64_CALL26,.Ltcp10+0\n"
+    ".reloc .Ltcp63+128,R_AARCH64_CALL26,.Ltcp10+0\n"
+    ".section .text.tcp.64,\"ax\",%progbits\n"
     ".balign 4\n"
-    ".Ltcp63:\n"
+    ".Ltcp64:\n"
     ".type \"tcp_conn::endpoint::Endpoint::peer_accepts::<#4d7786d65df9050b>\",%function\n"
     ".size \"tcp_conn::endpoint::Endpoint::peer_accepts::<#4d7786d65df9050b>\",140\n"
     "\"tcp_conn::endpoint::Endpoint::peer_accepts::<#4d7786d65df9050b>\":\n"
@@ -12328,10 +12431,10 @@ __asm__(
     ".inst 0x910043fd,0x79001bff,0xb9000bff,0x94000000,0x79401be8,0xb9400be9,0xa9417bfd,0x79007e88,0xf9402688,0xb803a289\n"
     ".inst 0x79401e69,0xfc404260,0xf9002288,0xb900c289,0x52800029,0xfc0c4280,0xb9400668,0x39034289,0x52802009,0x79028289\n"
     ".inst 0x11000508,0xb900d688,0xa9424ff4,0x9100c3ff,0xd65f03c0\n"
-    ".reloc .Ltcp63+52,R_AARCH64_CALL26,.Ltcp62+0\n"
-    ".section .text.tcp.64,\"ax\",%progbits\n"
+    ".reloc .Ltcp64+52,R_AARCH64_CALL26,.Ltcp63+0\n"
+    ".section .text.tcp.65,\"ax\",%progbits\n"
     ".balign 4\n"
-    ".Ltcp64:\n"
+    ".Ltcp65:\n"
     ".type \"tcp_conn::endpoint::Endpoint::take_rarely::<#4d7786d65df9050b>\",%function\n"
     ".size \"tcp_conn::endpoint::Endpoint::take_rarely::<#4d7786d65df9050b>\",1904\n"
     "\"tcp_conn::endpoint::Endpoint::take_rarely::<#4d7786d65df9050b>\":\n"
@@ -12383,22 +12486,22 @@ __asm__(
     ".inst 0x5280002a,0x14000006,0x2a1f03ea,0x17ffffde,0xb9413aaa,0x7100015f,0x1a9f07ea,0x394036cb,0x3707fb0b,0xf9401acb\n"
     ".inst 0xf100017f,0x1a8a03ea,0x17ffffd5,0x531d7108,0x11000529,0x52800020,0xb900d6a9,0x528100e9,0x51008108,0x72a00149\n"
     ".inst 0x390382a0,0x927d1108,0xf9009ebf,0x1ac82528,0x3900c2a8,0x17ffffbb\n"
-    ".reloc .Ltcp64+248,R_AARCH64_CALL26,.Ltcp59+0\n"
-    ".reloc .Ltcp64+696,R_AARCH64_CALL26,.Ltcp37+0\n"
-    ".reloc .Ltcp64+912,R_AARCH64_CALL26,.Ltcp37+0\n"
-    ".reloc .Ltcp64+1124,R_AARCH64_CALL26,.Ltcp51+0\n"
-    ".reloc .Ltcp64+1268,R_AARCH64_CALL26,.Ltcp51+0\n"
-    ".reloc .Ltcp64+1528,R_AARCH64_CALL26,.Ltcp54+0\n"
-    ".reloc .Ltcp64+1648,R_AARCH64_ADR_PREL_PG_HI21,.Ltcp65+0\n"
-    ".reloc .Ltcp64+1652,R_AARCH64_ADD_ABS_LO12_NC,.Ltcp65+0\n"
-    ".section .rodata.tcp.65,\"a\",%progbits\n"
+    ".reloc .Ltcp65+248,R_AARCH64_CALL26,.Ltcp60+0\n"
+    ".reloc .Ltcp65+696,R_AARCH64_CALL26,.Ltcp38+0\n"
+    ".reloc .Ltcp65+912,R_AARCH64_CALL26,.Ltcp38+0\n"
+    ".reloc .Ltcp65+1124,R_AARCH64_CALL26,.Ltcp52+0\n"
+    ".reloc .Ltcp65+1268,R_AARCH64_CALL26,.Ltcp52+0\n"
+    ".reloc .Ltcp65+1528,R_AARCH64_CALL26,.Ltcp55+0\n"
+    ".reloc .Ltcp65+1648,R_AARCH64_ADR_PREL_PG_HI21,.Ltcp66+0\n"
+    ".reloc .Ltcp65+1652,R_AARCH64_ADD_ABS_LO12_NC,.Ltcp66+0\n"
+    ".section .rodata.tcp.66,\"a\",%progbits\n"
     ".balign 1\n"
-    ".Ltcp65:\n"
+    ".Ltcp66:\n"
     ".octa 0x1000001000001000001000001\n"
     ".short 0x1a1c\n"
-    ".section .text.tcp.66,\"ax\",%progbits\n"
+    ".section .text.tcp.67,\"ax\",%progbits\n"
     ".balign 4\n"
-    ".Ltcp66:\n"
+    ".Ltcp67:\n"
     ".type \"kit_text::numbers::push_number_word::<#fc995fe602e3aacb>\",%function\n"
     ".size \"kit_text::numbers::push_number_word::<#fc995fe602e3aacb>\",560\n"
     "\"kit_text::numbers::push_number_word::<#fc995fe602e3aacb>\":\n"
@@ -12418,12 +12521,12 @@ __asm__(
     ".inst 0x2a1f03e0,0xa9005e76,0xf9000a75,0xa94b4ff4,0xf9404bf7,0xa94a57f6,0xa9487bfd,0x910303ff,0xd65f03c0,0xaa1303e0\n"
     ".inst 0xaa0203e1,0xaa0203f6,0x94000000,0x34000080,0xa940d668,0xaa1603e2,0x17ffffea,0x52800020,0xa94b4ff4,0xf9404bf7\n"
     ".inst 0xa94a57f6,0xa9487bfd,0x910303ff,0xd65f03c0\n"
-    ".reloc .Ltcp66+40,R_AARCH64_ADR_PREL_PG_HI21,.Ltcp98+0\n"
-    ".reloc .Ltcp66+44,R_AARCH64_ADD_ABS_LO12_NC,.Ltcp98+0\n"
-    ".reloc .Ltcp66+512,R_AARCH64_CALL26,.Ltcp77+0\n"
-    ".section .text.tcp.67,\"ax\",%progbits\n"
+    ".reloc .Ltcp67+40,R_AARCH64_ADR_PREL_PG_HI21,.Ltcp99+0\n"
+    ".reloc .Ltcp67+44,R_AARCH64_ADD_ABS_LO12_NC,.Ltcp99+0\n"
+    ".reloc .Ltcp67+512,R_AARCH64_CALL26,.Ltcp78+0\n"
+    ".section .text.tcp.68,\"ax\",%progbits\n"
     ".balign 4\n"
-    ".Ltcp67:\n"
+    ".Ltcp68:\n"
     ".type \"kit_report::events::push_event::<#fc995fe602e3aacb>\",%function\n"
     ".size \"kit_report::events::push_event::<#fc995fe602e3aacb>\",1588\n"
     "\"kit_report::events::push_event::<#fc995fe602e3aacb>\":\n"
@@ -12470,69 +12573,69 @@ __asm__(
     ".inst 0x90000001,0x91000021,0x910083e0,0x52800022,0x94000000,0x12001c08,0x3707f068,0x17ffff7d,0x910083e0,0x52800021\n"
     ".inst 0x94000000,0x34ffefc0,0xa942a3e9,0x17ffff72,0x90000001,0x91000021,0x910083e0,0x52800022,0x94000000,0x72001c1f\n"
     ".inst 0x54ffeea1,0x17ffffb7,0x910083e0,0x52800021,0x94000000,0x34ffee00,0xa942a3e9,0x17ffffac\n"
-    ".reloc .Ltcp67+8,R_AARCH64_ADR_PREL_PG_HI21,.Ltcp68+0\n"
-    ".reloc .Ltcp67+12,R_AARCH64_ADD_ABS_LO12_NC,.Ltcp68+0\n"
-    ".reloc .Ltcp67+64,R_AARCH64_ADR_PREL_PG_HI21,.Ltcp131+0\n"
-    ".reloc .Ltcp67+68,R_AARCH64_ADD_ABS_LO12_NC,.Ltcp131+0\n"
-    ".reloc .Ltcp67+80,R_AARCH64_ADR_PREL_PG_HI21,.Ltcp132+0\n"
-    ".reloc .Ltcp67+84,R_AARCH64_ADD_ABS_LO12_NC,.Ltcp132+0\n"
-    ".reloc .Ltcp67+92,R_AARCH64_ADR_PREL_PG_HI21,.Ltcp140+0\n"
-    ".reloc .Ltcp67+96,R_AARCH64_ADD_ABS_LO12_NC,.Ltcp140+0\n"
-    ".reloc .Ltcp67+108,R_AARCH64_ADR_PREL_PG_HI21,.Ltcp134+0\n"
-    ".reloc .Ltcp67+112,R_AARCH64_ADD_ABS_LO12_NC,.Ltcp134+0\n"
-    ".reloc .Ltcp67+124,R_AARCH64_ADR_PREL_PG_HI21,.Ltcp141+0\n"
-    ".reloc .Ltcp67+128,R_AARCH64_ADD_ABS_LO12_NC,.Ltcp141+0\n"
-    ".reloc .Ltcp67+144,R_AARCH64_ADR_PREL_PG_HI21,.Ltcp138+0\n"
-    ".reloc .Ltcp67+148,R_AARCH64_ADD_ABS_LO12_NC,.Ltcp138+0\n"
-    ".reloc .Ltcp67+160,R_AARCH64_ADR_PREL_PG_HI21,.Ltcp92+24\n"
-    ".reloc .Ltcp67+164,R_AARCH64_ADD_ABS_LO12_NC,.Ltcp92+24\n"
-    ".reloc .Ltcp67+172,R_AARCH64_ADR_PREL_PG_HI21,.Ltcp133+0\n"
-    ".reloc .Ltcp67+176,R_AARCH64_ADD_ABS_LO12_NC,.Ltcp133+0\n"
-    ".reloc .Ltcp67+188,R_AARCH64_ADR_PREL_PG_HI21,.Ltcp137+0\n"
-    ".reloc .Ltcp67+192,R_AARCH64_ADD_ABS_LO12_NC,.Ltcp137+0\n"
-    ".reloc .Ltcp67+204,R_AARCH64_ADR_PREL_PG_HI21,.Ltcp135+0\n"
-    ".reloc .Ltcp67+208,R_AARCH64_ADD_ABS_LO12_NC,.Ltcp135+0\n"
-    ".reloc .Ltcp67+220,R_AARCH64_ADR_PREL_PG_HI21,.Ltcp136+0\n"
-    ".reloc .Ltcp67+224,R_AARCH64_ADD_ABS_LO12_NC,.Ltcp136+0\n"
-    ".reloc .Ltcp67+236,R_AARCH64_ADR_PREL_PG_HI21,.Ltcp139+0\n"
-    ".reloc .Ltcp67+240,R_AARCH64_ADD_ABS_LO12_NC,.Ltcp139+0\n"
-    ".reloc .Ltcp67+252,R_AARCH64_ADR_PREL_PG_HI21,.Ltcp92+28\n"
-    ".reloc .Ltcp67+256,R_AARCH64_ADD_ABS_LO12_NC,.Ltcp92+28\n"
-    ".reloc .Ltcp67+632,R_AARCH64_ADR_PREL_PG_HI21,.Ltcp177+0\n"
-    ".reloc .Ltcp67+636,R_AARCH64_ADD_ABS_LO12_NC,.Ltcp177+0\n"
-    ".reloc .Ltcp67+664,R_AARCH64_ADR_PREL_PG_HI21,.Ltcp178+0\n"
-    ".reloc .Ltcp67+668,R_AARCH64_ADD_ABS_LO12_NC,.Ltcp178+0\n"
-    ".reloc .Ltcp67+748,R_AARCH64_ADR_PREL_PG_HI21,.Ltcp97+0\n"
-    ".reloc .Ltcp67+752,R_AARCH64_ADD_ABS_LO12_NC,.Ltcp97+0\n"
-    ".reloc .Ltcp67+776,R_AARCH64_JUMP26,.Ltcp69+0\n"
-    ".reloc .Ltcp67+784,R_AARCH64_ADR_PREL_PG_HI21,.Ltcp97+0\n"
-    ".reloc .Ltcp67+788,R_AARCH64_ADD_ABS_LO12_NC,.Ltcp97+0\n"
-    ".reloc .Ltcp67+900,R_AARCH64_CALL26,.Ltcp72+0\n"
-    ".reloc .Ltcp67+988,R_AARCH64_CALL26,.Ltcp72+0\n"
-    ".reloc .Ltcp67+1084,R_AARCH64_CALL26,.Ltcp77+0\n"
-    ".reloc .Ltcp67+1116,R_AARCH64_CALL26,.Ltcp77+0\n"
-    ".reloc .Ltcp67+1156,R_AARCH64_CALL26,.Ltcp77+0\n"
-    ".reloc .Ltcp67+1276,R_AARCH64_CALL26,.Ltcp73+0\n"
-    ".reloc .Ltcp67+1316,R_AARCH64_CALL26,.Ltcp77+0\n"
-    ".reloc .Ltcp67+1344,R_AARCH64_CALL26,.Ltcp77+0\n"
-    ".reloc .Ltcp67+1388,R_AARCH64_CALL26,.Ltcp77+0\n"
-    ".reloc .Ltcp67+1476,R_AARCH64_ADR_PREL_PG_HI21,.Ltcp97+0\n"
-    ".reloc .Ltcp67+1480,R_AARCH64_ADD_ABS_LO12_NC,.Ltcp97+0\n"
-    ".reloc .Ltcp67+1492,R_AARCH64_CALL26,.Ltcp70+0\n"
-    ".reloc .Ltcp67+1516,R_AARCH64_CALL26,.Ltcp77+0\n"
-    ".reloc .Ltcp67+1532,R_AARCH64_ADR_PREL_PG_HI21,.Ltcp97+0\n"
-    ".reloc .Ltcp67+1536,R_AARCH64_ADD_ABS_LO12_NC,.Ltcp97+0\n"
-    ".reloc .Ltcp67+1548,R_AARCH64_CALL26,.Ltcp70+0\n"
-    ".reloc .Ltcp67+1572,R_AARCH64_CALL26,.Ltcp77+0\n"
-    ".section .rodata.tcp.68,\"a\",%progbits\n"
+    ".reloc .Ltcp68+8,R_AARCH64_ADR_PREL_PG_HI21,.Ltcp69+0\n"
+    ".reloc .Ltcp68+12,R_AARCH64_ADD_ABS_LO12_NC,.Ltcp69+0\n"
+    ".reloc .Ltcp68+64,R_AARCH64_ADR_PREL_PG_HI21,.Ltcp132+0\n"
+    ".reloc .Ltcp68+68,R_AARCH64_ADD_ABS_LO12_NC,.Ltcp132+0\n"
+    ".reloc .Ltcp68+80,R_AARCH64_ADR_PREL_PG_HI21,.Ltcp133+0\n"
+    ".reloc .Ltcp68+84,R_AARCH64_ADD_ABS_LO12_NC,.Ltcp133+0\n"
+    ".reloc .Ltcp68+92,R_AARCH64_ADR_PREL_PG_HI21,.Ltcp141+0\n"
+    ".reloc .Ltcp68+96,R_AARCH64_ADD_ABS_LO12_NC,.Ltcp141+0\n"
+    ".reloc .Ltcp68+108,R_AARCH64_ADR_PREL_PG_HI21,.Ltcp135+0\n"
+    ".reloc .Ltcp68+112,R_AARCH64_ADD_ABS_LO12_NC,.Ltcp135+0\n"
+    ".reloc .Ltcp68+124,R_AARCH64_ADR_PREL_PG_HI21,.Ltcp142+0\n"
+    ".reloc .Ltcp68+128,R_AARCH64_ADD_ABS_LO12_NC,.Ltcp142+0\n"
+    ".reloc .Ltcp68+144,R_AARCH64_ADR_PREL_PG_HI21,.Ltcp139+0\n"
+    ".reloc .Ltcp68+148,R_AARCH64_ADD_ABS_LO12_NC,.Ltcp139+0\n"
+    ".reloc .Ltcp68+160,R_AARCH64_ADR_PREL_PG_HI21,.Ltcp93+24\n"
+    ".reloc .Ltcp68+164,R_AARCH64_ADD_ABS_LO12_NC,.Ltcp93+24\n"
+    ".reloc .Ltcp68+172,R_AARCH64_ADR_PREL_PG_HI21,.Ltcp134+0\n"
+    ".reloc .Ltcp68+176,R_AARCH64_ADD_ABS_LO12_NC,.Ltcp134+0\n"
+    ".reloc .Ltcp68+188,R_AARCH64_ADR_PREL_PG_HI21,.Ltcp138+0\n"
+    ".reloc .Ltcp68+192,R_AARCH64_ADD_ABS_LO12_NC,.Ltcp138+0\n"
+    ".reloc .Ltcp68+204,R_AARCH64_ADR_PREL_PG_HI21,.Ltcp136+0\n"
+    ".reloc .Ltcp68+208,R_AARCH64_ADD_ABS_LO12_NC,.Ltcp136+0\n"
+    ".reloc .Ltcp68+220,R_AARCH64_ADR_PREL_PG_HI21,.Ltcp137+0\n"
+    ".reloc .Ltcp68+224,R_AARCH64_ADD_ABS_LO12_NC,.Ltcp137+0\n"
+    ".reloc .Ltcp68+236,R_AARCH64_ADR_PREL_PG_HI21,.Ltcp140+0\n"
+    ".reloc .Ltcp68+240,R_AARCH64_ADD_ABS_LO12_NC,.Ltcp140+0\n"
+    ".reloc .Ltcp68+252,R_AARCH64_ADR_PREL_PG_HI21,.Ltcp93+28\n"
+    ".reloc .Ltcp68+256,R_AARCH64_ADD_ABS_LO12_NC,.Ltcp93+28\n"
+    ".reloc .Ltcp68+632,R_AARCH64_ADR_PREL_PG_HI21,.Ltcp178+0\n"
+    ".reloc .Ltcp68+636,R_AARCH64_ADD_ABS_LO12_NC,.Ltcp178+0\n"
+    ".reloc .Ltcp68+664,R_AARCH64_ADR_PREL_PG_HI21,.Ltcp179+0\n"
+    ".reloc .Ltcp68+668,R_AARCH64_ADD_ABS_LO12_NC,.Ltcp179+0\n"
+    ".reloc .Ltcp68+748,R_AARCH64_ADR_PREL_PG_HI21,.Ltcp98+0\n"
+    ".reloc .Ltcp68+752,R_AARCH64_ADD_ABS_LO12_NC,.Ltcp98+0\n"
+    ".reloc .Ltcp68+776,R_AARCH64_JUMP26,.Ltcp70+0\n"
+    ".reloc .Ltcp68+784,R_AARCH64_ADR_PREL_PG_HI21,.Ltcp98+0\n"
+    ".reloc .Ltcp68+788,R_AARCH64_ADD_ABS_LO12_NC,.Ltcp98+0\n"
+    ".reloc .Ltcp68+900,R_AARCH64_CALL26,.Ltcp73+0\n"
+    ".reloc .Ltcp68+988,R_AARCH64_CALL26,.Ltcp73+0\n"
+    ".reloc .Ltcp68+1084,R_AARCH64_CALL26,.Ltcp78+0\n"
+    ".reloc .Ltcp68+1116,R_AARCH64_CALL26,.Ltcp78+0\n"
+    ".reloc .Ltcp68+1156,R_AARCH64_CALL26,.Ltcp78+0\n"
+    ".reloc .Ltcp68+1276,R_AARCH64_CALL26,.Ltcp74+0\n"
+    ".reloc .Ltcp68+1316,R_AARCH64_CALL26,.Ltcp78+0\n"
+    ".reloc .Ltcp68+1344,R_AARCH64_CALL26,.Ltcp78+0\n"
+    ".reloc .Ltcp68+1388,R_AARCH64_CALL26,.Ltcp78+0\n"
+    ".reloc .Ltcp68+1476,R_AARCH64_ADR_PREL_PG_HI21,.Ltcp98+0\n"
+    ".reloc .Ltcp68+1480,R_AARCH64_ADD_ABS_LO12_NC,.Ltcp98+0\n"
+    ".reloc .Ltcp68+1492,R_AARCH64_CALL26,.Ltcp71+0\n"
+    ".reloc .Ltcp68+1516,R_AARCH64_CALL26,.Ltcp78+0\n"
+    ".reloc .Ltcp68+1532,R_AARCH64_ADR_PREL_PG_HI21,.Ltcp98+0\n"
+    ".reloc .Ltcp68+1536,R_AARCH64_ADD_ABS_LO12_NC,.Ltcp98+0\n"
+    ".reloc .Ltcp68+1548,R_AARCH64_CALL26,.Ltcp71+0\n"
+    ".reloc .Ltcp68+1572,R_AARCH64_CALL26,.Ltcp78+0\n"
+    ".section .rodata.tcp.69,\"a\",%progbits\n"
     ".balign 1\n"
-    ".Ltcp68:\n"
+    ".Ltcp69:\n"
     ".quad 0x1b231f071714002e\n"
     ".long 0x3270f2b\n"
     ".byte 0xb\n"
-    ".section .text.tcp.69,\"ax\",%progbits\n"
+    ".section .text.tcp.70,\"ax\",%progbits\n"
     ".balign 4\n"
-    ".Ltcp69:\n"
+    ".Ltcp70:\n"
     ".type \"kit_text::numbers::push_word_number::<#fc995fe602e3aacb>\",%function\n"
     ".size \"kit_text::numbers::push_word_number::<#fc995fe602e3aacb>\",488\n"
     "\"kit_text::numbers::push_word_number::<#fc995fe602e3aacb>\":\n"
@@ -12551,12 +12654,12 @@ __asm__(
     ".inst 0x2a1f03e0,0xa9006277,0xf9000a76,0xa94b4ff4,0xa94a57f6,0xa9495ff8,0xa9487bfd,0x910303ff,0xd65f03c0,0xaa1303e0\n"
     ".inst 0xaa0203e1,0xaa0203f7,0x94000000,0x34000080,0xa940da68,0xaa1703e2,0x17ffffeb,0x52800020,0xa94b4ff4,0xa94a57f6\n"
     ".inst 0xa9495ff8,0xa9487bfd,0x910303ff,0xd65f03c0\n"
-    ".reloc .Ltcp69+32,R_AARCH64_ADR_PREL_PG_HI21,.Ltcp98+0\n"
-    ".reloc .Ltcp69+36,R_AARCH64_ADD_ABS_LO12_NC,.Ltcp98+0\n"
-    ".reloc .Ltcp69+440,R_AARCH64_CALL26,.Ltcp77+0\n"
-    ".section .text.tcp.70,\"ax\",%progbits\n"
+    ".reloc .Ltcp70+32,R_AARCH64_ADR_PREL_PG_HI21,.Ltcp99+0\n"
+    ".reloc .Ltcp70+36,R_AARCH64_ADD_ABS_LO12_NC,.Ltcp99+0\n"
+    ".reloc .Ltcp70+440,R_AARCH64_CALL26,.Ltcp78+0\n"
+    ".section .text.tcp.71,\"ax\",%progbits\n"
     ".balign 4\n"
-    ".Ltcp70:\n"
+    ".Ltcp71:\n"
     ".type \"core::fmt::formatter::Formatter::write_indented::<#66b2f40cbd927778>\",%function\n"
     ".size \"core::fmt::formatter::Formatter::write_indented::<#66b2f40cbd927778>\",352\n"
     "\"core::fmt::formatter::Formatter::write_indented::<#66b2f40cbd927778>\":\n"
@@ -12569,17 +12672,17 @@ __asm__(
     ".inst 0x91000021,0xaa1303e0,0x52800082,0x94000000,0x12001c08,0x370001e8,0xf10006f7,0x54ffff01,0x8b160281,0xaa1303e0\n"
     ".inst 0xaa1503e2,0x3901027f,0xa9444ff4,0xa94357f6,0xf9400bf9,0xa9425ff8,0xa8c57bfd,0x14000000,0x2a1f03f7,0x14000002\n"
     ".inst 0x52800037,0x2a1703e0,0xa9444ff4,0xa94357f6,0xf9400bf9,0xa9425ff8,0xa8c57bfd,0xd65f03c0\n"
-    ".reloc .Ltcp70+72,R_AARCH64_CALL26,.Ltcp71+0\n"
-    ".reloc .Ltcp70+156,R_AARCH64_ADR_PREL_PG_HI21,.Ltcp92+8\n"
-    ".reloc .Ltcp70+160,R_AARCH64_ADD_ABS_LO12_NC,.Ltcp92+8\n"
-    ".reloc .Ltcp70+172,R_AARCH64_CALL26,.Ltcp71+0\n"
-    ".reloc .Ltcp70+236,R_AARCH64_ADR_PREL_PG_HI21,.Ltcp92+8\n"
-    ".reloc .Ltcp70+240,R_AARCH64_ADD_ABS_LO12_NC,.Ltcp92+8\n"
-    ".reloc .Ltcp70+252,R_AARCH64_CALL26,.Ltcp71+0\n"
-    ".reloc .Ltcp70+308,R_AARCH64_JUMP26,.Ltcp71+0\n"
-    ".section .text.tcp.71,\"ax\",%progbits\n"
+    ".reloc .Ltcp71+72,R_AARCH64_CALL26,.Ltcp72+0\n"
+    ".reloc .Ltcp71+156,R_AARCH64_ADR_PREL_PG_HI21,.Ltcp93+8\n"
+    ".reloc .Ltcp71+160,R_AARCH64_ADD_ABS_LO12_NC,.Ltcp93+8\n"
+    ".reloc .Ltcp71+172,R_AARCH64_CALL26,.Ltcp72+0\n"
+    ".reloc .Ltcp71+236,R_AARCH64_ADR_PREL_PG_HI21,.Ltcp93+8\n"
+    ".reloc .Ltcp71+240,R_AARCH64_ADD_ABS_LO12_NC,.Ltcp93+8\n"
+    ".reloc .Ltcp71+252,R_AARCH64_CALL26,.Ltcp72+0\n"
+    ".reloc .Ltcp71+308,R_AARCH64_JUMP26,.Ltcp72+0\n"
+    ".section .text.tcp.72,\"ax\",%progbits\n"
     ".balign 4\n"
-    ".Ltcp71:\n"
+    ".Ltcp72:\n"
     ".type \"core::fmt::formatter::Formatter::write_raw::<#66b2f40cbd927778>\",%function\n"
     ".size \"core::fmt::formatter::Formatter::write_raw::<#66b2f40cbd927778>\",612\n"
     "\"core::fmt::formatter::Formatter::write_raw::<#66b2f40cbd927778>\":\n"
@@ -12600,10 +12703,10 @@ __asm__(
     ".inst 0x8b0b012c,0xcb08016a,0x8b0b002b,0x8b0c028c,0xfc408560,0xb100214a,0xfc008580,0x54ffffa1,0xeb08005f,0x54fffb40\n"
     ".inst 0x17ffffca,0xaa0103f4,0xaa0203e1,0xaa0003f3,0xaa0203f5,0x94000000,0x340000c0,0xaa1303e0,0xa940ce69,0xaa1503e2\n"
     ".inst 0xaa1403e1,0x17ffffb1,0x52800028,0x17ffffcf\n"
-    ".reloc .Ltcp71+576,R_AARCH64_CALL26,.Ltcp77+0\n"
-    ".section .text.tcp.72,\"ax\",%progbits\n"
+    ".reloc .Ltcp72+576,R_AARCH64_CALL26,.Ltcp78+0\n"
+    ".section .text.tcp.73,\"ax\",%progbits\n"
     ".balign 4\n"
-    ".Ltcp72:\n"
+    ".Ltcp73:\n"
     ".type \"core::fmt::formatter::Formatter::write_piece::<#2411bf40c49e81b6>\",%function\n"
     ".size \"core::fmt::formatter::Formatter::write_piece::<#2411bf40c49e81b6>\",468\n"
     "\"core::fmt::formatter::Formatter::write_piece::<#2411bf40c49e81b6>\":\n"
@@ -12621,11 +12724,11 @@ __asm__(
     ".inst 0x12001c00,0xa9444ff4,0xa94357f6,0xa9427bfd,0x910143ff,0xd65f03c0,0xaa0103f5,0xaa1303e0,0xaa0203e1,0xaa0203f6\n"
     ".inst 0x94000000,0x340000a0,0xa940d268,0xaa1503e1,0xaa1603e2,0x17ffffe3,0x52800020,0xa9444ff4,0xa94357f6,0xa9427bfd\n"
     ".inst 0x910143ff,0xd65f03c0\n"
-    ".reloc .Ltcp72+376,R_AARCH64_CALL26,.Ltcp70+0\n"
-    ".reloc .Ltcp72+420,R_AARCH64_CALL26,.Ltcp77+0\n"
-    ".section .text.tcp.73,\"ax\",%progbits\n"
+    ".reloc .Ltcp73+376,R_AARCH64_CALL26,.Ltcp71+0\n"
+    ".reloc .Ltcp73+420,R_AARCH64_CALL26,.Ltcp78+0\n"
+    ".section .text.tcp.74,\"ax\",%progbits\n"
     ".balign 4\n"
-    ".Ltcp73:\n"
+    ".Ltcp74:\n"
     ".type \"core::fmt::formatter::Formatter::write_piece::<#fa26af870f156c24>\",%function\n"
     ".size \"core::fmt::formatter::Formatter::write_piece::<#fa26af870f156c24>\",400\n"
     "\"core::fmt::formatter::Formatter::write_piece::<#fa26af870f156c24>\":\n"
@@ -12641,11 +12744,11 @@ __asm__(
     ".inst 0x12001c00,0xa9444ff4,0xa94357f6,0xa9427bfd,0x910143ff,0xd65f03c0,0xaa0103f5,0xaa1303e0,0xaa0203e1,0xaa0203f6\n"
     ".inst 0x94000000,0x340000a0,0xa940d268,0xaa1503e1,0xaa1603e2,0x17ffffe3,0x52800020,0xa9444ff4,0xa94357f6,0xa9427bfd\n"
     ".inst 0x910143ff,0xd65f03c0\n"
-    ".reloc .Ltcp73+308,R_AARCH64_CALL26,.Ltcp70+0\n"
-    ".reloc .Ltcp73+352,R_AARCH64_CALL26,.Ltcp77+0\n"
-    ".section .text.tcp.74,\"ax\",%progbits\n"
+    ".reloc .Ltcp74+308,R_AARCH64_CALL26,.Ltcp71+0\n"
+    ".reloc .Ltcp74+352,R_AARCH64_CALL26,.Ltcp78+0\n"
+    ".section .text.tcp.75,\"ax\",%progbits\n"
     ".balign 4\n"
-    ".Ltcp74:\n"
+    ".Ltcp75:\n"
     ".type \"kit_text::options::push_block::<#fc995fe602e3aacb>\",%function\n"
     ".size \"kit_text::options::push_block::<#fc995fe602e3aacb>\",816\n"
     "\"kit_text::options::push_block::<#fc995fe602e3aacb>\":\n"
@@ -12671,12 +12774,12 @@ __asm__(
     ".inst 0x2a1f03e0,0xa9005e76,0xf9000a75,0xa94b4ff4,0xf9404bf7,0xa94a57f6,0xa9487bfd,0x910303ff,0xd65f03c0,0xaa1303e0\n"
     ".inst 0xaa0203e1,0xaa0203f6,0x94000000,0x34000080,0xa940d668,0xaa1603e2,0x17ffffea,0x52800020,0xa94b4ff4,0xf9404bf7\n"
     ".inst 0xa94a57f6,0xa9487bfd,0x910303ff,0xd65f03c0\n"
-    ".reloc .Ltcp74+56,R_AARCH64_ADR_PREL_PG_HI21,.Ltcp98+0\n"
-    ".reloc .Ltcp74+60,R_AARCH64_ADD_ABS_LO12_NC,.Ltcp98+0\n"
-    ".reloc .Ltcp74+768,R_AARCH64_CALL26,.Ltcp77+0\n"
-    ".section .text.tcp.75,\"ax\",%progbits\n"
+    ".reloc .Ltcp75+56,R_AARCH64_ADR_PREL_PG_HI21,.Ltcp99+0\n"
+    ".reloc .Ltcp75+60,R_AARCH64_ADD_ABS_LO12_NC,.Ltcp99+0\n"
+    ".reloc .Ltcp75+768,R_AARCH64_CALL26,.Ltcp78+0\n"
+    ".section .text.tcp.76,\"ax\",%progbits\n"
     ".balign 4\n"
-    ".Ltcp75:\n"
+    ".Ltcp76:\n"
     ".type \"kit_text::faults::push_fault::<#fc995fe602e3aacb>\",%function\n"
     ".size \"kit_text::faults::push_fault::<#fc995fe602e3aacb>\",356\n"
     "\"kit_text::faults::push_fault::<#fc995fe602e3aacb>\":\n"
@@ -12689,15 +12792,15 @@ __asm__(
     ".inst 0x540002ec,0xa9494ff4,0xa9487bfd,0x910283ff,0xd65f03c0,0x2a1f03e0,0xa9494ff4,0xa9487bfd,0x910283ff,0xd65f03c0\n"
     ".inst 0x9100c3e0,0x52800141,0x94000000,0x36000060,0xa943a3e9,0x17ffffca,0xad4187e0,0xad0087e0,0xad000660,0xf9400668\n"
     ".inst 0xb5fffc54,0xeb14011f,0x54000049,0xf9000674,0x52800020,0xa9494ff4,0xa9487bfd,0x910283ff,0xd65f03c0\n"
-    ".reloc .Ltcp75+88,R_AARCH64_ADR_PREL_PG_HI21,.Ltcp118+0\n"
-    ".reloc .Ltcp75+92,R_AARCH64_ADD_ABS_LO12_NC,.Ltcp118+0\n"
-    ".reloc .Ltcp75+116,R_AARCH64_ADR_PREL_PG_HI21,.Ltcp10+224\n"
-    ".reloc .Ltcp75+120,R_AARCH64_LDST64_ABS_LO12_NC,.Ltcp10+224\n"
-    ".reloc .Ltcp75+168,R_AARCH64_CALL26,.Ltcp73+0\n"
-    ".reloc .Ltcp75+288,R_AARCH64_CALL26,.Ltcp77+0\n"
-    ".section .text.tcp.76,\"ax\",%progbits\n"
+    ".reloc .Ltcp76+88,R_AARCH64_ADR_PREL_PG_HI21,.Ltcp119+0\n"
+    ".reloc .Ltcp76+92,R_AARCH64_ADD_ABS_LO12_NC,.Ltcp119+0\n"
+    ".reloc .Ltcp76+116,R_AARCH64_ADR_PREL_PG_HI21,.Ltcp11+224\n"
+    ".reloc .Ltcp76+120,R_AARCH64_LDST64_ABS_LO12_NC,.Ltcp11+224\n"
+    ".reloc .Ltcp76+168,R_AARCH64_CALL26,.Ltcp74+0\n"
+    ".reloc .Ltcp76+288,R_AARCH64_CALL26,.Ltcp78+0\n"
+    ".section .text.tcp.77,\"ax\",%progbits\n"
     ".balign 4\n"
-    ".Ltcp76:\n"
+    ".Ltcp77:\n"
     ".type \"kit_report::answers::push_refused::<#fc995fe602e3aacb>\",%function\n"
     ".size \"kit_report::answers::push_refused::<#fc995fe602e3aacb>\",308\n"
     "\"kit_report::answers::push_refused::<#fc995fe602e3aacb>\":\n"
@@ -12709,11 +12812,11 @@ __asm__(
     ".inst 0xa9487bfd,0x910283ff,0xd65f03c0,0x2a1f03e0,0xa9494ff4,0xa9487bfd,0x910283ff,0xd65f03c0,0x9100c3e0,0x52800101\n"
     ".inst 0x94000000,0x36000060,0xa943a3e9,0x17ffffd5,0xad4187e0,0xad0087e0,0xad000660,0xf9400668,0xb5fffc54,0xeb14011f\n"
     ".inst 0x54000049,0xf9000674,0x52800020,0xa9494ff4,0xa9487bfd,0x910283ff,0xd65f03c0\n"
-    ".reloc .Ltcp76+120,R_AARCH64_CALL26,.Ltcp73+0\n"
-    ".reloc .Ltcp76+240,R_AARCH64_CALL26,.Ltcp77+0\n"
-    ".section .text.tcp.77,\"ax\",%progbits\n"
+    ".reloc .Ltcp77+120,R_AARCH64_CALL26,.Ltcp74+0\n"
+    ".reloc .Ltcp77+240,R_AARCH64_CALL26,.Ltcp78+0\n"
+    ".section .text.tcp.78,\"ax\",%progbits\n"
     ".balign 4\n"
-    ".Ltcp77:\n"
+    ".Ltcp78:\n"
     ".type \"std_alloc::vec::Vec::grow_amortized::<#774cccd130ef0a54>\",%function\n"
     ".size \"std_alloc::vec::Vec::grow_amortized::<#774cccd130ef0a54>\",496\n"
     "\"std_alloc::vec::Vec::grow_amortized::<#774cccd130ef0a54>\":\n"
@@ -12731,18 +12834,18 @@ __asm__(
     ".inst 0xaa1603e0,0x17ffffcd,0x927d0449,0x927be848,0x9100402a,0x9100426b,0x927be84c,0xad7f8540,0xf100818c,0x9100814a\n"
     ".inst 0xad3f8560,0x9100816b,0x54ffff61,0xeb08005f,0x54fff800,0xb4000149,0xaa0803e9,0x927df048,0xfc696820,0xfc296a60\n"
     ".inst 0x91002129,0xeb09011f,0x54ffff81,0xeb08005f,0x54fff6c0,0x38686829,0x38286a69,0x91000508,0x17fffffb\n"
-    ".section .text.tcp.78,\"ax\",%progbits\n"
+    ".section .text.tcp.79,\"ax\",%progbits\n"
     ".balign 4\n"
-    ".Ltcp78:\n"
+    ".Ltcp79:\n"
     ".type \"kit_report::outcomes::is_refused\",%function\n"
     ".size \"kit_report::outcomes::is_refused\",84\n"
     "\"kit_report::outcomes::is_refused\":\n"
     ".inst 0x39400008,0x34000068,0x52800020,0xd65f03c0,0x39402008,0x7100091f,0x540001ac,0x39402409,0x3940400a,0x7100013f\n"
     ".inst 0x1a9f07e9,0x7100015f,0x1a9f07ea,0x1a9f07eb,0x7100051f,0x1a8b014a,0x7100011f,0x1a8a0120,0xd65f03c0,0x2a1f03e0\n"
     ".inst 0xd65f03c0\n"
-    ".section .text.tcp.79,\"ax\",%progbits\n"
+    ".section .text.tcp.80,\"ax\",%progbits\n"
     ".balign 4\n"
-    ".Ltcp79:\n"
+    ".Ltcp80:\n"
     ".type \"core::fmt::formatter::Formatter::write_piece::<#ab7f6a11be6e0e81>\",%function\n"
     ".size \"core::fmt::formatter::Formatter::write_piece::<#ab7f6a11be6e0e81>\",464\n"
     "\"core::fmt::formatter::Formatter::write_piece::<#ab7f6a11be6e0e81>\":\n"
@@ -12760,11 +12863,11 @@ __asm__(
     ".inst 0x12001c00,0xa9444ff4,0xa94357f6,0xa9427bfd,0x910143ff,0xd65f03c0,0xaa0103f5,0xaa1303e0,0xaa0203e1,0xaa0203f6\n"
     ".inst 0x94000000,0x340000a0,0xa940d268,0xaa1503e1,0xaa1603e2,0x17ffffe3,0x52800020,0xa9444ff4,0xa94357f6,0xa9427bfd\n"
     ".inst 0x910143ff,0xd65f03c0\n"
-    ".reloc .Ltcp79+372,R_AARCH64_CALL26,.Ltcp70+0\n"
-    ".reloc .Ltcp79+416,R_AARCH64_CALL26,.Ltcp77+0\n"
-    ".section .text.tcp.80,\"ax\",%progbits\n"
+    ".reloc .Ltcp80+372,R_AARCH64_CALL26,.Ltcp71+0\n"
+    ".reloc .Ltcp80+416,R_AARCH64_CALL26,.Ltcp78+0\n"
+    ".section .text.tcp.81,\"ax\",%progbits\n"
     ".balign 4\n"
-    ".Ltcp80:\n"
+    ".Ltcp81:\n"
     ".type \"std_alloc::string::String::write_fmt::<#43545b4072f2aa1d>\",%function\n"
     ".size \"std_alloc::string::String::write_fmt::<#43545b4072f2aa1d>\",576\n"
     "\"std_alloc::string::String::write_fmt::<#43545b4072f2aa1d>\":\n"
@@ -12784,11 +12887,11 @@ __asm__(
     ".inst 0x3101051f,0x540002ac,0xa94a4ff4,0xa94957f6,0xa9485ff8,0xa9477bfd,0x9102c3ff,0xd65f03c0,0x2a1f03e0,0xa94a4ff4\n"
     ".inst 0xa94957f6,0xa9485ff8,0xa9477bfd,0x9102c3ff,0xd65f03c0,0xad4107e0,0xad0007e0,0xad000660,0xf9400668,0xb5fffc95\n"
     ".inst 0xeb15011f,0x54000049,0xf9000675,0x52800020,0xa94a4ff4,0xa94957f6,0xa9485ff8,0xa9477bfd,0x9102c3ff,0xd65f03c0\n"
-    ".reloc .Ltcp80+328,R_AARCH64_CALL26,.Ltcp77+0\n"
-    ".reloc .Ltcp80+388,R_AARCH64_CALL26,.Ltcp79+0\n"
-    ".section .text.tcp.81,\"ax\",%progbits\n"
+    ".reloc .Ltcp81+328,R_AARCH64_CALL26,.Ltcp78+0\n"
+    ".reloc .Ltcp81+388,R_AARCH64_CALL26,.Ltcp80+0\n"
+    ".section .text.tcp.82,\"ax\",%progbits\n"
     ".balign 4\n"
-    ".Ltcp81:\n"
+    ".Ltcp82:\n"
     ".type \"std_alloc::string::String::write_fmt::<#8ef6768b53a45598>\",%function\n"
     ".size \"std_alloc::string::String::write_fmt::<#8ef6768b53a45598>\",936\n"
     "\"std_alloc::string::String::write_fmt::<#8ef6768b53a45598>\":\n"
@@ -12819,14 +12922,14 @@ __asm__(
     "bl memmove\n"
     ".inst 0xa902dbf7,0x2a1f03e0,0xad4107e0,0xad0007e0,0xad000660,0xa94b4ff4,0xa94a57f6,0xa9495ff8,0xa94867fa,0xa9477bfd\n"
     ".inst 0x910303ff,0xd65f03c0\n"
-    ".reloc .Ltcp81+200,R_AARCH64_CALL26,.Ltcp79+0\n"
-    ".reloc .Ltcp81+360,R_AARCH64_CALL26,.Ltcp77+0\n"
-    ".reloc .Ltcp81+420,R_AARCH64_CALL26,.Ltcp79+0\n"
-    ".reloc .Ltcp81+688,R_AARCH64_CALL26,.Ltcp70+0\n"
-    ".reloc .Ltcp81+840,R_AARCH64_CALL26,.Ltcp77+0\n"
-    ".section .text.tcp.82,\"ax\",%progbits\n"
+    ".reloc .Ltcp82+200,R_AARCH64_CALL26,.Ltcp80+0\n"
+    ".reloc .Ltcp82+360,R_AARCH64_CALL26,.Ltcp78+0\n"
+    ".reloc .Ltcp82+420,R_AARCH64_CALL26,.Ltcp80+0\n"
+    ".reloc .Ltcp82+688,R_AARCH64_CALL26,.Ltcp71+0\n"
+    ".reloc .Ltcp82+840,R_AARCH64_CALL26,.Ltcp78+0\n"
+    ".section .text.tcp.83,\"ax\",%progbits\n"
     ".balign 4\n"
-    ".Ltcp82:\n"
+    ".Ltcp83:\n"
     ".type \"tcp_web::exports::put_fault::<#96589b6357422c20>\",%function\n"
     ".size \"tcp_web::exports::put_fault::<#96589b6357422c20>\",1556\n"
     "\"tcp_web::exports::put_fault::<#96589b6357422c20>\":\n"
@@ -12872,39 +12975,39 @@ __asm__(
     ".inst 0x3707d408,0x17ffff3d,0x910003e0,0x52800021,0x94000000,0x34ffd360,0xa940a3e9,0x17ffff32,0xd10063a8,0x910003e0\n"
     ".inst 0x52800042,0x91005901,0x94000000,0x12001c08,0x3707d248,0x17ffff4a,0x910003e0,0x52800041,0x94000000,0x34ffd1a0\n"
     ".inst 0xa940a3e9,0x17ffff3f\n"
-    ".reloc .Ltcp82+160,R_AARCH64_CALL26,.Ltcp85+0\n"
-    ".reloc .Ltcp82+172,R_AARCH64_ADR_PREL_PG_HI21,.Ltcp0+768\n"
-    ".reloc .Ltcp82+176,R_AARCH64_ADD_ABS_LO12_NC,.Ltcp0+768\n"
-    ".reloc .Ltcp82+204,R_AARCH64_ADR_PREL_PG_HI21,.Ltcp0+704\n"
-    ".reloc .Ltcp82+208,R_AARCH64_LDST128_ABS_LO12_NC,.Ltcp0+704\n"
-    ".reloc .Ltcp82+268,R_AARCH64_CALL26,.Ltcp85+0\n"
-    ".reloc .Ltcp82+280,R_AARCH64_ADR_PREL_PG_HI21,.Ltcp166+0\n"
-    ".reloc .Ltcp82+284,R_AARCH64_ADD_ABS_LO12_NC,.Ltcp166+0\n"
-    ".reloc .Ltcp82+312,R_AARCH64_ADR_PREL_PG_HI21,.Ltcp10+320\n"
-    ".reloc .Ltcp82+316,R_AARCH64_ADR_PREL_PG_HI21,.Ltcp10+328\n"
-    ".reloc .Ltcp82+324,R_AARCH64_LDST64_ABS_LO12_NC,.Ltcp10+320\n"
-    ".reloc .Ltcp82+328,R_AARCH64_LDST64_ABS_LO12_NC,.Ltcp10+328\n"
-    ".reloc .Ltcp82+548,R_AARCH64_ADR_PREL_PG_HI21,.Ltcp129+0\n"
-    ".reloc .Ltcp82+552,R_AARCH64_ADD_ABS_LO12_NC,.Ltcp129+0\n"
-    ".reloc .Ltcp82+560,R_AARCH64_ADR_PREL_PG_HI21,.Ltcp130+0\n"
-    ".reloc .Ltcp82+564,R_AARCH64_ADD_ABS_LO12_NC,.Ltcp130+0\n"
-    ".reloc .Ltcp82+1048,R_AARCH64_ADR_PREL_PG_HI21,.Ltcp94+0\n"
-    ".reloc .Ltcp82+1052,R_AARCH64_ADD_ABS_LO12_NC,.Ltcp94+0\n"
-    ".reloc .Ltcp82+1064,R_AARCH64_CALL26,.Ltcp83+0\n"
-    ".reloc .Ltcp82+1308,R_AARCH64_CALL26,.Ltcp85+0\n"
-    ".reloc .Ltcp82+1336,R_AARCH64_CALL26,.Ltcp83+0\n"
-    ".reloc .Ltcp82+1356,R_AARCH64_CALL26,.Ltcp83+0\n"
-    ".reloc .Ltcp82+1380,R_AARCH64_CALL26,.Ltcp85+0\n"
-    ".reloc .Ltcp82+1416,R_AARCH64_CALL26,.Ltcp85+0\n"
-    ".reloc .Ltcp82+1444,R_AARCH64_ADR_PREL_PG_HI21,.Ltcp97+0\n"
-    ".reloc .Ltcp82+1448,R_AARCH64_ADD_ABS_LO12_NC,.Ltcp97+0\n"
-    ".reloc .Ltcp82+1460,R_AARCH64_CALL26,.Ltcp83+0\n"
-    ".reloc .Ltcp82+1484,R_AARCH64_CALL26,.Ltcp85+0\n"
-    ".reloc .Ltcp82+1516,R_AARCH64_CALL26,.Ltcp83+0\n"
-    ".reloc .Ltcp82+1540,R_AARCH64_CALL26,.Ltcp85+0\n"
-    ".section .text.tcp.83,\"ax\",%progbits\n"
+    ".reloc .Ltcp83+160,R_AARCH64_CALL26,.Ltcp86+0\n"
+    ".reloc .Ltcp83+172,R_AARCH64_ADR_PREL_PG_HI21,.Ltcp0+1520\n"
+    ".reloc .Ltcp83+176,R_AARCH64_ADD_ABS_LO12_NC,.Ltcp0+1520\n"
+    ".reloc .Ltcp83+204,R_AARCH64_ADR_PREL_PG_HI21,.Ltcp0+704\n"
+    ".reloc .Ltcp83+208,R_AARCH64_LDST128_ABS_LO12_NC,.Ltcp0+704\n"
+    ".reloc .Ltcp83+268,R_AARCH64_CALL26,.Ltcp86+0\n"
+    ".reloc .Ltcp83+280,R_AARCH64_ADR_PREL_PG_HI21,.Ltcp167+0\n"
+    ".reloc .Ltcp83+284,R_AARCH64_ADD_ABS_LO12_NC,.Ltcp167+0\n"
+    ".reloc .Ltcp83+312,R_AARCH64_ADR_PREL_PG_HI21,.Ltcp11+320\n"
+    ".reloc .Ltcp83+316,R_AARCH64_ADR_PREL_PG_HI21,.Ltcp11+328\n"
+    ".reloc .Ltcp83+324,R_AARCH64_LDST64_ABS_LO12_NC,.Ltcp11+320\n"
+    ".reloc .Ltcp83+328,R_AARCH64_LDST64_ABS_LO12_NC,.Ltcp11+328\n"
+    ".reloc .Ltcp83+548,R_AARCH64_ADR_PREL_PG_HI21,.Ltcp130+0\n"
+    ".reloc .Ltcp83+552,R_AARCH64_ADD_ABS_LO12_NC,.Ltcp130+0\n"
+    ".reloc .Ltcp83+560,R_AARCH64_ADR_PREL_PG_HI21,.Ltcp131+0\n"
+    ".reloc .Ltcp83+564,R_AARCH64_ADD_ABS_LO12_NC,.Ltcp131+0\n"
+    ".reloc .Ltcp83+1048,R_AARCH64_ADR_PREL_PG_HI21,.Ltcp95+0\n"
+    ".reloc .Ltcp83+1052,R_AARCH64_ADD_ABS_LO12_NC,.Ltcp95+0\n"
+    ".reloc .Ltcp83+1064,R_AARCH64_CALL26,.Ltcp84+0\n"
+    ".reloc .Ltcp83+1308,R_AARCH64_CALL26,.Ltcp86+0\n"
+    ".reloc .Ltcp83+1336,R_AARCH64_CALL26,.Ltcp84+0\n"
+    ".reloc .Ltcp83+1356,R_AARCH64_CALL26,.Ltcp84+0\n"
+    ".reloc .Ltcp83+1380,R_AARCH64_CALL26,.Ltcp86+0\n"
+    ".reloc .Ltcp83+1416,R_AARCH64_CALL26,.Ltcp86+0\n"
+    ".reloc .Ltcp83+1444,R_AARCH64_ADR_PREL_PG_HI21,.Ltcp98+0\n"
+    ".reloc .Ltcp83+1448,R_AARCH64_ADD_ABS_LO12_NC,.Ltcp98+0\n"
+    ".reloc .Ltcp83+1460,R_AARCH64_CALL26,.Ltcp84+0\n"
+    ".reloc .Ltcp83+1484,R_AARCH64_CALL26,.Ltcp86+0\n"
+    ".reloc .Ltcp83+1516,R_AARCH64_CALL26,.Ltcp84+0\n"
+    ".reloc .Ltcp83+1540,R_AARCH64_CALL26,.Ltcp86+0\n"
+    ".section .text.tcp.84,\"ax\",%progbits\n"
     ".balign 4\n"
-    ".Ltcp83:\n"
+    ".Ltcp84:\n"
     ".type \"core::fmt::formatter::Formatter::write_indented::<#b0b7e8f0682f909d>\",%function\n"
     ".size \"core::fmt::formatter::Formatter::write_indented::<#b0b7e8f0682f909d>\",352\n"
     "\"core::fmt::formatter::Formatter::write_indented::<#b0b7e8f0682f909d>\":\n"
@@ -12917,17 +13020,17 @@ __asm__(
     ".inst 0x91000021,0xaa1303e0,0x52800082,0x94000000,0x12001c08,0x370001e8,0xf10006f7,0x54ffff01,0x8b160281,0xaa1303e0\n"
     ".inst 0xaa1503e2,0x3901027f,0xa9444ff4,0xa94357f6,0xf9400bf9,0xa9425ff8,0xa8c57bfd,0x14000000,0x2a1f03f7,0x14000002\n"
     ".inst 0x52800037,0x2a1703e0,0xa9444ff4,0xa94357f6,0xf9400bf9,0xa9425ff8,0xa8c57bfd,0xd65f03c0\n"
-    ".reloc .Ltcp83+72,R_AARCH64_CALL26,.Ltcp84+0\n"
-    ".reloc .Ltcp83+156,R_AARCH64_ADR_PREL_PG_HI21,.Ltcp92+8\n"
-    ".reloc .Ltcp83+160,R_AARCH64_ADD_ABS_LO12_NC,.Ltcp92+8\n"
-    ".reloc .Ltcp83+172,R_AARCH64_CALL26,.Ltcp84+0\n"
-    ".reloc .Ltcp83+236,R_AARCH64_ADR_PREL_PG_HI21,.Ltcp92+8\n"
-    ".reloc .Ltcp83+240,R_AARCH64_ADD_ABS_LO12_NC,.Ltcp92+8\n"
-    ".reloc .Ltcp83+252,R_AARCH64_CALL26,.Ltcp84+0\n"
-    ".reloc .Ltcp83+308,R_AARCH64_JUMP26,.Ltcp84+0\n"
-    ".section .text.tcp.84,\"ax\",%progbits\n"
+    ".reloc .Ltcp84+72,R_AARCH64_CALL26,.Ltcp85+0\n"
+    ".reloc .Ltcp84+156,R_AARCH64_ADR_PREL_PG_HI21,.Ltcp93+8\n"
+    ".reloc .Ltcp84+160,R_AARCH64_ADD_ABS_LO12_NC,.Ltcp93+8\n"
+    ".reloc .Ltcp84+172,R_AARCH64_CALL26,.Ltcp85+0\n"
+    ".reloc .Ltcp84+236,R_AARCH64_ADR_PREL_PG_HI21,.Ltcp93+8\n"
+    ".reloc .Ltcp84+240,R_AARCH64_ADD_ABS_LO12_NC,.Ltcp93+8\n"
+    ".reloc .Ltcp84+252,R_AARCH64_CALL26,.Ltcp85+0\n"
+    ".reloc .Ltcp84+308,R_AARCH64_JUMP26,.Ltcp85+0\n"
+    ".section .text.tcp.85,\"ax\",%progbits\n"
     ".balign 4\n"
-    ".Ltcp84:\n"
+    ".Ltcp85:\n"
     ".type \"core::fmt::formatter::Formatter::write_raw::<#b0b7e8f0682f909d>\",%function\n"
     ".size \"core::fmt::formatter::Formatter::write_raw::<#b0b7e8f0682f909d>\",612\n"
     "\"core::fmt::formatter::Formatter::write_raw::<#b0b7e8f0682f909d>\":\n"
@@ -12948,10 +13051,10 @@ __asm__(
     ".inst 0x8b0b012c,0xcb08016a,0x8b0b002b,0x8b0c028c,0xfc408560,0xb100214a,0xfc008580,0x54ffffa1,0xeb08005f,0x54fffb40\n"
     ".inst 0x17ffffca,0xaa0103f4,0xaa0203e1,0xaa0003f3,0xaa0203f5,0x94000000,0x340000c0,0xaa1303e0,0xa940ce69,0xaa1503e2\n"
     ".inst 0xaa1403e1,0x17ffffb1,0x52800028,0x17ffffcf\n"
-    ".reloc .Ltcp84+576,R_AARCH64_CALL26,.Ltcp85+0\n"
-    ".section .text.tcp.85,\"ax\",%progbits\n"
+    ".reloc .Ltcp85+576,R_AARCH64_CALL26,.Ltcp86+0\n"
+    ".section .text.tcp.86,\"ax\",%progbits\n"
     ".balign 4\n"
-    ".Ltcp85:\n"
+    ".Ltcp86:\n"
     ".type \"std_alloc::vec::Vec::grow_amortized::<#d75ad40d6e24f1b1>\",%function\n"
     ".size \"std_alloc::vec::Vec::grow_amortized::<#d75ad40d6e24f1b1>\",496\n"
     "\"std_alloc::vec::Vec::grow_amortized::<#d75ad40d6e24f1b1>\":\n"
@@ -12969,9 +13072,9 @@ __asm__(
     ".inst 0xaa1603e0,0x17ffffcd,0x927d0449,0x927be848,0x9100402a,0x9100426b,0x927be84c,0xad7f8540,0xf100818c,0x9100814a\n"
     ".inst 0xad3f8560,0x9100816b,0x54ffff61,0xeb08005f,0x54fff800,0xb4000149,0xaa0803e9,0x927df048,0xfc696820,0xfc296a60\n"
     ".inst 0x91002129,0xeb09011f,0x54ffff81,0xeb08005f,0x54fff6c0,0x38686829,0x38286a69,0x91000508,0x17fffffb\n"
-    ".section .text.tcp.86,\"ax\",%progbits\n"
+    ".section .text.tcp.87,\"ax\",%progbits\n"
     ".balign 4\n"
-    ".Ltcp86:\n"
+    ".Ltcp87:\n"
     ".type \"kit_report::report::push_end_line::<#fc995fe602e3aacb>\",%function\n"
     ".size \"kit_report::report::push_end_line::<#fc995fe602e3aacb>\",284\n"
     "\"kit_report::report::push_end_line::<#fc995fe602e3aacb>\":\n"
@@ -12983,16 +13086,16 @@ __asm__(
     ".inst 0x540001a0,0xf940026a,0x2a1f03e0,0x5280014b,0x3829694b,0x91000529,0xa900266a,0xf9000a68,0xa9474ff4,0xf94033f5\n"
     ".inst 0xa9457bfd,0x910203ff,0xd65f03c0,0xaa1303e0,0x52800021,0x94000000,0x2a0003e8,0x52800020,0x34fffce8,0xa940a269\n"
     ".inst 0x17ffffed\n"
-    ".reloc .Ltcp86+32,R_AARCH64_ADR_PREL_PG_HI21,.Ltcp92+44\n"
-    ".reloc .Ltcp86+36,R_AARCH64_ADD_ABS_LO12_NC,.Ltcp92+44\n"
-    ".reloc .Ltcp86+72,R_AARCH64_ADR_PREL_PG_HI21,.Ltcp97+0\n"
-    ".reloc .Ltcp86+76,R_AARCH64_ADD_ABS_LO12_NC,.Ltcp97+0\n"
-    ".reloc .Ltcp86+128,R_AARCH64_CALL26,.Ltcp87+0\n"
-    ".reloc .Ltcp86+156,R_AARCH64_CALL26,.Ltcp88+0\n"
-    ".reloc .Ltcp86+260,R_AARCH64_CALL26,.Ltcp77+0\n"
-    ".section .text.tcp.87,\"ax\",%progbits\n"
+    ".reloc .Ltcp87+32,R_AARCH64_ADR_PREL_PG_HI21,.Ltcp93+44\n"
+    ".reloc .Ltcp87+36,R_AARCH64_ADD_ABS_LO12_NC,.Ltcp93+44\n"
+    ".reloc .Ltcp87+72,R_AARCH64_ADR_PREL_PG_HI21,.Ltcp98+0\n"
+    ".reloc .Ltcp87+76,R_AARCH64_ADD_ABS_LO12_NC,.Ltcp98+0\n"
+    ".reloc .Ltcp87+128,R_AARCH64_CALL26,.Ltcp88+0\n"
+    ".reloc .Ltcp87+156,R_AARCH64_CALL26,.Ltcp89+0\n"
+    ".reloc .Ltcp87+260,R_AARCH64_CALL26,.Ltcp78+0\n"
+    ".section .text.tcp.88,\"ax\",%progbits\n"
     ".balign 4\n"
-    ".Ltcp87:\n"
+    ".Ltcp88:\n"
     ".type \"std_alloc::string::String::write_fmt::<#63f633939ab7fc33>\",%function\n"
     ".size \"std_alloc::string::String::write_fmt::<#63f633939ab7fc33>\",1820\n"
     "\"std_alloc::string::String::write_fmt::<#63f633939ab7fc33>\":\n"
@@ -13049,32 +13152,32 @@ __asm__(
     ".inst 0xf94007e9,0xb40001a9,0xeb08013f,0x54000160,0xeb09011f,0x54000183,0xeb09011f,0x52800020,0x54000149,0xf9400268\n"
     ".inst 0x38e96908,0x3101051f,0x5400008c,0x14000005,0xeb09011f,0x54000049,0xf9000669,0x52800020,0xa94e4ff4,0xa94d57f6\n"
     ".inst 0xa94c5ff8,0xa94b67fa,0xa94a6ffc,0xa9497bfd,0x9103c3ff,0xd65f03c0\n"
-    ".reloc .Ltcp87+240,R_AARCH64_ADR_PREL_PG_HI21,.Ltcp130+0\n"
-    ".reloc .Ltcp87+244,R_AARCH64_ADD_ABS_LO12_NC,.Ltcp130+0\n"
-    ".reloc .Ltcp87+268,R_AARCH64_ADR_PREL_PG_HI21,.Ltcp129+0\n"
-    ".reloc .Ltcp87+272,R_AARCH64_ADD_ABS_LO12_NC,.Ltcp129+0\n"
-    ".reloc .Ltcp87+608,R_AARCH64_CALL26,.Ltcp77+0\n"
-    ".reloc .Ltcp87+644,R_AARCH64_CALL26,.Ltcp70+0\n"
-    ".reloc .Ltcp87+668,R_AARCH64_CALL26,.Ltcp77+0\n"
-    ".reloc .Ltcp87+700,R_AARCH64_CALL26,.Ltcp70+0\n"
-    ".reloc .Ltcp87+836,R_AARCH64_CALL26,.Ltcp77+0\n"
-    ".reloc .Ltcp87+896,R_AARCH64_ADR_PREL_PG_HI21,.Ltcp179+0\n"
-    ".reloc .Ltcp87+900,R_AARCH64_ADD_ABS_LO12_NC,.Ltcp179+0\n"
-    ".reloc .Ltcp87+932,R_AARCH64_ADR_PREL_PG_HI21,.Ltcp180+0\n"
-    ".reloc .Ltcp87+936,R_AARCH64_ADD_ABS_LO12_NC,.Ltcp180+0\n"
-    ".reloc .Ltcp87+1012,R_AARCH64_CALL26,.Ltcp70+0\n"
-    ".reloc .Ltcp87+1044,R_AARCH64_CALL26,.Ltcp77+0\n"
-    ".reloc .Ltcp87+1264,R_AARCH64_CALL26,.Ltcp70+0\n"
-    ".reloc .Ltcp87+1400,R_AARCH64_CALL26,.Ltcp77+0\n"
-    ".reloc .Ltcp87+1460,R_AARCH64_ADR_PREL_PG_HI21,.Ltcp96+64\n"
-    ".reloc .Ltcp87+1464,R_AARCH64_ADD_ABS_LO12_NC,.Ltcp96+64\n"
-    ".reloc .Ltcp87+1500,R_AARCH64_ADR_PREL_PG_HI21,.Ltcp181+0\n"
-    ".reloc .Ltcp87+1504,R_AARCH64_ADD_ABS_LO12_NC,.Ltcp181+0\n"
-    ".reloc .Ltcp87+1580,R_AARCH64_CALL26,.Ltcp70+0\n"
-    ".reloc .Ltcp87+1628,R_AARCH64_CALL26,.Ltcp77+0\n"
-    ".section .text.tcp.88,\"ax\",%progbits\n"
+    ".reloc .Ltcp88+240,R_AARCH64_ADR_PREL_PG_HI21,.Ltcp131+0\n"
+    ".reloc .Ltcp88+244,R_AARCH64_ADD_ABS_LO12_NC,.Ltcp131+0\n"
+    ".reloc .Ltcp88+268,R_AARCH64_ADR_PREL_PG_HI21,.Ltcp130+0\n"
+    ".reloc .Ltcp88+272,R_AARCH64_ADD_ABS_LO12_NC,.Ltcp130+0\n"
+    ".reloc .Ltcp88+608,R_AARCH64_CALL26,.Ltcp78+0\n"
+    ".reloc .Ltcp88+644,R_AARCH64_CALL26,.Ltcp71+0\n"
+    ".reloc .Ltcp88+668,R_AARCH64_CALL26,.Ltcp78+0\n"
+    ".reloc .Ltcp88+700,R_AARCH64_CALL26,.Ltcp71+0\n"
+    ".reloc .Ltcp88+836,R_AARCH64_CALL26,.Ltcp78+0\n"
+    ".reloc .Ltcp88+896,R_AARCH64_ADR_PREL_PG_HI21,.Ltcp180+0\n"
+    ".reloc .Ltcp88+900,R_AARCH64_ADD_ABS_LO12_NC,.Ltcp180+0\n"
+    ".reloc .Ltcp88+932,R_AARCH64_ADR_PREL_PG_HI21,.Ltcp181+0\n"
+    ".reloc .Ltcp88+936,R_AARCH64_ADD_ABS_LO12_NC,.Ltcp181+0\n"
+    ".reloc .Ltcp88+1012,R_AARCH64_CALL26,.Ltcp71+0\n"
+    ".reloc .Ltcp88+1044,R_AARCH64_CALL26,.Ltcp78+0\n"
+    ".reloc .Ltcp88+1264,R_AARCH64_CALL26,.Ltcp71+0\n"
+    ".reloc .Ltcp88+1400,R_AARCH64_CALL26,.Ltcp78+0\n"
+    ".reloc .Ltcp88+1460,R_AARCH64_ADR_PREL_PG_HI21,.Ltcp97+64\n"
+    ".reloc .Ltcp88+1464,R_AARCH64_ADD_ABS_LO12_NC,.Ltcp97+64\n"
+    ".reloc .Ltcp88+1500,R_AARCH64_ADR_PREL_PG_HI21,.Ltcp182+0\n"
+    ".reloc .Ltcp88+1504,R_AARCH64_ADD_ABS_LO12_NC,.Ltcp182+0\n"
+    ".reloc .Ltcp88+1580,R_AARCH64_CALL26,.Ltcp71+0\n"
+    ".reloc .Ltcp88+1628,R_AARCH64_CALL26,.Ltcp78+0\n"
+    ".section .text.tcp.89,\"ax\",%progbits\n"
     ".balign 4\n"
-    ".Ltcp88:\n"
+    ".Ltcp89:\n"
     ".type \"kit_report::report::push_counts::<#fc995fe602e3aacb>\",%function\n"
     ".size \"kit_report::report::push_counts::<#fc995fe602e3aacb>\",1872\n"
     "\"kit_report::report::push_counts::<#fc995fe602e3aacb>\":\n"
@@ -13126,69 +13229,69 @@ __asm__(
     ".inst 0x34ffef00,0xa947e3e8,0xf9403bf7,0x8b150119,0x8b0802e0,0xcb140009,0xeb15013f,0x54fff883,0xaa1403e1,0xaa1503e2\n"
     "bl memcpy\n"
     ".inst 0xa90767f7,0x2a1f03e0,0xf90043f8,0xad4387e0,0xad0187e0,0xad000660,0x17ffff7c\n"
-    ".reloc .Ltcp88+36,R_AARCH64_ADR_PREL_PG_HI21,.Ltcp171+0\n"
-    ".reloc .Ltcp88+40,R_AARCH64_ADD_ABS_LO12_NC,.Ltcp171+0\n"
-    ".reloc .Ltcp88+56,R_AARCH64_ADR_PREL_PG_HI21,.Ltcp173+0\n"
-    ".reloc .Ltcp88+60,R_AARCH64_ADD_ABS_LO12_NC,.Ltcp173+0\n"
-    ".reloc .Ltcp88+80,R_AARCH64_ADR_PREL_PG_HI21,.Ltcp174+0\n"
-    ".reloc .Ltcp88+84,R_AARCH64_ADD_ABS_LO12_NC,.Ltcp174+0\n"
-    ".reloc .Ltcp88+116,R_AARCH64_ADR_PREL_PG_HI21,.Ltcp151+0\n"
-    ".reloc .Ltcp88+120,R_AARCH64_ADD_ABS_LO12_NC,.Ltcp151+0\n"
-    ".reloc .Ltcp88+128,R_AARCH64_ADR_PREL_PG_HI21,.Ltcp172+0\n"
-    ".reloc .Ltcp88+132,R_AARCH64_ADD_ABS_LO12_NC,.Ltcp172+0\n"
-    ".reloc .Ltcp88+184,R_AARCH64_ADR_PREL_PG_HI21,.Ltcp175+0\n"
-    ".reloc .Ltcp88+188,R_AARCH64_ADD_ABS_LO12_NC,.Ltcp175+0\n"
-    ".reloc .Ltcp88+200,R_AARCH64_ADR_PREL_PG_HI21,.Ltcp150+0\n"
-    ".reloc .Ltcp88+204,R_AARCH64_ADD_ABS_LO12_NC,.Ltcp150+0\n"
-    ".reloc .Ltcp88+216,R_AARCH64_ADR_PREL_PG_HI21,.Ltcp176+0\n"
-    ".reloc .Ltcp88+220,R_AARCH64_ADD_ABS_LO12_NC,.Ltcp176+0\n"
-    ".reloc .Ltcp88+348,R_AARCH64_ADR_PREL_PG_HI21,.Ltcp10+336\n"
-    ".reloc .Ltcp88+352,R_AARCH64_LDST64_ABS_LO12_NC,.Ltcp10+336\n"
-    ".reloc .Ltcp88+404,R_AARCH64_CALL26,.Ltcp72+0\n"
-    ".reloc .Ltcp88+492,R_AARCH64_ADR_PREL_PG_HI21,.Ltcp10+344\n"
-    ".reloc .Ltcp88+500,R_AARCH64_LDST64_ABS_LO12_NC,.Ltcp10+344\n"
-    ".reloc .Ltcp88+532,R_AARCH64_CALL26,.Ltcp77+0\n"
-    ".reloc .Ltcp88+548,R_AARCH64_ADR_PREL_PG_HI21,.Ltcp172+0\n"
-    ".reloc .Ltcp88+552,R_AARCH64_ADD_ABS_LO12_NC,.Ltcp172+0\n"
-    ".reloc .Ltcp88+564,R_AARCH64_CALL26,.Ltcp70+0\n"
-    ".reloc .Ltcp88+588,R_AARCH64_CALL26,.Ltcp77+0\n"
-    ".reloc .Ltcp88+660,R_AARCH64_CALL26,.Ltcp72+0\n"
-    ".reloc .Ltcp88+744,R_AARCH64_ADR_PREL_PG_HI21,.Ltcp10+352\n"
-    ".reloc .Ltcp88+748,R_AARCH64_LDST64_ABS_LO12_NC,.Ltcp10+352\n"
-    ".reloc .Ltcp88+768,R_AARCH64_ADR_PREL_PG_HI21,.Ltcp173+0\n"
-    ".reloc .Ltcp88+772,R_AARCH64_ADD_ABS_LO12_NC,.Ltcp173+0\n"
-    ".reloc .Ltcp88+784,R_AARCH64_CALL26,.Ltcp70+0\n"
-    ".reloc .Ltcp88+808,R_AARCH64_CALL26,.Ltcp77+0\n"
-    ".reloc .Ltcp88+876,R_AARCH64_CALL26,.Ltcp89+0\n"
-    ".reloc .Ltcp88+960,R_AARCH64_ADR_PREL_PG_HI21,.Ltcp10+360\n"
-    ".reloc .Ltcp88+964,R_AARCH64_LDST64_ABS_LO12_NC,.Ltcp10+360\n"
-    ".reloc .Ltcp88+984,R_AARCH64_ADR_PREL_PG_HI21,.Ltcp174+0\n"
-    ".reloc .Ltcp88+988,R_AARCH64_ADD_ABS_LO12_NC,.Ltcp174+0\n"
-    ".reloc .Ltcp88+1000,R_AARCH64_CALL26,.Ltcp70+0\n"
-    ".reloc .Ltcp88+1024,R_AARCH64_CALL26,.Ltcp77+0\n"
-    ".reloc .Ltcp88+1092,R_AARCH64_CALL26,.Ltcp89+0\n"
-    ".reloc .Ltcp88+1156,R_AARCH64_ADR_PREL_PG_HI21,.Ltcp175+0\n"
-    ".reloc .Ltcp88+1160,R_AARCH64_ADD_ABS_LO12_NC,.Ltcp175+0\n"
-    ".reloc .Ltcp88+1184,R_AARCH64_ADR_PREL_PG_HI21,.Ltcp10+368\n"
-    ".reloc .Ltcp88+1188,R_AARCH64_LDST64_ABS_LO12_NC,.Ltcp10+368\n"
-    ".reloc .Ltcp88+1244,R_AARCH64_CALL26,.Ltcp72+0\n"
-    ".reloc .Ltcp88+1424,R_AARCH64_ADR_PREL_PG_HI21,.Ltcp176+0\n"
-    ".reloc .Ltcp88+1428,R_AARCH64_ADD_ABS_LO12_NC,.Ltcp176+0\n"
-    ".reloc .Ltcp88+1452,R_AARCH64_ADR_PREL_PG_HI21,.Ltcp10+376\n"
-    ".reloc .Ltcp88+1460,R_AARCH64_LDST64_ABS_LO12_NC,.Ltcp10+376\n"
-    ".reloc .Ltcp88+1632,R_AARCH64_ADR_PREL_PG_HI21,.Ltcp175+0\n"
-    ".reloc .Ltcp88+1636,R_AARCH64_ADD_ABS_LO12_NC,.Ltcp175+0\n"
-    ".reloc .Ltcp88+1648,R_AARCH64_CALL26,.Ltcp70+0\n"
-    ".reloc .Ltcp88+1672,R_AARCH64_CALL26,.Ltcp77+0\n"
-    ".reloc .Ltcp88+1688,R_AARCH64_ADR_PREL_PG_HI21,.Ltcp176+0\n"
-    ".reloc .Ltcp88+1692,R_AARCH64_ADD_ABS_LO12_NC,.Ltcp176+0\n"
-    ".reloc .Ltcp88+1704,R_AARCH64_CALL26,.Ltcp70+0\n"
-    ".reloc .Ltcp88+1728,R_AARCH64_CALL26,.Ltcp77+0\n"
-    ".reloc .Ltcp88+1756,R_AARCH64_CALL26,.Ltcp70+0\n"
-    ".reloc .Ltcp88+1796,R_AARCH64_CALL26,.Ltcp77+0\n"
-    ".section .text.tcp.89,\"ax\",%progbits\n"
+    ".reloc .Ltcp89+36,R_AARCH64_ADR_PREL_PG_HI21,.Ltcp172+0\n"
+    ".reloc .Ltcp89+40,R_AARCH64_ADD_ABS_LO12_NC,.Ltcp172+0\n"
+    ".reloc .Ltcp89+56,R_AARCH64_ADR_PREL_PG_HI21,.Ltcp174+0\n"
+    ".reloc .Ltcp89+60,R_AARCH64_ADD_ABS_LO12_NC,.Ltcp174+0\n"
+    ".reloc .Ltcp89+80,R_AARCH64_ADR_PREL_PG_HI21,.Ltcp175+0\n"
+    ".reloc .Ltcp89+84,R_AARCH64_ADD_ABS_LO12_NC,.Ltcp175+0\n"
+    ".reloc .Ltcp89+116,R_AARCH64_ADR_PREL_PG_HI21,.Ltcp152+0\n"
+    ".reloc .Ltcp89+120,R_AARCH64_ADD_ABS_LO12_NC,.Ltcp152+0\n"
+    ".reloc .Ltcp89+128,R_AARCH64_ADR_PREL_PG_HI21,.Ltcp173+0\n"
+    ".reloc .Ltcp89+132,R_AARCH64_ADD_ABS_LO12_NC,.Ltcp173+0\n"
+    ".reloc .Ltcp89+184,R_AARCH64_ADR_PREL_PG_HI21,.Ltcp176+0\n"
+    ".reloc .Ltcp89+188,R_AARCH64_ADD_ABS_LO12_NC,.Ltcp176+0\n"
+    ".reloc .Ltcp89+200,R_AARCH64_ADR_PREL_PG_HI21,.Ltcp151+0\n"
+    ".reloc .Ltcp89+204,R_AARCH64_ADD_ABS_LO12_NC,.Ltcp151+0\n"
+    ".reloc .Ltcp89+216,R_AARCH64_ADR_PREL_PG_HI21,.Ltcp177+0\n"
+    ".reloc .Ltcp89+220,R_AARCH64_ADD_ABS_LO12_NC,.Ltcp177+0\n"
+    ".reloc .Ltcp89+348,R_AARCH64_ADR_PREL_PG_HI21,.Ltcp11+336\n"
+    ".reloc .Ltcp89+352,R_AARCH64_LDST64_ABS_LO12_NC,.Ltcp11+336\n"
+    ".reloc .Ltcp89+404,R_AARCH64_CALL26,.Ltcp73+0\n"
+    ".reloc .Ltcp89+492,R_AARCH64_ADR_PREL_PG_HI21,.Ltcp11+344\n"
+    ".reloc .Ltcp89+500,R_AARCH64_LDST64_ABS_LO12_NC,.Ltcp11+344\n"
+    ".reloc .Ltcp89+532,R_AARCH64_CALL26,.Ltcp78+0\n"
+    ".reloc .Ltcp89+548,R_AARCH64_ADR_PREL_PG_HI21,.Ltcp173+0\n"
+    ".reloc .Ltcp89+552,R_AARCH64_ADD_ABS_LO12_NC,.Ltcp173+0\n"
+    ".reloc .Ltcp89+564,R_AARCH64_CALL26,.Ltcp71+0\n"
+    ".reloc .Ltcp89+588,R_AARCH64_CALL26,.Ltcp78+0\n"
+    ".reloc .Ltcp89+660,R_AARCH64_CALL26,.Ltcp73+0\n"
+    ".reloc .Ltcp89+744,R_AARCH64_ADR_PREL_PG_HI21,.Ltcp11+352\n"
+    ".reloc .Ltcp89+748,R_AARCH64_LDST64_ABS_LO12_NC,.Ltcp11+352\n"
+    ".reloc .Ltcp89+768,R_AARCH64_ADR_PREL_PG_HI21,.Ltcp174+0\n"
+    ".reloc .Ltcp89+772,R_AARCH64_ADD_ABS_LO12_NC,.Ltcp174+0\n"
+    ".reloc .Ltcp89+784,R_AARCH64_CALL26,.Ltcp71+0\n"
+    ".reloc .Ltcp89+808,R_AARCH64_CALL26,.Ltcp78+0\n"
+    ".reloc .Ltcp89+876,R_AARCH64_CALL26,.Ltcp90+0\n"
+    ".reloc .Ltcp89+960,R_AARCH64_ADR_PREL_PG_HI21,.Ltcp11+360\n"
+    ".reloc .Ltcp89+964,R_AARCH64_LDST64_ABS_LO12_NC,.Ltcp11+360\n"
+    ".reloc .Ltcp89+984,R_AARCH64_ADR_PREL_PG_HI21,.Ltcp175+0\n"
+    ".reloc .Ltcp89+988,R_AARCH64_ADD_ABS_LO12_NC,.Ltcp175+0\n"
+    ".reloc .Ltcp89+1000,R_AARCH64_CALL26,.Ltcp71+0\n"
+    ".reloc .Ltcp89+1024,R_AARCH64_CALL26,.Ltcp78+0\n"
+    ".reloc .Ltcp89+1092,R_AARCH64_CALL26,.Ltcp90+0\n"
+    ".reloc .Ltcp89+1156,R_AARCH64_ADR_PREL_PG_HI21,.Ltcp176+0\n"
+    ".reloc .Ltcp89+1160,R_AARCH64_ADD_ABS_LO12_NC,.Ltcp176+0\n"
+    ".reloc .Ltcp89+1184,R_AARCH64_ADR_PREL_PG_HI21,.Ltcp11+368\n"
+    ".reloc .Ltcp89+1188,R_AARCH64_LDST64_ABS_LO12_NC,.Ltcp11+368\n"
+    ".reloc .Ltcp89+1244,R_AARCH64_CALL26,.Ltcp73+0\n"
+    ".reloc .Ltcp89+1424,R_AARCH64_ADR_PREL_PG_HI21,.Ltcp177+0\n"
+    ".reloc .Ltcp89+1428,R_AARCH64_ADD_ABS_LO12_NC,.Ltcp177+0\n"
+    ".reloc .Ltcp89+1452,R_AARCH64_ADR_PREL_PG_HI21,.Ltcp11+376\n"
+    ".reloc .Ltcp89+1460,R_AARCH64_LDST64_ABS_LO12_NC,.Ltcp11+376\n"
+    ".reloc .Ltcp89+1632,R_AARCH64_ADR_PREL_PG_HI21,.Ltcp176+0\n"
+    ".reloc .Ltcp89+1636,R_AARCH64_ADD_ABS_LO12_NC,.Ltcp176+0\n"
+    ".reloc .Ltcp89+1648,R_AARCH64_CALL26,.Ltcp71+0\n"
+    ".reloc .Ltcp89+1672,R_AARCH64_CALL26,.Ltcp78+0\n"
+    ".reloc .Ltcp89+1688,R_AARCH64_ADR_PREL_PG_HI21,.Ltcp177+0\n"
+    ".reloc .Ltcp89+1692,R_AARCH64_ADD_ABS_LO12_NC,.Ltcp177+0\n"
+    ".reloc .Ltcp89+1704,R_AARCH64_CALL26,.Ltcp71+0\n"
+    ".reloc .Ltcp89+1728,R_AARCH64_CALL26,.Ltcp78+0\n"
+    ".reloc .Ltcp89+1756,R_AARCH64_CALL26,.Ltcp71+0\n"
+    ".reloc .Ltcp89+1796,R_AARCH64_CALL26,.Ltcp78+0\n"
+    ".section .text.tcp.90,\"ax\",%progbits\n"
     ".balign 4\n"
-    ".Ltcp89:\n"
+    ".Ltcp90:\n"
     ".type \"core::fmt::formatter::Formatter::write_piece::<#9759a26100429c7f>\",%function\n"
     ".size \"core::fmt::formatter::Formatter::write_piece::<#9759a26100429c7f>\",464\n"
     "\"core::fmt::formatter::Formatter::write_piece::<#9759a26100429c7f>\":\n"
@@ -13206,11 +13309,11 @@ __asm__(
     ".inst 0x12001c00,0xa9444ff4,0xa94357f6,0xa9427bfd,0x910143ff,0xd65f03c0,0xaa0103f5,0xaa1303e0,0xaa0203e1,0xaa0203f6\n"
     ".inst 0x94000000,0x340000a0,0xa940d268,0xaa1503e1,0xaa1603e2,0x17ffffe3,0x52800020,0xa9444ff4,0xa94357f6,0xa9427bfd\n"
     ".inst 0x910143ff,0xd65f03c0\n"
-    ".reloc .Ltcp89+372,R_AARCH64_CALL26,.Ltcp70+0\n"
-    ".reloc .Ltcp89+416,R_AARCH64_CALL26,.Ltcp77+0\n"
-    ".section .text.tcp.90,\"ax\",%progbits\n"
+    ".reloc .Ltcp90+372,R_AARCH64_CALL26,.Ltcp71+0\n"
+    ".reloc .Ltcp90+416,R_AARCH64_CALL26,.Ltcp78+0\n"
+    ".section .text.tcp.91,\"ax\",%progbits\n"
     ".balign 4\n"
-    ".Ltcp90:\n"
+    ".Ltcp91:\n"
     ".globl tcp_web_list\n"
     ".hidden tcp_web_list\n"
     ".type tcp_web_list,%function\n"
@@ -13286,48 +13389,48 @@ __asm__(
     ".inst 0x9100816b,0x54ffff61,0xeb08005f,0x540001c0,0xb40001e9,0xaa0803ea,0x927df048,0x8b0a01cb,0xcb080149,0x8b0a002a\n"
     ".inst 0x8b0b01ab,0xfc408540,0xb1002129,0xfc008560,0x54ffffa1,0xeb08005f,0x54000061,0x2a1f03e0,0x17ffff5a,0x8b0801ca\n"
     ".inst 0xcb080049,0x8b080028,0x8b0a01aa,0x3840150b,0x2a1f03e0,0xf1000529,0x3800154b,0x54ffff81,0x17ffff50\n"
-    ".reloc .Ltcp90+260,R_AARCH64_CALL26,.Ltcp1+0\n"
-    ".reloc .Ltcp90+392,R_AARCH64_CALL26,.Ltcp2+0\n"
-    ".reloc .Ltcp90+492,R_AARCH64_CALL26,.Ltcp2+0\n"
-    ".reloc .Ltcp90+548,R_AARCH64_CALL26,.Ltcp5+0\n"
-    ".reloc .Ltcp90+580,R_AARCH64_CALL26,.Ltcp5+0\n"
-    ".reloc .Ltcp90+616,R_AARCH64_CALL26,.Ltcp7+0\n"
-    ".reloc .Ltcp90+640,R_AARCH64_ADR_PREL_PG_HI21,.Ltcp97+0\n"
-    ".reloc .Ltcp90+644,R_AARCH64_ADD_ABS_LO12_NC,.Ltcp97+0\n"
-    ".reloc .Ltcp90+704,R_AARCH64_CALL26,.Ltcp11+0\n"
-    ".reloc .Ltcp90+800,R_AARCH64_CALL26,.Ltcp14+0\n"
-    ".reloc .Ltcp90+868,R_AARCH64_CALL26,.Ltcp1+0\n"
-    ".reloc .Ltcp90+936,R_AARCH64_CALL26,.Ltcp2+0\n"
-    ".reloc .Ltcp90+948,R_AARCH64_ADR_PREL_PG_HI21,.Ltcp97+0\n"
-    ".reloc .Ltcp90+952,R_AARCH64_ADD_ABS_LO12_NC,.Ltcp97+0\n"
-    ".reloc .Ltcp90+964,R_AARCH64_CALL26,.Ltcp12+0\n"
-    ".reloc .Ltcp90+1004,R_AARCH64_CALL26,.Ltcp23+0\n"
-    ".reloc .Ltcp90+1032,R_AARCH64_CALL26,.Ltcp23+0\n"
-    ".reloc .Ltcp90+1048,R_AARCH64_ADR_PREL_PG_HI21,.Ltcp124+0\n"
-    ".reloc .Ltcp90+1052,R_AARCH64_ADD_ABS_LO12_NC,.Ltcp124+0\n"
-    ".reloc .Ltcp90+1076,R_AARCH64_ADR_PREL_PG_HI21,.Ltcp125+0\n"
-    ".reloc .Ltcp90+1080,R_AARCH64_ADD_ABS_LO12_NC,.Ltcp125+0\n"
-    ".reloc .Ltcp90+1104,R_AARCH64_ADR_PREL_PG_HI21,.Ltcp94+0\n"
-    ".reloc .Ltcp90+1108,R_AARCH64_ADD_ABS_LO12_NC,.Ltcp94+0\n"
-    ".reloc .Ltcp90+1192,R_AARCH64_ADR_PREL_PG_HI21,.Ltcp10+400\n"
-    ".reloc .Ltcp90+1196,R_AARCH64_LDST64_ABS_LO12_NC,.Ltcp10+400\n"
-    ".reloc .Ltcp90+1224,R_AARCH64_CALL26,.Ltcp11+0\n"
-    ".reloc .Ltcp90+1336,R_AARCH64_CALL26,.Ltcp11+0\n"
-    ".reloc .Ltcp90+1424,R_AARCH64_ADR_PREL_PG_HI21,.Ltcp10+408\n"
-    ".reloc .Ltcp90+1432,R_AARCH64_LDST64_ABS_LO12_NC,.Ltcp10+408\n"
-    ".reloc .Ltcp90+1464,R_AARCH64_CALL26,.Ltcp23+0\n"
-    ".reloc .Ltcp90+1756,R_AARCH64_ADR_PREL_PG_HI21,.Ltcp125+0\n"
-    ".reloc .Ltcp90+1760,R_AARCH64_ADD_ABS_LO12_NC,.Ltcp125+0\n"
-    ".reloc .Ltcp90+1772,R_AARCH64_CALL26,.Ltcp12+0\n"
-    ".reloc .Ltcp90+1796,R_AARCH64_CALL26,.Ltcp23+0\n"
-    ".reloc .Ltcp90+1864,R_AARCH64_CALL26,.Ltcp11+0\n"
-    ".reloc .Ltcp90+2148,R_AARCH64_ADR_PREL_PG_HI21,.Ltcp94+0\n"
-    ".reloc .Ltcp90+2152,R_AARCH64_ADD_ABS_LO12_NC,.Ltcp94+0\n"
-    ".reloc .Ltcp90+2164,R_AARCH64_CALL26,.Ltcp12+0\n"
-    ".reloc .Ltcp90+2200,R_AARCH64_CALL26,.Ltcp23+0\n"
-    ".section .text.tcp.91,\"ax\",%progbits\n"
+    ".reloc .Ltcp91+260,R_AARCH64_CALL26,.Ltcp1+0\n"
+    ".reloc .Ltcp91+392,R_AARCH64_CALL26,.Ltcp2+0\n"
+    ".reloc .Ltcp91+492,R_AARCH64_CALL26,.Ltcp2+0\n"
+    ".reloc .Ltcp91+548,R_AARCH64_CALL26,.Ltcp6+0\n"
+    ".reloc .Ltcp91+580,R_AARCH64_CALL26,.Ltcp6+0\n"
+    ".reloc .Ltcp91+616,R_AARCH64_CALL26,.Ltcp8+0\n"
+    ".reloc .Ltcp91+640,R_AARCH64_ADR_PREL_PG_HI21,.Ltcp98+0\n"
+    ".reloc .Ltcp91+644,R_AARCH64_ADD_ABS_LO12_NC,.Ltcp98+0\n"
+    ".reloc .Ltcp91+704,R_AARCH64_CALL26,.Ltcp12+0\n"
+    ".reloc .Ltcp91+800,R_AARCH64_CALL26,.Ltcp15+0\n"
+    ".reloc .Ltcp91+868,R_AARCH64_CALL26,.Ltcp1+0\n"
+    ".reloc .Ltcp91+936,R_AARCH64_CALL26,.Ltcp2+0\n"
+    ".reloc .Ltcp91+948,R_AARCH64_ADR_PREL_PG_HI21,.Ltcp98+0\n"
+    ".reloc .Ltcp91+952,R_AARCH64_ADD_ABS_LO12_NC,.Ltcp98+0\n"
+    ".reloc .Ltcp91+964,R_AARCH64_CALL26,.Ltcp13+0\n"
+    ".reloc .Ltcp91+1004,R_AARCH64_CALL26,.Ltcp24+0\n"
+    ".reloc .Ltcp91+1032,R_AARCH64_CALL26,.Ltcp24+0\n"
+    ".reloc .Ltcp91+1048,R_AARCH64_ADR_PREL_PG_HI21,.Ltcp125+0\n"
+    ".reloc .Ltcp91+1052,R_AARCH64_ADD_ABS_LO12_NC,.Ltcp125+0\n"
+    ".reloc .Ltcp91+1076,R_AARCH64_ADR_PREL_PG_HI21,.Ltcp126+0\n"
+    ".reloc .Ltcp91+1080,R_AARCH64_ADD_ABS_LO12_NC,.Ltcp126+0\n"
+    ".reloc .Ltcp91+1104,R_AARCH64_ADR_PREL_PG_HI21,.Ltcp95+0\n"
+    ".reloc .Ltcp91+1108,R_AARCH64_ADD_ABS_LO12_NC,.Ltcp95+0\n"
+    ".reloc .Ltcp91+1192,R_AARCH64_ADR_PREL_PG_HI21,.Ltcp11+1104\n"
+    ".reloc .Ltcp91+1196,R_AARCH64_LDST64_ABS_LO12_NC,.Ltcp11+1104\n"
+    ".reloc .Ltcp91+1224,R_AARCH64_CALL26,.Ltcp12+0\n"
+    ".reloc .Ltcp91+1336,R_AARCH64_CALL26,.Ltcp12+0\n"
+    ".reloc .Ltcp91+1424,R_AARCH64_ADR_PREL_PG_HI21,.Ltcp11+1112\n"
+    ".reloc .Ltcp91+1432,R_AARCH64_LDST64_ABS_LO12_NC,.Ltcp11+1112\n"
+    ".reloc .Ltcp91+1464,R_AARCH64_CALL26,.Ltcp24+0\n"
+    ".reloc .Ltcp91+1756,R_AARCH64_ADR_PREL_PG_HI21,.Ltcp126+0\n"
+    ".reloc .Ltcp91+1760,R_AARCH64_ADD_ABS_LO12_NC,.Ltcp126+0\n"
+    ".reloc .Ltcp91+1772,R_AARCH64_CALL26,.Ltcp13+0\n"
+    ".reloc .Ltcp91+1796,R_AARCH64_CALL26,.Ltcp24+0\n"
+    ".reloc .Ltcp91+1864,R_AARCH64_CALL26,.Ltcp12+0\n"
+    ".reloc .Ltcp91+2148,R_AARCH64_ADR_PREL_PG_HI21,.Ltcp95+0\n"
+    ".reloc .Ltcp91+2152,R_AARCH64_ADD_ABS_LO12_NC,.Ltcp95+0\n"
+    ".reloc .Ltcp91+2164,R_AARCH64_CALL26,.Ltcp13+0\n"
+    ".reloc .Ltcp91+2200,R_AARCH64_CALL26,.Ltcp24+0\n"
+    ".section .text.tcp.92,\"ax\",%progbits\n"
     ".balign 4\n"
-    ".Ltcp91:\n"
+    ".Ltcp92:\n"
     ".globl tcp_web_replay\n"
     ".hidden tcp_web_replay\n"
     ".type tcp_web_replay,%function\n"
@@ -13365,499 +13468,500 @@ __asm__(
     ".inst 0x9100416b,0x927be84c,0xad7f8540,0xf100818c,0x9100814a,0xad3f8560,0x9100816b,0x54ffff61,0xeb08005f,0x54fff900\n"
     ".inst 0xb4fffc29,0xaa0803ea,0x927df048,0x8b0a032b,0xcb080149,0x8b0a002a,0x8b0b026b,0xfc408540,0xb1002129,0xfc008560\n"
     ".inst 0x54ffffa1,0xeb08005f,0x54fff760,0x17ffffd4\n"
-    ".reloc .Ltcp91+128,R_AARCH64_CALL26,.Ltcp24+0\n"
-    ".reloc .Ltcp91+452,R_AARCH64_CALL26,.Ltcp30+0\n"
-    ".reloc .Ltcp91+512,R_AARCH64_CALL26,.Ltcp30+0\n"
-    ".reloc .Ltcp91+660,R_AARCH64_CALL26,.Ltcp31+0\n"
-    ".reloc .Ltcp91+720,R_AARCH64_CALL26,.Ltcp86+0\n"
-    ".reloc .Ltcp91+744,R_AARCH64_CALL26,.Ltcp86+0\n"
-    ".reloc .Ltcp91+808,R_AARCH64_CALL26,.Ltcp82+0\n"
-    ".section .rodata.tcp.92,\"a\",%progbits\n"
-    ".balign 1\n"
-    ".Ltcp92:\n"
-    ".octa 0x206f742020202020746e6577656d6163,0x74696d65646e6573736e75726566696c,0x20646e65656e6f6e6b63617376636572\n"
+    ".reloc .Ltcp92+128,R_AARCH64_CALL26,.Ltcp25+0\n"
+    ".reloc .Ltcp92+452,R_AARCH64_CALL26,.Ltcp31+0\n"
+    ".reloc .Ltcp92+512,R_AARCH64_CALL26,.Ltcp31+0\n"
+    ".reloc .Ltcp92+660,R_AARCH64_CALL26,.Ltcp32+0\n"
+    ".reloc .Ltcp92+720,R_AARCH64_CALL26,.Ltcp87+0\n"
+    ".reloc .Ltcp92+744,R_AARCH64_CALL26,.Ltcp87+0\n"
+    ".reloc .Ltcp92+808,R_AARCH64_CALL26,.Ltcp83+0\n"
     ".section .rodata.tcp.93,\"a\",%progbits\n"
     ".balign 1\n"
     ".Ltcp93:\n"
-    ".byte 0x2d\n"
+    ".octa 0x206f742020202020746e6577656d6163,0x74696d65646e6573736e75726566696c,0x20646e65656e6f6e6b63617376636572\n"
+    ".octa 0x20666f206d305b1b6575727465746f6e\n"
     ".section .rodata.tcp.94,\"a\",%progbits\n"
     ".balign 1\n"
     ".Ltcp94:\n"
-    ".byte 0xa\n"
+    ".byte 0x2d\n"
     ".section .rodata.tcp.95,\"a\",%progbits\n"
     ".balign 1\n"
     ".Ltcp95:\n"
+    ".byte 0xa\n"
     ".section .rodata.tcp.96,\"a\",%progbits\n"
-    ".balign 8\n"
+    ".balign 1\n"
     ".Ltcp96:\n"
+    ".section .rodata.tcp.97,\"a\",%progbits\n"
+    ".balign 8\n"
+    ".Ltcp97:\n"
     ".octa 0x34312065766f62612074666968732061,0x29332e32202c33323337204346522820,0x20657265687765736c652d7465736572\n"
     ".octa 0x646e6f636573202c342e372e30312e33,0x70000000000000009,0x70000000000000005\n"
-    ".section .rodata.tcp.97,\"a\",%progbits\n"
-    ".balign 1\n"
-    ".Ltcp97:\n"
-    ".byte 0x20\n"
     ".section .rodata.tcp.98,\"a\",%progbits\n"
     ".balign 1\n"
     ".Ltcp98:\n"
+    ".byte 0x20\n"
+    ".section .rodata.tcp.99,\"a\",%progbits\n"
+    ".balign 1\n"
+    ".Ltcp99:\n"
     ".octa 0x37303630353034303330323031303030,0x35313431333132313131303139303830,0x33323232313230323931383137313631\n"
     ".octa 0x31333033393238323732363235323432,0x39333833373336333533343333333233,0x37343634353434343334323431343034\n"
     ".octa 0x35353435333532353135303539343834,0x33363236313630363935383537353635,0x31373037393638363736363635363436\n"
     ".octa 0x39373837373736373537343733373237,0x37383638353834383338323831383038,0x35393439333932393139303939383838\n"
     ".quad 0x3939383937393639\n"
-    ".section .rodata.tcp.99,\"a\",%progbits\n"
-    ".balign 1\n"
-    ".Ltcp99:\n"
-    ".quad 0x6576726573657220\n"
-    ".short 0x2064\n"
     ".section .rodata.tcp.100,\"a\",%progbits\n"
     ".balign 1\n"
     ".Ltcp100:\n"
-    ".short 0x4341\n"
-    ".byte 0x4b\n"
+    ".quad 0x6576726573657220\n"
+    ".short 0x2064\n"
     ".section .rodata.tcp.101,\"a\",%progbits\n"
     ".balign 1\n"
     ".Ltcp101:\n"
-    ".long 0x2c4b4341\n"
-    ".short 0x5350\n"
-    ".byte 0x48\n"
+    ".short 0x4341\n"
+    ".byte 0x4b\n"
     ".section .rodata.tcp.102,\"a\",%progbits\n"
     ".balign 1\n"
     ".Ltcp102:\n"
-    ".short 0x5953\n"
-    ".byte 0x4e\n"
+    ".long 0x2c4b4341\n"
+    ".short 0x5350\n"
+    ".byte 0x48\n"
     ".section .rodata.tcp.103,\"a\",%progbits\n"
     ".balign 1\n"
     ".Ltcp103:\n"
-    ".long 0x2c4b4341\n"
     ".short 0x5953\n"
     ".byte 0x4e\n"
     ".section .rodata.tcp.104,\"a\",%progbits\n"
     ".balign 1\n"
     ".Ltcp104:\n"
     ".long 0x2c4b4341\n"
-    ".short 0x4946\n"
+    ".short 0x5953\n"
     ".byte 0x4e\n"
     ".section .rodata.tcp.105,\"a\",%progbits\n"
     ".balign 1\n"
     ".Ltcp105:\n"
     ".long 0x2c4b4341\n"
-    ".short 0x5352\n"
-    ".byte 0x54\n"
+    ".short 0x4946\n"
+    ".byte 0x4e\n"
     ".section .rodata.tcp.106,\"a\",%progbits\n"
     ".balign 1\n"
     ".Ltcp106:\n"
-    ".short 0x5743\n"
-    ".byte 0x52\n"
+    ".long 0x2c4b4341\n"
+    ".short 0x5352\n"
+    ".byte 0x54\n"
     ".section .rodata.tcp.107,\"a\",%progbits\n"
     ".balign 1\n"
     ".Ltcp107:\n"
-    ".short 0x4345\n"
-    ".byte 0x45\n"
+    ".short 0x5743\n"
+    ".byte 0x52\n"
     ".section .rodata.tcp.108,\"a\",%progbits\n"
     ".balign 1\n"
     ".Ltcp108:\n"
-    ".short 0x5255\n"
-    ".byte 0x47\n"
+    ".short 0x4345\n"
+    ".byte 0x45\n"
     ".section .rodata.tcp.109,\"a\",%progbits\n"
     ".balign 1\n"
     ".Ltcp109:\n"
-    ".short 0x5350\n"
-    ".byte 0x48\n"
+    ".short 0x5255\n"
+    ".byte 0x47\n"
     ".section .rodata.tcp.110,\"a\",%progbits\n"
     ".balign 1\n"
     ".Ltcp110:\n"
-    ".short 0x5352\n"
-    ".byte 0x54\n"
+    ".short 0x5350\n"
+    ".byte 0x48\n"
     ".section .rodata.tcp.111,\"a\",%progbits\n"
     ".balign 1\n"
     ".Ltcp111:\n"
-    ".short 0x4946\n"
-    ".byte 0x4e\n"
+    ".short 0x5352\n"
+    ".byte 0x54\n"
     ".section .rodata.tcp.112,\"a\",%progbits\n"
     ".balign 1\n"
     ".Ltcp112:\n"
-    ".byte 0x2c\n"
+    ".short 0x4946\n"
+    ".byte 0x4e\n"
     ".section .rodata.tcp.113,\"a\",%progbits\n"
     ".balign 1\n"
     ".Ltcp113:\n"
-    ".quad 0x736e6f6974706f20\n"
-    ".byte 0x20\n"
+    ".byte 0x2c\n"
     ".section .rodata.tcp.114,\"a\",%progbits\n"
     ".balign 1\n"
     ".Ltcp114:\n"
-    ".short 0x6f6e\n"
-    ".byte 0x70\n"
+    ".quad 0x736e6f6974706f20\n"
+    ".byte 0x20\n"
     ".section .rodata.tcp.115,\"a\",%progbits\n"
     ".balign 1\n"
     ".Ltcp115:\n"
-    ".short 0x7377\n"
-    ".byte 0x3a\n"
+    ".short 0x6f6e\n"
+    ".byte 0x70\n"
     ".section .rodata.tcp.116,\"a\",%progbits\n"
     ".balign 1\n"
     ".Ltcp116:\n"
-    ".long 0x6b636173\n"
-    ".short 0x6b6f\n"
+    ".short 0x7377\n"
+    ".byte 0x3a\n"
     ".section .rodata.tcp.117,\"a\",%progbits\n"
     ".balign 1\n"
     ".Ltcp117:\n"
     ".long 0x6b636173\n"
-    ".byte 0x3a\n"
+    ".short 0x6b6f\n"
     ".section .rodata.tcp.118,\"a\",%progbits\n"
     ".balign 1\n"
     ".Ltcp118:\n"
-    ".quad 0x656d726f666c616d\n"
-    ".short 0x2064\n"
+    ".long 0x6b636173\n"
+    ".byte 0x3a\n"
     ".section .rodata.tcp.119,\"a\",%progbits\n"
     ".balign 1\n"
     ".Ltcp119:\n"
-    ".long 0x4c6f6f54\n"
-    ".short 0x6e6f\n"
-    ".byte 0x67\n"
+    ".quad 0x656d726f666c616d\n"
+    ".short 0x2064\n"
     ".section .rodata.tcp.120,\"a\",%progbits\n"
     ".balign 1\n"
     ".Ltcp120:\n"
-    ".quad 0x6b63656843646142\n"
-    ".short 0x7573\n"
-    ".byte 0x6d\n"
+    ".long 0x4c6f6f54\n"
+    ".short 0x6e6f\n"
+    ".byte 0x67\n"
     ".section .rodata.tcp.121,\"a\",%progbits\n"
     ".balign 1\n"
     ".Ltcp121:\n"
-    ".quad 0x657366664f646142\n"
-    ".byte 0x74\n"
+    ".quad 0x6b63656843646142\n"
+    ".short 0x7573\n"
+    ".byte 0x6d\n"
     ".section .rodata.tcp.122,\"a\",%progbits\n"
     ".balign 1\n"
     ".Ltcp122:\n"
-    ".quad 0x6f6974704f646142\n"
-    ".long 0x7461206e\n"
-    ".byte 0x20\n"
+    ".quad 0x657366664f646142\n"
+    ".byte 0x74\n"
     ".section .rodata.tcp.123,\"a\",%progbits\n"
     ".balign 1\n"
     ".Ltcp123:\n"
-    ".quad 0x6964646150646142\n"
-    ".long 0x6120676e\n"
-    ".short 0x2074\n"
+    ".quad 0x6f6974704f646142\n"
+    ".long 0x7461206e\n"
+    ".byte 0x20\n"
     ".section .rodata.tcp.124,\"a\",%progbits\n"
     ".balign 1\n"
     ".Ltcp124:\n"
-    ".long 0x61746f74\n"
-    ".short 0x206c\n"
+    ".quad 0x6964646150646142\n"
+    ".long 0x6120676e\n"
+    ".short 0x2074\n"
     ".section .rodata.tcp.125,\"a\",%progbits\n"
     ".balign 1\n"
     ".Ltcp125:\n"
-    ".quad 0x6d726f666c616d20\n"
-    ".short 0x6465\n"
-    ".byte 0x20\n"
+    ".long 0x61746f74\n"
+    ".short 0x206c\n"
     ".section .rodata.tcp.126,\"a\",%progbits\n"
     ".balign 1\n"
     ".Ltcp126:\n"
-    ".long 0x666e6f63\n"
-    ".short 0x6769\n"
+    ".quad 0x6d726f666c616d20\n"
+    ".short 0x6465\n"
+    ".byte 0x20\n"
     ".section .rodata.tcp.127,\"a\",%progbits\n"
     ".balign 1\n"
     ".Ltcp127:\n"
-    ".long 0x65706572\n"
-    ".short 0x7461\n"
+    ".long 0x666e6f63\n"
+    ".short 0x6769\n"
     ".section .rodata.tcp.128,\"a\",%progbits\n"
     ".balign 1\n"
     ".Ltcp128:\n"
-    ".long 0x696d696c\n"
-    ".byte 0x74\n"
+    ".long 0x65706572\n"
+    ".short 0x7461\n"
     ".section .rodata.tcp.129,\"a\",%progbits\n"
     ".balign 1\n"
     ".Ltcp129:\n"
-    ".byte 0x41\n"
+    ".long 0x696d696c\n"
+    ".byte 0x74\n"
     ".section .rodata.tcp.130,\"a\",%progbits\n"
     ".balign 1\n"
     ".Ltcp130:\n"
-    ".byte 0x42\n"
+    ".byte 0x41\n"
     ".section .rodata.tcp.131,\"a\",%progbits\n"
     ".balign 1\n"
     ".Ltcp131:\n"
-    ".long 0x6e6e6f63\n"
-    ".short 0x6365\n"
-    ".byte 0x74\n"
+    ".byte 0x42\n"
     ".section .rodata.tcp.132,\"a\",%progbits\n"
     ".balign 1\n"
     ".Ltcp132:\n"
-    ".long 0x7473696c\n"
-    ".short 0x6e65\n"
+    ".long 0x6e6e6f63\n"
+    ".short 0x6365\n"
+    ".byte 0x74\n"
     ".section .rodata.tcp.133,\"a\",%progbits\n"
     ".balign 1\n"
     ".Ltcp133:\n"
-    ".long 0x65636572\n"
-    ".short 0x7669\n"
-    ".byte 0x65\n"
+    ".long 0x7473696c\n"
+    ".short 0x6e65\n"
     ".section .rodata.tcp.134,\"a\",%progbits\n"
     ".balign 1\n"
     ".Ltcp134:\n"
-    ".long 0x736f6c63\n"
+    ".long 0x65636572\n"
+    ".short 0x7669\n"
     ".byte 0x65\n"
     ".section .rodata.tcp.135,\"a\",%progbits\n"
     ".balign 1\n"
     ".Ltcp135:\n"
-    ".long 0x726f6261\n"
-    ".byte 0x74\n"
+    ".long 0x736f6c63\n"
+    ".byte 0x65\n"
     ".section .rodata.tcp.136,\"a\",%progbits\n"
     ".balign 1\n"
     ".Ltcp136:\n"
-    ".quad 0x656c776f6e6b6361\n"
-    ".short 0x6764\n"
-    ".byte 0x65\n"
+    ".long 0x726f6261\n"
+    ".byte 0x74\n"
     ".section .rodata.tcp.137,\"a\",%progbits\n"
     ".balign 1\n"
     ".Ltcp137:\n"
-    ".long 0x656d6974\n"
-    ".byte 0x72\n"
+    ".quad 0x656c776f6e6b6361\n"
+    ".short 0x6764\n"
+    ".byte 0x65\n"
     ".section .rodata.tcp.138,\"a\",%progbits\n"
     ".balign 1\n"
     ".Ltcp138:\n"
-    ".octa 0x656764656c776f6e6b63612d74696d65\n"
-    ".long 0x746e656d\n"
+    ".long 0x656d6974\n"
+    ".byte 0x72\n"
     ".section .rodata.tcp.139,\"a\",%progbits\n"
     ".balign 1\n"
     ".Ltcp139:\n"
-    ".quad 0x662d646e65736572\n"
-    ".long 0x74737269\n"
+    ".octa 0x656764656c776f6e6b63612d74696d65\n"
+    ".long 0x746e656d\n"
     ".section .rodata.tcp.140,\"a\",%progbits\n"
     ".balign 1\n"
     ".Ltcp140:\n"
-    ".long 0x696c6564\n"
-    ".short 0x6576\n"
-    ".byte 0x72\n"
+    ".quad 0x662d646e65736572\n"
+    ".long 0x74737269\n"
     ".section .rodata.tcp.141,\"a\",%progbits\n"
     ".balign 1\n"
     ".Ltcp141:\n"
-    ".long 0x616d6164\n"
-    ".short 0x6567\n"
+    ".long 0x696c6564\n"
+    ".short 0x6576\n"
+    ".byte 0x72\n"
     ".section .rodata.tcp.142,\"a\",%progbits\n"
     ".balign 1\n"
     ".Ltcp142:\n"
-    ".quad 0x6d736e6172746572\n"
-    ".short 0x7469\n"
+    ".long 0x616d6164\n"
+    ".short 0x6567\n"
     ".section .rodata.tcp.143,\"a\",%progbits\n"
     ".balign 1\n"
     ".Ltcp143:\n"
-    ".long 0x726f6572\n"
-    ".short 0x6564\n"
-    ".byte 0x72\n"
+    ".quad 0x6d736e6172746572\n"
+    ".short 0x7469\n"
     ".section .rodata.tcp.144,\"a\",%progbits\n"
     ".balign 1\n"
     ".Ltcp144:\n"
-    ".long 0x66696873\n"
-    ".byte 0x74\n"
+    ".long 0x726f6572\n"
+    ".short 0x6564\n"
+    ".byte 0x72\n"
     ".section .rodata.tcp.145,\"a\",%progbits\n"
     ".balign 1\n"
     ".Ltcp145:\n"
-    ".short 0x6b6f\n"
-    ".byte 0x20\n"
+    ".long 0x66696873\n"
+    ".byte 0x74\n"
     ".section .rodata.tcp.146,\"a\",%progbits\n"
     ".balign 1\n"
     ".Ltcp146:\n"
-    ".long 0x6b6f6f74\n"
+    ".short 0x6b6f\n"
     ".byte 0x20\n"
     ".section .rodata.tcp.147,\"a\",%progbits\n"
     ".balign 1\n"
     ".Ltcp147:\n"
-    ".long 0x65747962\n"
-    ".short 0x2073\n"
+    ".long 0x6b6f6f74\n"
+    ".byte 0x20\n"
     ".section .rodata.tcp.148,\"a\",%progbits\n"
     ".balign 1\n"
     ".Ltcp148:\n"
-    ".long 0x68746f6e\n"
-    ".short 0x6e69\n"
-    ".byte 0x67\n"
+    ".long 0x65747962\n"
+    ".short 0x2073\n"
     ".section .rodata.tcp.149,\"a\",%progbits\n"
     ".balign 1\n"
     ".Ltcp149:\n"
-    ".short 0x6e65\n"
-    ".byte 0x64\n"
+    ".long 0x68746f6e\n"
+    ".short 0x6e69\n"
+    ".byte 0x67\n"
     ".section .rodata.tcp.150,\"a\",%progbits\n"
     ".balign 1\n"
     ".Ltcp150:\n"
-    ".short 0x6579\n"
-    ".byte 0x73\n"
+    ".short 0x6e65\n"
+    ".byte 0x64\n"
     ".section .rodata.tcp.151,\"a\",%progbits\n"
     ".balign 1\n"
     ".Ltcp151:\n"
-    ".short 0x6f6e\n"
+    ".short 0x6579\n"
+    ".byte 0x73\n"
     ".section .rodata.tcp.152,\"a\",%progbits\n"
     ".balign 1\n"
     ".Ltcp152:\n"
-    ".long 0x67616c66\n"
-    ".short 0x2073\n"
+    ".short 0x6f6e\n"
     ".section .rodata.tcp.153,\"a\",%progbits\n"
     ".balign 1\n"
     ".Ltcp153:\n"
-    ".long 0x706f7264\n"
-    ".short 0x6570\n"
-    ".byte 0x64\n"
+    ".long 0x67616c66\n"
+    ".short 0x2073\n"
     ".section .rodata.tcp.154,\"a\",%progbits\n"
     ".balign 1\n"
     ".Ltcp154:\n"
-    ".quad 0x65737365636f7270\n"
+    ".long 0x706f7264\n"
+    ".short 0x6570\n"
     ".byte 0x64\n"
     ".section .rodata.tcp.155,\"a\",%progbits\n"
     ".balign 1\n"
     ".Ltcp155:\n"
-    ".long 0x534f4c43\n"
-    ".short 0x4445\n"
+    ".quad 0x65737365636f7270\n"
+    ".byte 0x64\n"
     ".section .rodata.tcp.156,\"a\",%progbits\n"
     ".balign 1\n"
     ".Ltcp156:\n"
-    ".long 0x5453494c\n"
-    ".short 0x4e45\n"
+    ".long 0x534f4c43\n"
+    ".short 0x4445\n"
     ".section .rodata.tcp.157,\"a\",%progbits\n"
     ".balign 1\n"
     ".Ltcp157:\n"
-    ".quad 0x454345522d4e5953\n"
-    ".long 0x44455649\n"
+    ".long 0x5453494c\n"
+    ".short 0x4e45\n"
     ".section .rodata.tcp.158,\"a\",%progbits\n"
     ".balign 1\n"
     ".Ltcp158:\n"
-    ".quad 0x53494c4241545345\n"
-    ".short 0x4548\n"
-    ".byte 0x44\n"
+    ".quad 0x454345522d4e5953\n"
+    ".long 0x44455649\n"
     ".section .rodata.tcp.159,\"a\",%progbits\n"
     ".balign 1\n"
     ".Ltcp159:\n"
-    ".quad 0x544941572d4e4946\n"
-    ".short 0x312d\n"
+    ".quad 0x53494c4241545345\n"
+    ".short 0x4548\n"
+    ".byte 0x44\n"
     ".section .rodata.tcp.160,\"a\",%progbits\n"
     ".balign 1\n"
     ".Ltcp160:\n"
     ".quad 0x544941572d4e4946\n"
-    ".short 0x322d\n"
+    ".short 0x312d\n"
     ".section .rodata.tcp.161,\"a\",%progbits\n"
     ".balign 1\n"
     ".Ltcp161:\n"
-    ".quad 0x41572d45534f4c43\n"
-    ".short 0x5449\n"
+    ".quad 0x544941572d4e4946\n"
+    ".short 0x322d\n"
     ".section .rodata.tcp.162,\"a\",%progbits\n"
     ".balign 1\n"
     ".Ltcp162:\n"
-    ".long 0x534f4c43\n"
-    ".short 0x4e49\n"
-    ".byte 0x47\n"
+    ".quad 0x41572d45534f4c43\n"
+    ".short 0x5449\n"
     ".section .rodata.tcp.163,\"a\",%progbits\n"
     ".balign 1\n"
     ".Ltcp163:\n"
-    ".quad 0x4941572d454d4954\n"
-    ".byte 0x54\n"
+    ".long 0x534f4c43\n"
+    ".short 0x4e49\n"
+    ".byte 0x47\n"
     ".section .rodata.tcp.164,\"a\",%progbits\n"
     ".balign 1\n"
     ".Ltcp164:\n"
-    ".quad 0x6465737566657220\n"
-    ".byte 0x20\n"
+    ".quad 0x4941572d454d4954\n"
+    ".byte 0x54\n"
     ".section .rodata.tcp.165,\"a\",%progbits\n"
     ".balign 1\n"
     ".Ltcp165:\n"
-    ".long 0x656e6f64\n"
+    ".quad 0x6465737566657220\n"
     ".byte 0x20\n"
     ".section .rodata.tcp.166,\"a\",%progbits\n"
     ".balign 1\n"
     ".Ltcp166:\n"
-    ".quad 0x203a74696b706374\n"
-    ".long 0x666e6f63\n"
-    ".short 0x6769\n"
+    ".long 0x656e6f64\n"
     ".byte 0x20\n"
     ".section .rodata.tcp.167,\"a\",%progbits\n"
     ".balign 1\n"
     ".Ltcp167:\n"
-    ".quad 0x65646e652d746f6e\n"
-    ".byte 0x64\n"
+    ".quad 0x203a74696b706374\n"
+    ".long 0x666e6f63\n"
+    ".short 0x6769\n"
+    ".byte 0x20\n"
     ".section .rodata.tcp.168,\"a\",%progbits\n"
     ".balign 1\n"
     ".Ltcp168:\n"
-    ".long 0x6564726f\n"
-    ".short 0x6c72\n"
-    ".byte 0x79\n"
+    ".quad 0x65646e652d746f6e\n"
+    ".byte 0x64\n"
     ".section .rodata.tcp.169,\"a\",%progbits\n"
     ".balign 1\n"
     ".Ltcp169:\n"
-    ".long 0x65736572\n"
-    ".byte 0x74\n"
+    ".long 0x6564726f\n"
+    ".short 0x6c72\n"
+    ".byte 0x79\n"
     ".section .rodata.tcp.170,\"a\",%progbits\n"
     ".balign 1\n"
     ".Ltcp170:\n"
-    ".long 0x726f6261\n"
-    ".short 0x6574\n"
-    ".byte 0x64\n"
+    ".long 0x65736572\n"
+    ".byte 0x74\n"
     ".section .rodata.tcp.171,\"a\",%progbits\n"
     ".balign 1\n"
     ".Ltcp171:\n"
-    ".quad 0x6574706563636120\n"
-    ".short 0x2064\n"
+    ".long 0x726f6261\n"
+    ".short 0x6574\n"
+    ".byte 0x64\n"
     ".section .rodata.tcp.172,\"a\",%progbits\n"
     ".balign 1\n"
     ".Ltcp172:\n"
-    ".quad 0x726576696c656420\n"
-    ".short 0x6465\n"
-    ".byte 0x20\n"
+    ".quad 0x6574706563636120\n"
+    ".short 0x2064\n"
     ".section .rodata.tcp.173,\"a\",%progbits\n"
     ".balign 1\n"
     ".Ltcp173:\n"
-    ".quad 0x657361656c657220\n"
-    ".short 0x2064\n"
+    ".quad 0x726576696c656420\n"
+    ".short 0x6465\n"
+    ".byte 0x20\n"
     ".section .rodata.tcp.174,\"a\",%progbits\n"
     ".balign 1\n"
     ".Ltcp174:\n"
-    ".quad 0x6465726564726f20\n"
-    ".byte 0x20\n"
+    ".quad 0x657361656c657220\n"
+    ".short 0x2064\n"
     ".section .rodata.tcp.175,\"a\",%progbits\n"
     ".balign 1\n"
     ".Ltcp175:\n"
-    ".long 0x6e657320\n"
-    ".short 0x2074\n"
+    ".quad 0x6465726564726f20\n"
+    ".byte 0x20\n"
     ".section .rodata.tcp.176,\"a\",%progbits\n"
     ".balign 1\n"
     ".Ltcp176:\n"
+    ".long 0x6e657320\n"
+    ".short 0x2074\n"
+    ".section .rodata.tcp.177,\"a\",%progbits\n"
+    ".balign 1\n"
+    ".Ltcp177:\n"
     ".long 0x646e6520\n"
     ".short 0x6465\n"
     ".byte 0x20\n"
-    ".section .rodata.tcp.177,\"a\",%progbits\n"
-    ".balign 8\n"
-    ".Ltcp177:\n"
-    ".octa 0x7000000000000000a\n"
-    ".quad 0x8\n"
-    ".section .data.rel.ro.tcp.178,\"aw\",%progbits\n"
+    ".section .rodata.tcp.178,\"a\",%progbits\n"
     ".balign 8\n"
     ".Ltcp178:\n"
-    ".octa 0x0\n"
-    ".quad 0x0\n"
-    ".reloc .Ltcp178+0,R_AARCH64_ABS64,.Ltcp142+0\n"
-    ".reloc .Ltcp178+8,R_AARCH64_ABS64,.Ltcp143+0\n"
-    ".reloc .Ltcp178+16,R_AARCH64_ABS64,.Ltcp10+440\n"
-    ".section .rodata.tcp.179,\"a\",%progbits\n"
+    ".octa 0x7000000000000000a\n"
+    ".quad 0x8\n"
+    ".section .data.rel.ro.tcp.179,\"aw\",%progbits\n"
     ".balign 8\n"
     ".Ltcp179:\n"
+    ".octa 0x0\n"
+    ".quad 0x0\n"
+    ".reloc .Ltcp179+0,R_AARCH64_ABS64,.Ltcp143+0\n"
+    ".reloc .Ltcp179+8,R_AARCH64_ABS64,.Ltcp144+0\n"
+    ".reloc .Ltcp179+16,R_AARCH64_ABS64,.Ltcp11+1144\n"
+    ".section .rodata.tcp.180,\"a\",%progbits\n"
+    ".balign 8\n"
+    ".Ltcp180:\n"
     ".octa 0x60000000000000006,0xc0000000000000008,0xa000000000000000b\n"
     ".octa 0xa000000000000000a,0x80000000000000007\n"
     ".quad 0x9\n"
-    ".section .data.rel.ro.tcp.180,\"aw\",%progbits\n"
-    ".balign 8\n"
-    ".Ltcp180:\n"
-    ".octa 0x0,0x0,0x0\n"
-    ".octa 0x0,0x0\n"
-    ".quad 0x0\n"
-    ".reloc .Ltcp180+0,R_AARCH64_ABS64,.Ltcp155+0\n"
-    ".reloc .Ltcp180+8,R_AARCH64_ABS64,.Ltcp156+0\n"
-    ".reloc .Ltcp180+16,R_AARCH64_ABS64,.Ltcp10+448\n"
-    ".reloc .Ltcp180+24,R_AARCH64_ABS64,.Ltcp157+0\n"
-    ".reloc .Ltcp180+32,R_AARCH64_ABS64,.Ltcp158+0\n"
-    ".reloc .Ltcp180+40,R_AARCH64_ABS64,.Ltcp159+0\n"
-    ".reloc .Ltcp180+48,R_AARCH64_ABS64,.Ltcp160+0\n"
-    ".reloc .Ltcp180+56,R_AARCH64_ABS64,.Ltcp161+0\n"
-    ".reloc .Ltcp180+64,R_AARCH64_ABS64,.Ltcp162+0\n"
-    ".reloc .Ltcp180+72,R_AARCH64_ABS64,.Ltcp10+456\n"
-    ".reloc .Ltcp180+80,R_AARCH64_ABS64,.Ltcp163+0\n"
     ".section .data.rel.ro.tcp.181,\"aw\",%progbits\n"
     ".balign 8\n"
     ".Ltcp181:\n"
+    ".octa 0x0,0x0,0x0\n"
     ".octa 0x0,0x0\n"
-    ".reloc .Ltcp181+0,R_AARCH64_ABS64,.Ltcp167+0\n"
-    ".reloc .Ltcp181+8,R_AARCH64_ABS64,.Ltcp168+0\n"
-    ".reloc .Ltcp181+16,R_AARCH64_ABS64,.Ltcp169+0\n"
-    ".reloc .Ltcp181+24,R_AARCH64_ABS64,.Ltcp170+0\n"
+    ".quad 0x0\n"
+    ".reloc .Ltcp181+0,R_AARCH64_ABS64,.Ltcp156+0\n"
+    ".reloc .Ltcp181+8,R_AARCH64_ABS64,.Ltcp157+0\n"
+    ".reloc .Ltcp181+16,R_AARCH64_ABS64,.Ltcp11+1152\n"
+    ".reloc .Ltcp181+24,R_AARCH64_ABS64,.Ltcp158+0\n"
+    ".reloc .Ltcp181+32,R_AARCH64_ABS64,.Ltcp159+0\n"
+    ".reloc .Ltcp181+40,R_AARCH64_ABS64,.Ltcp160+0\n"
+    ".reloc .Ltcp181+48,R_AARCH64_ABS64,.Ltcp161+0\n"
+    ".reloc .Ltcp181+56,R_AARCH64_ABS64,.Ltcp162+0\n"
+    ".reloc .Ltcp181+64,R_AARCH64_ABS64,.Ltcp163+0\n"
+    ".reloc .Ltcp181+72,R_AARCH64_ABS64,.Ltcp11+1160\n"
+    ".reloc .Ltcp181+80,R_AARCH64_ABS64,.Ltcp164+0\n"
+    ".section .data.rel.ro.tcp.182,\"aw\",%progbits\n"
+    ".balign 8\n"
+    ".Ltcp182:\n"
+    ".octa 0x0,0x0\n"
+    ".reloc .Ltcp182+0,R_AARCH64_ABS64,.Ltcp168+0\n"
+    ".reloc .Ltcp182+8,R_AARCH64_ABS64,.Ltcp169+0\n"
+    ".reloc .Ltcp182+16,R_AARCH64_ABS64,.Ltcp170+0\n"
+    ".reloc .Ltcp182+24,R_AARCH64_ABS64,.Ltcp171+0\n"
     ".popsection\n"
 );
 #endif
@@ -14150,6 +14254,7 @@ static inline u64 quotient_of(u64 value, u64 by)
 #define I32_ROTL(x, y) ((x) << ((y) & 31) | (x) >> ((32 - (y)) & 31))
 #define I64_ROTL(x, y) ((x) << ((y) & 63) | (x) >> ((64 - (y)) & 63))
 #define I64_CLZ(x) leading_zeros(x)
+#define I64_CTZ(x) trailing_zeros(x)
 
 /* How many bits come before the highest one that is set: 64 where none is. It is called with small numbers. */
 static inline u64 leading_zeros(u64 x)
@@ -14160,261 +14265,530 @@ static inline u64 leading_zeros(u64 x)
     return count;
 }
 
+/* How many come behind the lowest one that is set. */
+static inline u64 trailing_zeros(u64 x)
+{
+    u64 count = 0;
+    while (count < 64 && !(x >> count & 1))
+        count++;
+    return count;
+}
+
 static inline u32 i32_load8_s(const Memory *memory, u64 address)
 {
     u32 byte = get8(read_place(memory, (u32)address, 1));
     return byte < 128 ? byte : byte | UINT32_C(0xffffff00);
 }
 
-enum { STACK = 1048576, HEAP_BASE = 1052320, AT_DATA = 1048576 };
+enum { STACK = 1048576, HEAP_BASE = 1055920, AT_DATA = 1048576 };
 static const u8 DATA[] = {
   0x63, 0x61, 0x6d, 0x65, 0x77, 0x65, 0x6e, 0x74, 0x2d, 0x03, 0x03, 0x0e, 
   0x04, 0x02, 0x22, 0x02, 0x6c, 0x69, 0x6e, 0x65, 0x20, 0x3a, 0x20, 0x0a, 
-  0x20, 0x20, 0x20, 0x20, 0x61, 0x6e, 0x20, 0x6f, 0x70, 0x74, 0x69, 0x6f, 
-  0x6e, 0x20, 0x6f, 0x66, 0x20, 0x53, 0x59, 0x4e, 0x73, 0x20, 0x69, 0x6e, 
-  0x20, 0x61, 0x6e, 0x6f, 0x74, 0x68, 0x65, 0x72, 0x20, 0x73, 0x65, 0x67, 
-  0x6d, 0x65, 0x6e, 0x74, 0x20, 0x28, 0x52, 0x46, 0x43, 0x20, 0x39, 0x32, 
-  0x39, 0x33, 0x2c, 0x20, 0x33, 0x2e, 0x32, 0x29, 0x61, 0x20, 0x73, 0x68, 
-  0x69, 0x66, 0x74, 0x20, 0x61, 0x62, 0x6f, 0x76, 0x65, 0x20, 0x31, 0x34, 
-  0x20, 0x28, 0x52, 0x46, 0x43, 0x20, 0x37, 0x33, 0x32, 0x33, 0x2c, 0x20, 
-  0x32, 0x2e, 0x33, 0x29, 0x6e, 0x6f, 0x20, 0x41, 0x43, 0x4b, 0x20, 0x28, 
-  0x52, 0x46, 0x43, 0x20, 0x39, 0x32, 0x39, 0x33, 0x2c, 0x20, 0x33, 0x2e, 
-  0x31, 0x29, 0x61, 0x20, 0x53, 0x59, 0x4e, 0x20, 0x61, 0x6e, 0x73, 0x77, 
-  0x65, 0x72, 0x73, 0x20, 0x77, 0x69, 0x74, 0x68, 0x20, 0x61, 0x20, 0x77, 
-  0x69, 0x6e, 0x64, 0x6f, 0x77, 0x20, 0x73, 0x63, 0x61, 0x6c, 0x65, 0x20, 
-  0x74, 0x68, 0x61, 0x74, 0x20, 0x6e, 0x6f, 0x20, 0x53, 0x59, 0x4e, 0x20, 
-  0x6f, 0x66, 0x66, 0x65, 0x72, 0x65, 0x64, 0x20, 0x28, 0x52, 0x46, 0x43, 
-  0x20, 0x37, 0x33, 0x32, 0x33, 0x2c, 0x20, 0x32, 0x2e, 0x32, 0x29, 0x62, 
-  0x6c, 0x6f, 0x63, 0x6b, 0x73, 0x2c, 0x20, 0x77, 0x68, 0x69, 0x63, 0x68, 
-  0x20, 0x6e, 0x6f, 0x20, 0x53, 0x59, 0x4e, 0x20, 0x74, 0x68, 0x61, 0x74, 
-  0x20, 0x63, 0x61, 0x6d, 0x65, 0x20, 0x70, 0x65, 0x72, 0x6d, 0x69, 0x74, 
-  0x74, 0x65, 0x64, 0x20, 0x28, 0x52, 0x46, 0x43, 0x20, 0x32, 0x30, 0x31, 
-  0x38, 0x2c, 0x20, 0x34, 0x29, 0x6e, 0x6f, 0x20, 0x73, 0x65, 0x67, 0x6d, 
-  0x65, 0x6e, 0x74, 0x3a, 0x20, 0x20, 0x28, 0x52, 0x46, 0x43, 0x20, 0x39, 
-  0x32, 0x39, 0x33, 0x2c, 0x20, 0x33, 0x2e, 0x31, 0x29, 0x61, 0x20, 0x73, 
-  0x65, 0x67, 0x6d, 0x65, 0x6e, 0x74, 0x20, 0x68, 0x61, 0x73, 0x20, 0x61, 
-  0x74, 0x20, 0x6c, 0x65, 0x61, 0x73, 0x74, 0x20, 0x32, 0x30, 0x20, 0x62, 
-  0x79, 0x74, 0x65, 0x73, 0x61, 0x20, 0x73, 0x65, 0x67, 0x6d, 0x65, 0x6e, 
-  0x74, 0x20, 0x68, 0x61, 0x73, 0x20, 0x61, 0x74, 0x20, 0x6d, 0x6f, 0x73, 
-  0x74, 0x20, 0x36, 0x35, 0x35, 0x31, 0x35, 0x20, 0x62, 0x79, 0x74, 0x65, 
-  0x73, 0x74, 0x68, 0x65, 0x20, 0x63, 0x68, 0x65, 0x63, 0x6b, 0x73, 0x75, 
-  0x6d, 0x20, 0x69, 0x73, 0x20, 0x77, 0x72, 0x6f, 0x6e, 0x67, 0x74, 0x68, 
-  0x65, 0x20, 0x64, 0x61, 0x74, 0x61, 0x20, 0x6f, 0x66, 0x66, 0x73, 0x65, 
-  0x74, 0x20, 0x69, 0x73, 0x20, 0x77, 0x72, 0x6f, 0x6e, 0x67, 0x6e, 0x6f, 
-  0x20, 0x6f, 0x70, 0x74, 0x69, 0x6f, 0x6e, 0x20, 0x62, 0x65, 0x67, 0x69, 
-  0x6e, 0x73, 0x20, 0x61, 0x74, 0x20, 0x62, 0x79, 0x74, 0x65, 0x20, 0x74, 
-  0x68, 0x65, 0x20, 0x70, 0x61, 0x64, 0x64, 0x69, 0x6e, 0x67, 0x20, 0x61, 
-  0x74, 0x20, 0x62, 0x79, 0x74, 0x65, 0x20, 0x20, 0x69, 0x73, 0x20, 0x6e, 
-  0x6f, 0x74, 0x20, 0x7a, 0x65, 0x72, 0x6f, 0x61, 0x20, 0x53, 0x59, 0x4e, 
-  0x20, 0x61, 0x74, 0x20, 0x2c, 0x20, 0x61, 0x6e, 0x64, 0x20, 0x74, 0x68, 
-  0x65, 0x20, 0x66, 0x69, 0x72, 0x73, 0x74, 0x20, 0x61, 0x74, 0x20, 0x20, 
+  0x20, 0x20, 0x20, 0x20, 0x2b, 0x61, 0x6e, 0x20, 0x6f, 0x70, 0x74, 0x69, 
+  0x6f, 0x6e, 0x20, 0x6f, 0x66, 0x20, 0x53, 0x59, 0x4e, 0x73, 0x20, 0x69, 
+  0x6e, 0x20, 0x61, 0x6e, 0x6f, 0x74, 0x68, 0x65, 0x72, 0x20, 0x73, 0x65, 
+  0x67, 0x6d, 0x65, 0x6e, 0x74, 0x20, 0x28, 0x52, 0x46, 0x43, 0x20, 0x39, 
+  0x32, 0x39, 0x33, 0x2c, 0x20, 0x33, 0x2e, 0x32, 0x29, 0x61, 0x20, 0x73, 
+  0x68, 0x69, 0x66, 0x74, 0x20, 0x61, 0x62, 0x6f, 0x76, 0x65, 0x20, 0x31, 
+  0x34, 0x20, 0x28, 0x52, 0x46, 0x43, 0x20, 0x37, 0x33, 0x32, 0x33, 0x2c, 
+  0x20, 0x32, 0x2e, 0x33, 0x29, 0x6e, 0x6f, 0x20, 0x41, 0x43, 0x4b, 0x20, 
   0x28, 0x52, 0x46, 0x43, 0x20, 0x39, 0x32, 0x39, 0x33, 0x2c, 0x20, 0x33, 
-  0x2e, 0x34, 0x29, 0x74, 0x65, 0x78, 0x74, 0x20, 0x6f, 0x72, 0x20, 0x46, 
-  0x49, 0x4e, 0x20, 0x62, 0x65, 0x66, 0x6f, 0x72, 0x65, 0x20, 0x74, 0x68, 
-  0x65, 0x20, 0x66, 0x69, 0x72, 0x73, 0x74, 0x20, 0x62, 0x79, 0x74, 0x65, 
-  0x20, 0x6f, 0x66, 0x20, 0x74, 0x68, 0x65, 0x20, 0x73, 0x74, 0x72, 0x65, 
-  0x61, 0x6d, 0x2c, 0x20, 0x61, 0x74, 0x20, 0x61, 0x6e, 0x6f, 0x74, 0x68, 
-  0x65, 0x72, 0x20, 0x62, 0x79, 0x74, 0x65, 0x20, 0x77, 0x68, 0x65, 0x72, 
-  0x65, 0x20, 0x6f, 0x6e, 0x65, 0x20, 0x77, 0x65, 0x6e, 0x74, 0x20, 0x62, 
-  0x65, 0x66, 0x6f, 0x72, 0x65, 0x2c, 0x20, 0x69, 0x6e, 0x20, 0x74, 0x68, 
-  0x65, 0x20, 0x74, 0x65, 0x78, 0x74, 0x20, 0x61, 0x74, 0x20, 0x74, 0x65, 
-  0x78, 0x74, 0x20, 0x6f, 0x72, 0x20, 0x46, 0x49, 0x4e, 0x20, 0x75, 0x70, 
-  0x20, 0x74, 0x6f, 0x20, 0x70, 0x6f, 0x73, 0x69, 0x74, 0x69, 0x6f, 0x6e, 
-  0x20, 0x2c, 0x20, 0x61, 0x6e, 0x64, 0x20, 0x74, 0x68, 0x65, 0x20, 0x46, 
-  0x49, 0x4e, 0x20, 0x61, 0x74, 0x20, 0x74, 0x65, 0x78, 0x74, 0x20, 0x62, 
-  0x65, 0x66, 0x6f, 0x72, 0x65, 0x20, 0x74, 0x68, 0x65, 0x20, 0x53, 0x59, 
-  0x4e, 0x20, 0x69, 0x73, 0x20, 0x61, 0x63, 0x6b, 0x6e, 0x6f, 0x77, 0x6c, 
-  0x65, 0x64, 0x67, 0x65, 0x64, 0x2c, 0x20, 0x61, 0x74, 0x20, 0x20, 0x28, 
-  0x52, 0x46, 0x43, 0x20, 0x39, 0x32, 0x39, 0x33, 0x2c, 0x20, 0x33, 0x2e, 
-  0x31, 0x30, 0x2e, 0x32, 0x29, 0x74, 0x65, 0x78, 0x74, 0x20, 0x6f, 0x72, 
-  0x20, 0x46, 0x49, 0x4e, 0x20, 0x61, 0x66, 0x74, 0x65, 0x72, 0x20, 0x74, 
-  0x68, 0x65, 0x20, 0x65, 0x6e, 0x64, 0x27, 0x73, 0x20, 0x6f, 0x77, 0x6e, 
-  0x20, 0x72, 0x65, 0x73, 0x65, 0x74, 0x2c, 0x20, 0x61, 0x74, 0x20, 0x20, 
-  0x28, 0x52, 0x46, 0x43, 0x20, 0x39, 0x32, 0x39, 0x33, 0x2c, 0x20, 0x33, 
-  0x2e, 0x31, 0x30, 0x2e, 0x35, 0x29, 0x74, 0x65, 0x78, 0x74, 0x20, 0x6f, 
-  0x72, 0x20, 0x46, 0x49, 0x4e, 0x20, 0x62, 0x65, 0x68, 0x69, 0x6e, 0x64, 
-  0x20, 0x61, 0x20, 0x67, 0x61, 0x70, 0x20, 0x69, 0x6e, 0x20, 0x77, 0x68, 
-  0x61, 0x74, 0x20, 0x77, 0x61, 0x73, 0x20, 0x73, 0x65, 0x6e, 0x74, 0x2c, 
-  0x20, 0x61, 0x74, 0x20, 0x61, 0x20, 0x73, 0x65, 0x67, 0x6d, 0x65, 0x6e, 
-  0x74, 0x20, 0x77, 0x69, 0x74, 0x68, 0x6f, 0x75, 0x74, 0x20, 0x74, 0x65, 
-  0x78, 0x74, 0x20, 0x62, 0x65, 0x68, 0x69, 0x6e, 0x64, 0x20, 0x61, 0x6c, 
-  0x6c, 0x20, 0x74, 0x68, 0x61, 0x74, 0x20, 0x77, 0x61, 0x73, 0x20, 0x73, 
-  0x65, 0x6e, 0x74, 0x2c, 0x20, 0x61, 0x74, 0x20, 0x20, 0x28, 0x52, 0x46, 
-  0x43, 0x20, 0x39, 0x32, 0x39, 0x33, 0x2c, 0x20, 0x33, 0x2e, 0x31, 0x30, 
-  0x2e, 0x37, 0x2e, 0x34, 0x29, 0x74, 0x65, 0x78, 0x74, 0x20, 0x62, 0x65, 
-  0x79, 0x6f, 0x6e, 0x64, 0x20, 0x74, 0x68, 0x65, 0x20, 0x77, 0x69, 0x6e, 
-  0x64, 0x6f, 0x77, 0x2c, 0x20, 0x61, 0x74, 0x20, 0x20, 0x28, 0x52, 0x46, 
-  0x43, 0x20, 0x39, 0x32, 0x39, 0x33, 0x2c, 0x20, 0x33, 0x2e, 0x38, 0x2e, 
-  0x36, 0x29, 0x61, 0x20, 0x72, 0x65, 0x73, 0x65, 0x74, 0x20, 0x61, 0x74, 
-  0x20, 0x2c, 0x20, 0x77, 0x68, 0x69, 0x63, 0x68, 0x20, 0x77, 0x61, 0x73, 
-  0x20, 0x6e, 0x65, 0x69, 0x74, 0x68, 0x65, 0x72, 0x20, 0x73, 0x65, 0x6e, 
-  0x74, 0x20, 0x6e, 0x6f, 0x72, 0x20, 0x61, 0x63, 0x6b, 0x6e, 0x6f, 0x77, 
-  0x6c, 0x65, 0x64, 0x67, 0x65, 0x64, 0x20, 0x28, 0x52, 0x46, 0x43, 0x20, 
-  0x39, 0x32, 0x39, 0x33, 0x2c, 0x20, 0x33, 0x2e, 0x35, 0x2e, 0x32, 0x29, 
-  0x61, 0x6e, 0x20, 0x61, 0x63, 0x6b, 0x6e, 0x6f, 0x77, 0x6c, 0x65, 0x64, 
-  0x67, 0x65, 0x6d, 0x65, 0x6e, 0x74, 0x20, 0x6f, 0x66, 0x20, 0x2c, 0x20, 
-  0x75, 0x70, 0x20, 0x74, 0x6f, 0x20, 0x77, 0x68, 0x69, 0x63, 0x68, 0x20, 
-  0x6e, 0x6f, 0x74, 0x20, 0x61, 0x6c, 0x6c, 0x20, 0x63, 0x61, 0x6d, 0x65, 
+  0x2e, 0x31, 0x29, 0x61, 0x20, 0x53, 0x59, 0x4e, 0x20, 0x61, 0x6e, 0x73, 
+  0x77, 0x65, 0x72, 0x73, 0x20, 0x77, 0x69, 0x74, 0x68, 0x20, 0x61, 0x20, 
+  0x77, 0x69, 0x6e, 0x64, 0x6f, 0x77, 0x20, 0x73, 0x63, 0x61, 0x6c, 0x65, 
+  0x20, 0x74, 0x68, 0x61, 0x74, 0x20, 0x6e, 0x6f, 0x20, 0x53, 0x59, 0x4e, 
+  0x20, 0x6f, 0x66, 0x66, 0x65, 0x72, 0x65, 0x64, 0x20, 0x28, 0x52, 0x46, 
+  0x43, 0x20, 0x37, 0x33, 0x32, 0x33, 0x2c, 0x20, 0x32, 0x2e, 0x32, 0x29, 
+  0x62, 0x6c, 0x6f, 0x63, 0x6b, 0x73, 0x2c, 0x20, 0x77, 0x68, 0x69, 0x63, 
+  0x68, 0x20, 0x6e, 0x6f, 0x20, 0x53, 0x59, 0x4e, 0x20, 0x74, 0x68, 0x61, 
+  0x74, 0x20, 0x63, 0x61, 0x6d, 0x65, 0x20, 0x70, 0x65, 0x72, 0x6d, 0x69, 
+  0x74, 0x74, 0x65, 0x64, 0x20, 0x28, 0x52, 0x46, 0x43, 0x20, 0x32, 0x30, 
+  0x31, 0x38, 0x2c, 0x20, 0x34, 0x29, 0x6e, 0x6f, 0x20, 0x73, 0x65, 0x67, 
+  0x6d, 0x65, 0x6e, 0x74, 0x3a, 0x20, 0x20, 0x28, 0x52, 0x46, 0x43, 0x20, 
+  0x39, 0x32, 0x39, 0x33, 0x2c, 0x20, 0x33, 0x2e, 0x31, 0x29, 0x61, 0x20, 
+  0x73, 0x65, 0x67, 0x6d, 0x65, 0x6e, 0x74, 0x20, 0x68, 0x61, 0x73, 0x20, 
+  0x61, 0x74, 0x20, 0x6c, 0x65, 0x61, 0x73, 0x74, 0x20, 0x32, 0x30, 0x20, 
+  0x62, 0x79, 0x74, 0x65, 0x73, 0x61, 0x20, 0x73, 0x65, 0x67, 0x6d, 0x65, 
+  0x6e, 0x74, 0x20, 0x68, 0x61, 0x73, 0x20, 0x61, 0x74, 0x20, 0x6d, 0x6f, 
+  0x73, 0x74, 0x20, 0x36, 0x35, 0x35, 0x31, 0x35, 0x20, 0x62, 0x79, 0x74, 
+  0x65, 0x73, 0x74, 0x68, 0x65, 0x20, 0x63, 0x68, 0x65, 0x63, 0x6b, 0x73, 
+  0x75, 0x6d, 0x20, 0x69, 0x73, 0x20, 0x77, 0x72, 0x6f, 0x6e, 0x67, 0x74, 
+  0x68, 0x65, 0x20, 0x64, 0x61, 0x74, 0x61, 0x20, 0x6f, 0x66, 0x66, 0x73, 
+  0x65, 0x74, 0x20, 0x69, 0x73, 0x20, 0x77, 0x72, 0x6f, 0x6e, 0x67, 0x6e, 
+  0x6f, 0x20, 0x6f, 0x70, 0x74, 0x69, 0x6f, 0x6e, 0x20, 0x62, 0x65, 0x67, 
+  0x69, 0x6e, 0x73, 0x20, 0x61, 0x74, 0x20, 0x62, 0x79, 0x74, 0x65, 0x20, 
+  0x74, 0x68, 0x65, 0x20, 0x70, 0x61, 0x64, 0x64, 0x69, 0x6e, 0x67, 0x20, 
+  0x61, 0x74, 0x20, 0x62, 0x79, 0x74, 0x65, 0x20, 0x20, 0x69, 0x73, 0x20, 
+  0x6e, 0x6f, 0x74, 0x20, 0x7a, 0x65, 0x72, 0x6f, 0x61, 0x20, 0x53, 0x59, 
+  0x4e, 0x20, 0x61, 0x74, 0x20, 0x2c, 0x20, 0x61, 0x6e, 0x64, 0x20, 0x74, 
+  0x68, 0x65, 0x20, 0x66, 0x69, 0x72, 0x73, 0x74, 0x20, 0x61, 0x74, 0x20, 
   0x20, 0x28, 0x52, 0x46, 0x43, 0x20, 0x39, 0x32, 0x39, 0x33, 0x2c, 0x20, 
-  0x33, 0x2e, 0x34, 0x29, 0x2c, 0x20, 0x61, 0x6e, 0x64, 0x20, 0x6f, 0x6e, 
-  0x65, 0x20, 0x6f, 0x66, 0x20, 0x20, 0x62, 0x65, 0x66, 0x6f, 0x72, 0x65, 
-  0x20, 0x69, 0x74, 0x20, 0x28, 0x52, 0x46, 0x43, 0x20, 0x39, 0x32, 0x39, 
-  0x33, 0x2c, 0x20, 0x33, 0x2e, 0x31, 0x30, 0x2e, 0x37, 0x2e, 0x34, 0x29, 
-  0x61, 0x20, 0x62, 0x6c, 0x6f, 0x63, 0x6b, 0x20, 0x66, 0x72, 0x6f, 0x6d, 
-  0x20, 0x20, 0x74, 0x6f, 0x20, 0x2c, 0x20, 0x6f, 0x66, 0x20, 0x77, 0x68, 
-  0x69, 0x63, 0x68, 0x20, 0x6e, 0x6f, 0x74, 0x20, 0x61, 0x6c, 0x6c, 0x20, 
-  0x63, 0x61, 0x6d, 0x65, 0x20, 0x28, 0x52, 0x46, 0x43, 0x20, 0x32, 0x30, 
-  0x31, 0x38, 0x2c, 0x20, 0x33, 0x29, 0x6e, 0x6f, 0x74, 0x65, 0x3a, 0x20, 
-  0x77, 0x72, 0x6f, 0x6e, 0x67, 0x20, 0x63, 0x68, 0x65, 0x63, 0x6b, 0x73, 
-  0x75, 0x6d, 0x73, 0x3a, 0x20, 0x2c, 0x20, 0x74, 0x68, 0x65, 0x20, 0x66, 
-  0x69, 0x72, 0x73, 0x74, 0x20, 0x69, 0x6e, 0x20, 0x6c, 0x69, 0x6e, 0x65, 
-  0x20, 0x20, 0x28, 0x52, 0x46, 0x43, 0x20, 0x39, 0x32, 0x39, 0x33, 0x2c, 
-  0x20, 0x33, 0x2e, 0x31, 0x29, 0x0a, 0x6e, 0x6f, 0x74, 0x65, 0x3a, 0x20, 
-  0x6f, 0x72, 0x64, 0x65, 0x72, 0x2c, 0x20, 0x61, 0x63, 0x6b, 0x6e, 0x6f, 
-  0x77, 0x6c, 0x65, 0x64, 0x67, 0x65, 0x6d, 0x65, 0x6e, 0x74, 0x73, 0x20, 
-  0x61, 0x6e, 0x64, 0x20, 0x62, 0x6c, 0x6f, 0x63, 0x6b, 0x73, 0x20, 0x61, 
-  0x72, 0x65, 0x6e, 0x27, 0x74, 0x20, 0x6a, 0x75, 0x64, 0x67, 0x65, 0x64, 
-  0x2c, 0x20, 0x61, 0x73, 0x20, 0x73, 0x65, 0x67, 0x6d, 0x65, 0x6e, 0x74, 
-  0x73, 0x20, 0x6d, 0x61, 0x79, 0x20, 0x62, 0x65, 0x20, 0x6d, 0x69, 0x73, 
-  0x73, 0x69, 0x6e, 0x67, 0x0a, 0x73, 0x65, 0x67, 0x6d, 0x65, 0x6e, 0x74, 
-  0x73, 0x20, 0x20, 0x66, 0x69, 0x6e, 0x64, 0x69, 0x6e, 0x67, 0x73, 0x20, 
-  0x20, 0x20, 0x61, 0x63, 0x6b, 0x20, 0x20, 0x73, 0x65, 0x71, 0x20, 0x20, 
-  0x3e, 0x20, 0x30, 0x30, 0x30, 0x31, 0x30, 0x32, 0x30, 0x33, 0x30, 0x34, 
-  0x30, 0x35, 0x30, 0x36, 0x30, 0x37, 0x30, 0x38, 0x30, 0x39, 0x31, 0x30, 
-  0x31, 0x31, 0x31, 0x32, 0x31, 0x33, 0x31, 0x34, 0x31, 0x35, 0x31, 0x36, 
-  0x31, 0x37, 0x31, 0x38, 0x31, 0x39, 0x32, 0x30, 0x32, 0x31, 0x32, 0x32, 
-  0x32, 0x33, 0x32, 0x34, 0x32, 0x35, 0x32, 0x36, 0x32, 0x37, 0x32, 0x38, 
-  0x32, 0x39, 0x33, 0x30, 0x33, 0x31, 0x33, 0x32, 0x33, 0x33, 0x33, 0x34, 
-  0x33, 0x35, 0x33, 0x36, 0x33, 0x37, 0x33, 0x38, 0x33, 0x39, 0x34, 0x30, 
-  0x34, 0x31, 0x34, 0x32, 0x34, 0x33, 0x34, 0x34, 0x34, 0x35, 0x34, 0x36, 
-  0x34, 0x37, 0x34, 0x38, 0x34, 0x39, 0x35, 0x30, 0x35, 0x31, 0x35, 0x32, 
-  0x35, 0x33, 0x35, 0x34, 0x35, 0x35, 0x35, 0x36, 0x35, 0x37, 0x35, 0x38, 
-  0x35, 0x39, 0x36, 0x30, 0x36, 0x31, 0x36, 0x32, 0x36, 0x33, 0x36, 0x34, 
-  0x36, 0x35, 0x36, 0x36, 0x36, 0x37, 0x36, 0x38, 0x36, 0x39, 0x37, 0x30, 
-  0x37, 0x31, 0x37, 0x32, 0x37, 0x33, 0x37, 0x34, 0x37, 0x35, 0x37, 0x36, 
-  0x37, 0x37, 0x37, 0x38, 0x37, 0x39, 0x38, 0x30, 0x38, 0x31, 0x38, 0x32, 
-  0x38, 0x33, 0x38, 0x34, 0x38, 0x35, 0x38, 0x36, 0x38, 0x37, 0x38, 0x38, 
-  0x38, 0x39, 0x39, 0x30, 0x39, 0x31, 0x39, 0x32, 0x39, 0x33, 0x39, 0x34, 
-  0x39, 0x35, 0x39, 0x36, 0x39, 0x37, 0x39, 0x38, 0x39, 0x39, 0x20, 0x66, 
-  0x6c, 0x61, 0x67, 0x73, 0x20, 0x20, 0x72, 0x65, 0x73, 0x65, 0x72, 0x76, 
-  0x65, 0x64, 0x20, 0x41, 0x43, 0x4b, 0x41, 0x43, 0x4b, 0x2c, 0x50, 0x53, 
-  0x48, 0x53, 0x59, 0x4e, 0x41, 0x43, 0x4b, 0x2c, 0x53, 0x59, 0x4e, 0x41, 
-  0x43, 0x4b, 0x2c, 0x46, 0x49, 0x4e, 0x41, 0x43, 0x4b, 0x2c, 0x52, 0x53, 
-  0x54, 0x43, 0x57, 0x52, 0x45, 0x43, 0x45, 0x55, 0x52, 0x47, 0x50, 0x53, 
-  0x48, 0x52, 0x53, 0x54, 0x46, 0x49, 0x4e, 0x2c, 0x20, 0x77, 0x69, 0x6e, 
-  0x64, 0x6f, 0x77, 0x20, 0x20, 0x6f, 0x70, 0x74, 0x69, 0x6f, 0x6e, 0x73, 
-  0x20, 0x6e, 0x6f, 0x70, 0x6d, 0x73, 0x73, 0x3a, 0x77, 0x73, 0x3a, 0x73, 
-  0x61, 0x63, 0x6b, 0x6f, 0x6b, 0x73, 0x61, 0x63, 0x6b, 0x3a, 0x30, 0x31, 
-  0x32, 0x33, 0x34, 0x35, 0x36, 0x37, 0x38, 0x39, 0x61, 0x62, 0x63, 0x64, 
-  0x65, 0x66, 0x20, 0x74, 0x65, 0x78, 0x74, 0x20, 0x20, 0x70, 0x61, 0x64, 
-  0x20, 0x6d, 0x61, 0x6c, 0x66, 0x6f, 0x72, 0x6d, 0x65, 0x64, 0x20, 0x54, 
-  0x6f, 0x6f, 0x53, 0x68, 0x6f, 0x72, 0x74, 0x54, 0x6f, 0x6f, 0x4c, 0x6f, 
-  0x6e, 0x67, 0x42, 0x61, 0x64, 0x43, 0x68, 0x65, 0x63, 0x6b, 0x73, 0x75, 
-  0x6d, 0x42, 0x61, 0x64, 0x4f, 0x66, 0x66, 0x73, 0x65, 0x74, 0x42, 0x61, 
-  0x64, 0x4f, 0x70, 0x74, 0x69, 0x6f, 0x6e, 0x20, 0x61, 0x74, 0x20, 0x42, 
-  0x61, 0x64, 0x50, 0x61, 0x64, 0x64, 0x69, 0x6e, 0x67, 0x20, 0x61, 0x74, 
-  0x20, 0x74, 0x6f, 0x74, 0x61, 0x6c, 0x20, 0x20, 0x6d, 0x61, 0x6c, 0x66, 
-  0x6f, 0x72, 0x6d, 0x65, 0x64, 0x20, 0x74, 0x63, 0x70, 0x6b, 0x69, 0x74, 
-  0x20, 0x33, 0x74, 0x63, 0x70, 0x6b, 0x69, 0x74, 0x20, 0x32, 0x63, 0x6f, 
-  0x6e, 0x66, 0x69, 0x67, 0x72, 0x65, 0x70, 0x65, 0x61, 0x74, 0x6c, 0x69, 
-  0x66, 0x65, 0x6c, 0x69, 0x6d, 0x69, 0x74, 0x41, 0x42, 0x72, 0x75, 0x6e, 
-  0x73, 0x63, 0x6f, 0x6e, 0x6e, 0x65, 0x63, 0x74, 0x6c, 0x69, 0x73, 0x74, 
-  0x65, 0x6e, 0x73, 0x65, 0x6e, 0x64, 0x72, 0x65, 0x63, 0x65, 0x69, 0x76, 
-  0x65, 0x63, 0x6c, 0x6f, 0x73, 0x65, 0x61, 0x62, 0x6f, 0x72, 0x74, 0x61, 
-  0x63, 0x6b, 0x6e, 0x6f, 0x77, 0x6c, 0x65, 0x64, 0x67, 0x65, 0x74, 0x69, 
-  0x6d, 0x65, 0x72, 0x65, 0x6d, 0x69, 0x74, 0x65, 0x6d, 0x69, 0x74, 0x2d, 
-  0x61, 0x63, 0x6b, 0x6e, 0x6f, 0x77, 0x6c, 0x65, 0x64, 0x67, 0x65, 0x6d, 
-  0x65, 0x6e, 0x74, 0x72, 0x65, 0x73, 0x65, 0x6e, 0x64, 0x2d, 0x66, 0x69, 
-  0x72, 0x73, 0x74, 0x64, 0x65, 0x6c, 0x69, 0x76, 0x65, 0x72, 0x64, 0x61, 
-  0x6d, 0x61, 0x67, 0x65, 0x72, 0x65, 0x74, 0x72, 0x61, 0x6e, 0x73, 0x6d, 
-  0x69, 0x74, 0x72, 0x65, 0x6f, 0x72, 0x64, 0x65, 0x72, 0x74, 0x69, 0x6d, 
-  0x65, 0x77, 0x61, 0x69, 0x74, 0x72, 0x65, 0x63, 0x76, 0x73, 0x68, 0x69, 
-  0x66, 0x74, 0x73, 0x61, 0x63, 0x6b, 0x6e, 0x6f, 0x6e, 0x65, 0x6f, 0x6b, 
-  0x20, 0x74, 0x6f, 0x6f, 0x6b, 0x20, 0x62, 0x79, 0x74, 0x65, 0x73, 0x20, 
-  0x6e, 0x6f, 0x74, 0x68, 0x69, 0x6e, 0x67, 0x65, 0x6e, 0x64, 0x79, 0x65, 
-  0x73, 0x6e, 0x6f, 0x66, 0x6c, 0x61, 0x67, 0x73, 0x20, 0x20, 0x73, 0x61, 
-  0x63, 0x6b, 0x20, 0x6e, 0x6f, 0x74, 0x2d, 0x6d, 0x69, 0x6e, 0x65, 0x64, 
-  0x72, 0x6f, 0x70, 0x70, 0x65, 0x64, 0x70, 0x72, 0x6f, 0x63, 0x65, 0x73, 
-  0x73, 0x65, 0x64, 0x43, 0x4c, 0x4f, 0x53, 0x45, 0x44, 0x4c, 0x49, 0x53, 
-  0x54, 0x45, 0x4e, 0x53, 0x59, 0x4e, 0x2d, 0x53, 0x45, 0x4e, 0x54, 0x53, 
-  0x59, 0x4e, 0x2d, 0x52, 0x45, 0x43, 0x45, 0x49, 0x56, 0x45, 0x44, 0x45, 
-  0x53, 0x54, 0x41, 0x42, 0x4c, 0x49, 0x53, 0x48, 0x45, 0x44, 0x46, 0x49, 
-  0x4e, 0x2d, 0x57, 0x41, 0x49, 0x54, 0x2d, 0x31, 0x46, 0x49, 0x4e, 0x2d, 
-  0x57, 0x41, 0x49, 0x54, 0x2d, 0x32, 0x43, 0x4c, 0x4f, 0x53, 0x45, 0x2d, 
-  0x57, 0x41, 0x49, 0x54, 0x43, 0x4c, 0x4f, 0x53, 0x49, 0x4e, 0x47, 0x4c, 
-  0x41, 0x53, 0x54, 0x2d, 0x41, 0x43, 0x4b, 0x54, 0x49, 0x4d, 0x45, 0x2d, 
-  0x57, 0x41, 0x49, 0x54, 0x72, 0x65, 0x66, 0x75, 0x73, 0x65, 0x64, 0x20, 
-  0x20, 0x72, 0x65, 0x70, 0x65, 0x61, 0x74, 0x20, 0x20, 0x72, 0x65, 0x66, 
-  0x75, 0x73, 0x65, 0x64, 0x20, 0x64, 0x6f, 0x6e, 0x65, 0x20, 0x6e, 0x75, 
-  0x6d, 0x62, 0x65, 0x72, 0x73, 0x20, 0x20, 0x75, 0x6e, 0x61, 0x20, 0x2d, 
-  0x20, 0x6e, 0x78, 0x74, 0x20, 0x2d, 0x20, 0x65, 0x64, 0x67, 0x65, 0x20, 
-  0x2d, 0x20, 0x75, 0x6e, 0x61, 0x20, 0x20, 0x6e, 0x78, 0x74, 0x20, 0x20, 
-  0x65, 0x64, 0x67, 0x65, 0x20, 0x20, 0x6e, 0x65, 0x78, 0x74, 0x20, 0x2d, 
-  0x20, 0x6c, 0x69, 0x6d, 0x69, 0x74, 0x20, 0x2d, 0x20, 0x6e, 0x65, 0x78, 
-  0x74, 0x20, 0x20, 0x6c, 0x69, 0x6d, 0x69, 0x74, 0x20, 0x20, 0x72, 0x65, 
-  0x74, 0x72, 0x61, 0x6e, 0x73, 0x6d, 0x69, 0x74, 0x20, 0x20, 0x72, 0x65, 
-  0x6f, 0x72, 0x64, 0x65, 0x72, 0x20, 0x20, 0x74, 0x69, 0x6d, 0x65, 0x77, 
-  0x61, 0x69, 0x74, 0x20, 0x74, 0x63, 0x70, 0x6b, 0x69, 0x74, 0x3a, 0x20, 
-  0x34, 0x31, 0x20, 0x6c, 0x69, 0x6e, 0x65, 0x20, 0x74, 0x63, 0x70, 0x6b, 
-  0x69, 0x74, 0x3a, 0x20, 0x63, 0x6f, 0x6e, 0x66, 0x69, 0x67, 0x20, 0x65, 
-  0x6e, 0x64, 0x20, 0x6e, 0x6f, 0x74, 0x2d, 0x65, 0x6e, 0x64, 0x65, 0x64, 
-  0x6f, 0x72, 0x64, 0x65, 0x72, 0x6c, 0x79, 0x72, 0x65, 0x73, 0x65, 0x74, 
-  0x61, 0x62, 0x6f, 0x72, 0x74, 0x65, 0x64, 0x20, 0x61, 0x63, 0x63, 0x65, 
-  0x70, 0x74, 0x65, 0x64, 0x20, 0x20, 0x64, 0x65, 0x6c, 0x69, 0x76, 0x65, 
-  0x72, 0x65, 0x64, 0x20, 0x20, 0x72, 0x65, 0x6c, 0x65, 0x61, 0x73, 0x65, 
-  0x64, 0x20, 0x20, 0x6f, 0x72, 0x64, 0x65, 0x72, 0x65, 0x64, 0x20, 0x20, 
-  0x73, 0x65, 0x6e, 0x74, 0x20, 0x20, 0x65, 0x6e, 0x64, 0x65, 0x64, 0x20, 
-  0x66, 0x6f, 0x72, 0x65, 0x69, 0x67, 0x6e, 0x20, 0x33, 0x2e, 0x31, 0x30, 
-  0x2e, 0x37, 0x72, 0x65, 0x73, 0x65, 0x74, 0x2d, 0x69, 0x67, 0x6e, 0x6f, 
-  0x72, 0x65, 0x64, 0x20, 0x33, 0x2e, 0x31, 0x30, 0x2e, 0x37, 0x2e, 0x31, 
-  0x20, 0x74, 0x6f, 0x20, 0x33, 0x2e, 0x31, 0x30, 0x2e, 0x37, 0x2e, 0x34, 
-  0x73, 0x74, 0x72, 0x61, 0x79, 0x20, 0x33, 0x2e, 0x31, 0x30, 0x2e, 0x37, 
-  0x2e, 0x31, 0x61, 0x63, 0x6b, 0x2d, 0x6f, 0x66, 0x2d, 0x6c, 0x69, 0x73, 
-  0x74, 0x65, 0x6e, 0x20, 0x33, 0x2e, 0x31, 0x30, 0x2e, 0x37, 0x2e, 0x32, 
-  0x2c, 0x20, 0x73, 0x65, 0x63, 0x6f, 0x6e, 0x64, 0x6f, 0x70, 0x65, 0x6e, 
-  0x73, 0x2d, 0x6e, 0x6f, 0x74, 0x68, 0x69, 0x6e, 0x67, 0x20, 0x33, 0x2e, 
-  0x31, 0x30, 0x2e, 0x37, 0x2e, 0x32, 0x2c, 0x20, 0x66, 0x6f, 0x75, 0x72, 
-  0x74, 0x68, 0x2c, 0x20, 0x6f, 0x72, 0x20, 0x33, 0x2e, 0x31, 0x30, 0x2e, 
-  0x37, 0x2e, 0x33, 0x2c, 0x20, 0x66, 0x69, 0x66, 0x74, 0x68, 0x70, 0x65, 
-  0x65, 0x72, 0x2d, 0x6f, 0x70, 0x65, 0x6e, 0x73, 0x20, 0x33, 0x2e, 0x31, 
-  0x30, 0x2e, 0x37, 0x2e, 0x32, 0x2c, 0x20, 0x74, 0x68, 0x69, 0x72, 0x64, 
-  0x61, 0x63, 0x6b, 0x2d, 0x6f, 0x66, 0x2d, 0x6e, 0x6f, 0x2d, 0x73, 0x79, 
-  0x6e, 0x20, 0x33, 0x2e, 0x31, 0x30, 0x2e, 0x37, 0x2e, 0x33, 0x2c, 0x20, 
-  0x66, 0x69, 0x72, 0x73, 0x74, 0x70, 0x65, 0x65, 0x72, 0x2d, 0x72, 0x65, 
-  0x66, 0x75, 0x73, 0x65, 0x73, 0x20, 0x33, 0x2e, 0x31, 0x30, 0x2e, 0x37, 
-  0x2e, 0x33, 0x2c, 0x20, 0x73, 0x65, 0x63, 0x6f, 0x6e, 0x64, 0x70, 0x65, 
-  0x65, 0x72, 0x2d, 0x61, 0x63, 0x63, 0x65, 0x70, 0x74, 0x73, 0x20, 0x33, 
-  0x2e, 0x31, 0x30, 0x2e, 0x37, 0x2e, 0x33, 0x2c, 0x20, 0x66, 0x6f, 0x75, 
-  0x72, 0x74, 0x68, 0x75, 0x6e, 0x61, 0x63, 0x63, 0x65, 0x70, 0x74, 0x61, 
-  0x62, 0x6c, 0x65, 0x20, 0x33, 0x2e, 0x31, 0x30, 0x2e, 0x37, 0x2e, 0x34, 
+  0x33, 0x2e, 0x34, 0x29, 0x74, 0x65, 0x78, 0x74, 0x20, 0x6f, 0x72, 0x20, 
+  0x46, 0x49, 0x4e, 0x20, 0x62, 0x65, 0x66, 0x6f, 0x72, 0x65, 0x20, 0x74, 
+  0x68, 0x65, 0x20, 0x66, 0x69, 0x72, 0x73, 0x74, 0x20, 0x62, 0x79, 0x74, 
+  0x65, 0x20, 0x6f, 0x66, 0x20, 0x74, 0x68, 0x65, 0x20, 0x73, 0x74, 0x72, 
+  0x65, 0x61, 0x6d, 0x2c, 0x20, 0x61, 0x74, 0x20, 0x61, 0x6e, 0x6f, 0x74, 
+  0x68, 0x65, 0x72, 0x20, 0x62, 0x79, 0x74, 0x65, 0x20, 0x77, 0x68, 0x65, 
+  0x72, 0x65, 0x20, 0x6f, 0x6e, 0x65, 0x20, 0x77, 0x65, 0x6e, 0x74, 0x20, 
+  0x62, 0x65, 0x66, 0x6f, 0x72, 0x65, 0x2c, 0x20, 0x69, 0x6e, 0x20, 0x74, 
+  0x68, 0x65, 0x20, 0x74, 0x65, 0x78, 0x74, 0x20, 0x61, 0x74, 0x20, 0x74, 
+  0x65, 0x78, 0x74, 0x20, 0x6f, 0x72, 0x20, 0x46, 0x49, 0x4e, 0x20, 0x75, 
+  0x70, 0x20, 0x74, 0x6f, 0x20, 0x70, 0x6f, 0x73, 0x69, 0x74, 0x69, 0x6f, 
+  0x6e, 0x20, 0x2c, 0x20, 0x61, 0x6e, 0x64, 0x20, 0x74, 0x68, 0x65, 0x20, 
+  0x46, 0x49, 0x4e, 0x20, 0x61, 0x74, 0x20, 0x74, 0x65, 0x78, 0x74, 0x20, 
+  0x62, 0x65, 0x66, 0x6f, 0x72, 0x65, 0x20, 0x74, 0x68, 0x65, 0x20, 0x53, 
+  0x59, 0x4e, 0x20, 0x69, 0x73, 0x20, 0x61, 0x63, 0x6b, 0x6e, 0x6f, 0x77, 
+  0x6c, 0x65, 0x64, 0x67, 0x65, 0x64, 0x2c, 0x20, 0x61, 0x74, 0x20, 0x20, 
+  0x28, 0x52, 0x46, 0x43, 0x20, 0x39, 0x32, 0x39, 0x33, 0x2c, 0x20, 0x33, 
+  0x2e, 0x31, 0x30, 0x2e, 0x32, 0x29, 0x74, 0x65, 0x78, 0x74, 0x20, 0x6f, 
+  0x72, 0x20, 0x46, 0x49, 0x4e, 0x20, 0x61, 0x66, 0x74, 0x65, 0x72, 0x20, 
+  0x74, 0x68, 0x65, 0x20, 0x65, 0x6e, 0x64, 0x27, 0x73, 0x20, 0x6f, 0x77, 
+  0x6e, 0x20, 0x72, 0x65, 0x73, 0x65, 0x74, 0x2c, 0x20, 0x61, 0x74, 0x20, 
+  0x20, 0x28, 0x52, 0x46, 0x43, 0x20, 0x39, 0x32, 0x39, 0x33, 0x2c, 0x20, 
+  0x33, 0x2e, 0x31, 0x30, 0x2e, 0x35, 0x29, 0x74, 0x65, 0x78, 0x74, 0x20, 
+  0x6f, 0x72, 0x20, 0x46, 0x49, 0x4e, 0x20, 0x62, 0x65, 0x68, 0x69, 0x6e, 
+  0x64, 0x20, 0x61, 0x20, 0x67, 0x61, 0x70, 0x20, 0x69, 0x6e, 0x20, 0x77, 
+  0x68, 0x61, 0x74, 0x20, 0x77, 0x61, 0x73, 0x20, 0x73, 0x65, 0x6e, 0x74, 
+  0x2c, 0x20, 0x61, 0x74, 0x20, 0x61, 0x20, 0x73, 0x65, 0x67, 0x6d, 0x65, 
+  0x6e, 0x74, 0x20, 0x77, 0x69, 0x74, 0x68, 0x6f, 0x75, 0x74, 0x20, 0x74, 
+  0x65, 0x78, 0x74, 0x20, 0x62, 0x65, 0x68, 0x69, 0x6e, 0x64, 0x20, 0x61, 
+  0x6c, 0x6c, 0x20, 0x74, 0x68, 0x61, 0x74, 0x20, 0x77, 0x61, 0x73, 0x20, 
+  0x73, 0x65, 0x6e, 0x74, 0x2c, 0x20, 0x61, 0x74, 0x20, 0x20, 0x28, 0x52, 
+  0x46, 0x43, 0x20, 0x39, 0x32, 0x39, 0x33, 0x2c, 0x20, 0x33, 0x2e, 0x31, 
+  0x30, 0x2e, 0x37, 0x2e, 0x34, 0x29, 0x74, 0x65, 0x78, 0x74, 0x20, 0x62, 
+  0x65, 0x79, 0x6f, 0x6e, 0x64, 0x20, 0x74, 0x68, 0x65, 0x20, 0x77, 0x69, 
+  0x6e, 0x64, 0x6f, 0x77, 0x2c, 0x20, 0x61, 0x74, 0x20, 0x20, 0x28, 0x52, 
+  0x46, 0x43, 0x20, 0x39, 0x32, 0x39, 0x33, 0x2c, 0x20, 0x33, 0x2e, 0x38, 
+  0x2e, 0x36, 0x29, 0x61, 0x20, 0x72, 0x65, 0x73, 0x65, 0x74, 0x20, 0x61, 
+  0x74, 0x20, 0x2c, 0x20, 0x77, 0x68, 0x69, 0x63, 0x68, 0x20, 0x77, 0x61, 
+  0x73, 0x20, 0x6e, 0x65, 0x69, 0x74, 0x68, 0x65, 0x72, 0x20, 0x73, 0x65, 
+  0x6e, 0x74, 0x20, 0x6e, 0x6f, 0x72, 0x20, 0x61, 0x63, 0x6b, 0x6e, 0x6f, 
+  0x77, 0x6c, 0x65, 0x64, 0x67, 0x65, 0x64, 0x20, 0x28, 0x52, 0x46, 0x43, 
+  0x20, 0x39, 0x32, 0x39, 0x33, 0x2c, 0x20, 0x33, 0x2e, 0x35, 0x2e, 0x32, 
+  0x29, 0x61, 0x6e, 0x20, 0x61, 0x63, 0x6b, 0x6e, 0x6f, 0x77, 0x6c, 0x65, 
+  0x64, 0x67, 0x65, 0x6d, 0x65, 0x6e, 0x74, 0x20, 0x6f, 0x66, 0x20, 0x2c, 
+  0x20, 0x75, 0x70, 0x20, 0x74, 0x6f, 0x20, 0x77, 0x68, 0x69, 0x63, 0x68, 
+  0x20, 0x6e, 0x6f, 0x74, 0x20, 0x61, 0x6c, 0x6c, 0x20, 0x63, 0x61, 0x6d, 
+  0x65, 0x20, 0x28, 0x52, 0x46, 0x43, 0x20, 0x39, 0x32, 0x39, 0x33, 0x2c, 
+  0x20, 0x33, 0x2e, 0x34, 0x29, 0x2c, 0x20, 0x61, 0x6e, 0x64, 0x20, 0x6f, 
+  0x6e, 0x65, 0x20, 0x6f, 0x66, 0x20, 0x20, 0x62, 0x65, 0x66, 0x6f, 0x72, 
+  0x65, 0x20, 0x69, 0x74, 0x20, 0x28, 0x52, 0x46, 0x43, 0x20, 0x39, 0x32, 
+  0x39, 0x33, 0x2c, 0x20, 0x33, 0x2e, 0x31, 0x30, 0x2e, 0x37, 0x2e, 0x34, 
+  0x29, 0x61, 0x20, 0x62, 0x6c, 0x6f, 0x63, 0x6b, 0x20, 0x66, 0x72, 0x6f, 
+  0x6d, 0x20, 0x20, 0x74, 0x6f, 0x20, 0x2c, 0x20, 0x6f, 0x66, 0x20, 0x77, 
+  0x68, 0x69, 0x63, 0x68, 0x20, 0x6e, 0x6f, 0x74, 0x20, 0x61, 0x6c, 0x6c, 
+  0x20, 0x63, 0x61, 0x6d, 0x65, 0x20, 0x28, 0x52, 0x46, 0x43, 0x20, 0x32, 
+  0x30, 0x31, 0x38, 0x2c, 0x20, 0x33, 0x29, 0x6e, 0x6f, 0x74, 0x65, 0x3a, 
+  0x20, 0x77, 0x72, 0x6f, 0x6e, 0x67, 0x20, 0x63, 0x68, 0x65, 0x63, 0x6b, 
+  0x73, 0x75, 0x6d, 0x73, 0x3a, 0x20, 0x2c, 0x20, 0x74, 0x68, 0x65, 0x20, 
+  0x66, 0x69, 0x72, 0x73, 0x74, 0x20, 0x69, 0x6e, 0x20, 0x6c, 0x69, 0x6e, 
+  0x65, 0x20, 0x20, 0x28, 0x52, 0x46, 0x43, 0x20, 0x39, 0x32, 0x39, 0x33, 
+  0x2c, 0x20, 0x33, 0x2e, 0x31, 0x29, 0x0a, 0x6e, 0x6f, 0x74, 0x65, 0x3a, 
+  0x20, 0x6f, 0x72, 0x64, 0x65, 0x72, 0x2c, 0x20, 0x61, 0x63, 0x6b, 0x6e, 
+  0x6f, 0x77, 0x6c, 0x65, 0x64, 0x67, 0x65, 0x6d, 0x65, 0x6e, 0x74, 0x73, 
+  0x20, 0x61, 0x6e, 0x64, 0x20, 0x62, 0x6c, 0x6f, 0x63, 0x6b, 0x73, 0x20, 
+  0x61, 0x72, 0x65, 0x6e, 0x27, 0x74, 0x20, 0x6a, 0x75, 0x64, 0x67, 0x65, 
+  0x64, 0x2c, 0x20, 0x61, 0x73, 0x20, 0x73, 0x65, 0x67, 0x6d, 0x65, 0x6e, 
+  0x74, 0x73, 0x20, 0x6d, 0x61, 0x79, 0x20, 0x62, 0x65, 0x20, 0x6d, 0x69, 
+  0x73, 0x73, 0x69, 0x6e, 0x67, 0x0a, 0x73, 0x65, 0x67, 0x6d, 0x65, 0x6e, 
+  0x74, 0x73, 0x20, 0x20, 0x66, 0x69, 0x6e, 0x64, 0x69, 0x6e, 0x67, 0x73, 
+  0x20, 0x20, 0x20, 0x61, 0x63, 0x6b, 0x20, 0x20, 0x73, 0x65, 0x71, 0x20, 
+  0x20, 0x3e, 0x20, 0x30, 0x30, 0x30, 0x31, 0x30, 0x32, 0x30, 0x33, 0x30, 
+  0x34, 0x30, 0x35, 0x30, 0x36, 0x30, 0x37, 0x30, 0x38, 0x30, 0x39, 0x31, 
+  0x30, 0x31, 0x31, 0x31, 0x32, 0x31, 0x33, 0x31, 0x34, 0x31, 0x35, 0x31, 
+  0x36, 0x31, 0x37, 0x31, 0x38, 0x31, 0x39, 0x32, 0x30, 0x32, 0x31, 0x32, 
+  0x32, 0x32, 0x33, 0x32, 0x34, 0x32, 0x35, 0x32, 0x36, 0x32, 0x37, 0x32, 
+  0x38, 0x32, 0x39, 0x33, 0x30, 0x33, 0x31, 0x33, 0x32, 0x33, 0x33, 0x33, 
+  0x34, 0x33, 0x35, 0x33, 0x36, 0x33, 0x37, 0x33, 0x38, 0x33, 0x39, 0x34, 
+  0x30, 0x34, 0x31, 0x34, 0x32, 0x34, 0x33, 0x34, 0x34, 0x34, 0x35, 0x34, 
+  0x36, 0x34, 0x37, 0x34, 0x38, 0x34, 0x39, 0x35, 0x30, 0x35, 0x31, 0x35, 
+  0x32, 0x35, 0x33, 0x35, 0x34, 0x35, 0x35, 0x35, 0x36, 0x35, 0x37, 0x35, 
+  0x38, 0x35, 0x39, 0x36, 0x30, 0x36, 0x31, 0x36, 0x32, 0x36, 0x33, 0x36, 
+  0x34, 0x36, 0x35, 0x36, 0x36, 0x36, 0x37, 0x36, 0x38, 0x36, 0x39, 0x37, 
+  0x30, 0x37, 0x31, 0x37, 0x32, 0x37, 0x33, 0x37, 0x34, 0x37, 0x35, 0x37, 
+  0x36, 0x37, 0x37, 0x37, 0x38, 0x37, 0x39, 0x38, 0x30, 0x38, 0x31, 0x38, 
+  0x32, 0x38, 0x33, 0x38, 0x34, 0x38, 0x35, 0x38, 0x36, 0x38, 0x37, 0x38, 
+  0x38, 0x38, 0x39, 0x39, 0x30, 0x39, 0x31, 0x39, 0x32, 0x39, 0x33, 0x39, 
+  0x34, 0x39, 0x35, 0x39, 0x36, 0x39, 0x37, 0x39, 0x38, 0x39, 0x39, 0x20, 
+  0x66, 0x6c, 0x61, 0x67, 0x73, 0x20, 0x20, 0x72, 0x65, 0x73, 0x65, 0x72, 
+  0x76, 0x65, 0x64, 0x20, 0x41, 0x43, 0x4b, 0x41, 0x43, 0x4b, 0x2c, 0x50, 
+  0x53, 0x48, 0x53, 0x59, 0x4e, 0x41, 0x43, 0x4b, 0x2c, 0x53, 0x59, 0x4e, 
+  0x41, 0x43, 0x4b, 0x2c, 0x46, 0x49, 0x4e, 0x41, 0x43, 0x4b, 0x2c, 0x52, 
+  0x53, 0x54, 0x43, 0x57, 0x52, 0x45, 0x43, 0x45, 0x55, 0x52, 0x47, 0x50, 
+  0x53, 0x48, 0x52, 0x53, 0x54, 0x46, 0x49, 0x4e, 0x2c, 0x20, 0x77, 0x69, 
+  0x6e, 0x64, 0x6f, 0x77, 0x20, 0x20, 0x6f, 0x70, 0x74, 0x69, 0x6f, 0x6e, 
+  0x73, 0x20, 0x6e, 0x6f, 0x70, 0x6d, 0x73, 0x73, 0x3a, 0x77, 0x73, 0x3a, 
+  0x73, 0x61, 0x63, 0x6b, 0x6f, 0x6b, 0x73, 0x61, 0x63, 0x6b, 0x3a, 0x3a, 
+  0x30, 0x31, 0x32, 0x33, 0x34, 0x35, 0x36, 0x37, 0x38, 0x39, 0x61, 0x62, 
+  0x63, 0x64, 0x65, 0x66, 0x20, 0x74, 0x65, 0x78, 0x74, 0x20, 0x20, 0x70, 
+  0x61, 0x64, 0x20, 0x6d, 0x61, 0x6c, 0x66, 0x6f, 0x72, 0x6d, 0x65, 0x64, 
+  0x20, 0x54, 0x6f, 0x6f, 0x53, 0x68, 0x6f, 0x72, 0x74, 0x54, 0x6f, 0x6f, 
+  0x4c, 0x6f, 0x6e, 0x67, 0x42, 0x61, 0x64, 0x43, 0x68, 0x65, 0x63, 0x6b, 
+  0x73, 0x75, 0x6d, 0x42, 0x61, 0x64, 0x4f, 0x66, 0x66, 0x73, 0x65, 0x74, 
+  0x42, 0x61, 0x64, 0x4f, 0x70, 0x74, 0x69, 0x6f, 0x6e, 0x20, 0x61, 0x74, 
+  0x20, 0x42, 0x61, 0x64, 0x50, 0x61, 0x64, 0x64, 0x69, 0x6e, 0x67, 0x20, 
+  0x61, 0x74, 0x20, 0x74, 0x6f, 0x74, 0x61, 0x6c, 0x20, 0x20, 0x6d, 0x61, 
+  0x6c, 0x66, 0x6f, 0x72, 0x6d, 0x65, 0x64, 0x20, 0x74, 0x63, 0x70, 0x6b, 
+  0x69, 0x74, 0x20, 0x33, 0x74, 0x63, 0x70, 0x6b, 0x69, 0x74, 0x20, 0x32, 
+  0x63, 0x6f, 0x6e, 0x66, 0x69, 0x67, 0x72, 0x65, 0x70, 0x65, 0x61, 0x74, 
+  0x6c, 0x69, 0x66, 0x65, 0x6c, 0x69, 0x6d, 0x69, 0x74, 0x41, 0x42, 0x72, 
+  0x75, 0x6e, 0x73, 0x63, 0x6f, 0x6e, 0x6e, 0x65, 0x63, 0x74, 0x6c, 0x69, 
+  0x73, 0x74, 0x65, 0x6e, 0x73, 0x65, 0x6e, 0x64, 0x72, 0x65, 0x63, 0x65, 
+  0x69, 0x76, 0x65, 0x63, 0x6c, 0x6f, 0x73, 0x65, 0x61, 0x62, 0x6f, 0x72, 
+  0x74, 0x61, 0x63, 0x6b, 0x6e, 0x6f, 0x77, 0x6c, 0x65, 0x64, 0x67, 0x65, 
+  0x74, 0x69, 0x6d, 0x65, 0x72, 0x65, 0x6d, 0x69, 0x74, 0x65, 0x6d, 0x69, 
+  0x74, 0x2d, 0x61, 0x63, 0x6b, 0x6e, 0x6f, 0x77, 0x6c, 0x65, 0x64, 0x67, 
+  0x65, 0x6d, 0x65, 0x6e, 0x74, 0x72, 0x65, 0x73, 0x65, 0x6e, 0x64, 0x2d, 
+  0x66, 0x69, 0x72, 0x73, 0x74, 0x64, 0x65, 0x6c, 0x69, 0x76, 0x65, 0x72, 
+  0x64, 0x61, 0x6d, 0x61, 0x67, 0x65, 0x72, 0x65, 0x74, 0x72, 0x61, 0x6e, 
+  0x73, 0x6d, 0x69, 0x74, 0x72, 0x65, 0x6f, 0x72, 0x64, 0x65, 0x72, 0x74, 
+  0x69, 0x6d, 0x65, 0x77, 0x61, 0x69, 0x74, 0x72, 0x65, 0x63, 0x76, 0x73, 
+  0x68, 0x69, 0x66, 0x74, 0x73, 0x61, 0x63, 0x6b, 0x6e, 0x6f, 0x6e, 0x65, 
+  0x6f, 0x6b, 0x20, 0x74, 0x6f, 0x6f, 0x6b, 0x20, 0x62, 0x79, 0x74, 0x65, 
+  0x73, 0x20, 0x6e, 0x6f, 0x74, 0x68, 0x69, 0x6e, 0x67, 0x65, 0x6e, 0x64, 
+  0x79, 0x65, 0x73, 0x6e, 0x6f, 0x66, 0x6c, 0x61, 0x67, 0x73, 0x20, 0x20, 
+  0x73, 0x61, 0x63, 0x6b, 0x20, 0x6e, 0x6f, 0x74, 0x2d, 0x6d, 0x69, 0x6e, 
+  0x65, 0x64, 0x72, 0x6f, 0x70, 0x70, 0x65, 0x64, 0x70, 0x72, 0x6f, 0x63, 
+  0x65, 0x73, 0x73, 0x65, 0x64, 0x43, 0x4c, 0x4f, 0x53, 0x45, 0x44, 0x4c, 
+  0x49, 0x53, 0x54, 0x45, 0x4e, 0x53, 0x59, 0x4e, 0x2d, 0x53, 0x45, 0x4e, 
+  0x54, 0x53, 0x59, 0x4e, 0x2d, 0x52, 0x45, 0x43, 0x45, 0x49, 0x56, 0x45, 
+  0x44, 0x45, 0x53, 0x54, 0x41, 0x42, 0x4c, 0x49, 0x53, 0x48, 0x45, 0x44, 
+  0x46, 0x49, 0x4e, 0x2d, 0x57, 0x41, 0x49, 0x54, 0x2d, 0x31, 0x46, 0x49, 
+  0x4e, 0x2d, 0x57, 0x41, 0x49, 0x54, 0x2d, 0x32, 0x43, 0x4c, 0x4f, 0x53, 
+  0x45, 0x2d, 0x57, 0x41, 0x49, 0x54, 0x43, 0x4c, 0x4f, 0x53, 0x49, 0x4e, 
+  0x47, 0x4c, 0x41, 0x53, 0x54, 0x2d, 0x41, 0x43, 0x4b, 0x54, 0x49, 0x4d, 
+  0x45, 0x2d, 0x57, 0x41, 0x49, 0x54, 0x72, 0x65, 0x66, 0x75, 0x73, 0x65, 
+  0x64, 0x20, 0x20, 0x72, 0x65, 0x70, 0x65, 0x61, 0x74, 0x20, 0x20, 0x72, 
+  0x65, 0x66, 0x75, 0x73, 0x65, 0x64, 0x20, 0x64, 0x6f, 0x6e, 0x65, 0x20, 
+  0x6e, 0x75, 0x6d, 0x62, 0x65, 0x72, 0x73, 0x20, 0x20, 0x75, 0x6e, 0x61, 
+  0x20, 0x2d, 0x20, 0x6e, 0x78, 0x74, 0x20, 0x2d, 0x20, 0x65, 0x64, 0x67, 
+  0x65, 0x20, 0x2d, 0x20, 0x75, 0x6e, 0x61, 0x20, 0x20, 0x6e, 0x78, 0x74, 
+  0x20, 0x20, 0x65, 0x64, 0x67, 0x65, 0x20, 0x20, 0x6e, 0x65, 0x78, 0x74, 
+  0x20, 0x2d, 0x20, 0x6c, 0x69, 0x6d, 0x69, 0x74, 0x20, 0x2d, 0x20, 0x6e, 
+  0x65, 0x78, 0x74, 0x20, 0x20, 0x6c, 0x69, 0x6d, 0x69, 0x74, 0x20, 0x20, 
+  0x72, 0x65, 0x74, 0x72, 0x61, 0x6e, 0x73, 0x6d, 0x69, 0x74, 0x20, 0x20, 
+  0x72, 0x65, 0x6f, 0x72, 0x64, 0x65, 0x72, 0x20, 0x20, 0x74, 0x69, 0x6d, 
+  0x65, 0x77, 0x61, 0x69, 0x74, 0x20, 0x74, 0x63, 0x70, 0x6b, 0x69, 0x74, 
+  0x3a, 0x20, 0x34, 0x31, 0x20, 0x6c, 0x69, 0x6e, 0x65, 0x20, 0x74, 0x63, 
+  0x70, 0x6b, 0x69, 0x74, 0x3a, 0x20, 0x63, 0x6f, 0x6e, 0x66, 0x69, 0x67, 
+  0x20, 0x65, 0x6e, 0x64, 0x20, 0x6e, 0x6f, 0x74, 0x2d, 0x65, 0x6e, 0x64, 
+  0x65, 0x64, 0x6f, 0x72, 0x64, 0x65, 0x72, 0x6c, 0x79, 0x72, 0x65, 0x73, 
+  0x65, 0x74, 0x61, 0x62, 0x6f, 0x72, 0x74, 0x65, 0x64, 0x20, 0x61, 0x63, 
+  0x63, 0x65, 0x70, 0x74, 0x65, 0x64, 0x20, 0x20, 0x64, 0x65, 0x6c, 0x69, 
+  0x76, 0x65, 0x72, 0x65, 0x64, 0x20, 0x20, 0x72, 0x65, 0x6c, 0x65, 0x61, 
+  0x73, 0x65, 0x64, 0x20, 0x20, 0x6f, 0x72, 0x64, 0x65, 0x72, 0x65, 0x64, 
+  0x20, 0x20, 0x73, 0x65, 0x6e, 0x74, 0x20, 0x20, 0x65, 0x6e, 0x64, 0x65, 
+  0x64, 0x20, 0x66, 0x6f, 0x72, 0x65, 0x69, 0x67, 0x6e, 0x20, 0x33, 0x2e, 
+  0x31, 0x30, 0x2e, 0x37, 0x72, 0x65, 0x73, 0x65, 0x74, 0x2d, 0x69, 0x67, 
+  0x6e, 0x6f, 0x72, 0x65, 0x64, 0x20, 0x33, 0x2e, 0x31, 0x30, 0x2e, 0x37, 
+  0x2e, 0x31, 0x20, 0x74, 0x6f, 0x20, 0x33, 0x2e, 0x31, 0x30, 0x2e, 0x37, 
+  0x2e, 0x34, 0x73, 0x74, 0x72, 0x61, 0x79, 0x20, 0x33, 0x2e, 0x31, 0x30, 
+  0x2e, 0x37, 0x2e, 0x31, 0x61, 0x63, 0x6b, 0x2d, 0x6f, 0x66, 0x2d, 0x6c, 
+  0x69, 0x73, 0x74, 0x65, 0x6e, 0x20, 0x33, 0x2e, 0x31, 0x30, 0x2e, 0x37, 
+  0x2e, 0x32, 0x2c, 0x20, 0x73, 0x65, 0x63, 0x6f, 0x6e, 0x64, 0x6f, 0x70, 
+  0x65, 0x6e, 0x73, 0x2d, 0x6e, 0x6f, 0x74, 0x68, 0x69, 0x6e, 0x67, 0x20, 
+  0x33, 0x2e, 0x31, 0x30, 0x2e, 0x37, 0x2e, 0x32, 0x2c, 0x20, 0x66, 0x6f, 
+  0x75, 0x72, 0x74, 0x68, 0x2c, 0x20, 0x6f, 0x72, 0x20, 0x33, 0x2e, 0x31, 
+  0x30, 0x2e, 0x37, 0x2e, 0x33, 0x2c, 0x20, 0x66, 0x69, 0x66, 0x74, 0x68, 
+  0x70, 0x65, 0x65, 0x72, 0x2d, 0x6f, 0x70, 0x65, 0x6e, 0x73, 0x20, 0x33, 
+  0x2e, 0x31, 0x30, 0x2e, 0x37, 0x2e, 0x32, 0x2c, 0x20, 0x74, 0x68, 0x69, 
+  0x72, 0x64, 0x61, 0x63, 0x6b, 0x2d, 0x6f, 0x66, 0x2d, 0x6e, 0x6f, 0x2d, 
+  0x73, 0x79, 0x6e, 0x20, 0x33, 0x2e, 0x31, 0x30, 0x2e, 0x37, 0x2e, 0x33, 
   0x2c, 0x20, 0x66, 0x69, 0x72, 0x73, 0x74, 0x70, 0x65, 0x65, 0x72, 0x2d, 
-  0x72, 0x65, 0x73, 0x65, 0x74, 0x73, 0x20, 0x33, 0x2e, 0x31, 0x30, 0x2e, 
-  0x37, 0x2e, 0x34, 0x2c, 0x20, 0x73, 0x65, 0x63, 0x6f, 0x6e, 0x64, 0x72, 
-  0x65, 0x73, 0x65, 0x74, 0x2d, 0x65, 0x6c, 0x73, 0x65, 0x77, 0x68, 0x65, 
-  0x72, 0x65, 0x20, 0x33, 0x2e, 0x31, 0x30, 0x2e, 0x37, 0x2e, 0x34, 0x2c, 
-  0x20, 0x73, 0x65, 0x63, 0x6f, 0x6e, 0x64, 0x73, 0x79, 0x6e, 0x2d, 0x69, 
-  0x6e, 0x2d, 0x77, 0x69, 0x6e, 0x64, 0x6f, 0x77, 0x20, 0x33, 0x2e, 0x31, 
-  0x30, 0x2e, 0x37, 0x2e, 0x34, 0x2c, 0x20, 0x66, 0x6f, 0x75, 0x72, 0x74, 
-  0x68, 0x6e, 0x6f, 0x2d, 0x61, 0x63, 0x6b, 0x20, 0x33, 0x2e, 0x31, 0x30, 
-  0x2e, 0x37, 0x2e, 0x34, 0x2c, 0x20, 0x66, 0x69, 0x66, 0x74, 0x68, 0x61, 
-  0x63, 0x6b, 0x73, 0x2d, 0x75, 0x6e, 0x73, 0x65, 0x6e, 0x74, 0x20, 0x33, 
-  0x2e, 0x31, 0x30, 0x2e, 0x37, 0x2e, 0x34, 0x2c, 0x20, 0x66, 0x69, 0x66, 
-  0x74, 0x68, 0x68, 0x61, 0x6e, 0x64, 0x73, 0x68, 0x61, 0x6b, 0x65, 0x2d, 
-  0x72, 0x65, 0x66, 0x75, 0x73, 0x65, 0x64, 0x20, 0x33, 0x2e, 0x31, 0x30, 
-  0x2e, 0x37, 0x2e, 0x34, 0x2c, 0x20, 0x66, 0x69, 0x66, 0x74, 0x68, 0x68, 
-  0x61, 0x6e, 0x64, 0x73, 0x68, 0x61, 0x6b, 0x65, 0x2d, 0x72, 0x65, 0x66, 
-  0x75, 0x73, 0x65, 0x64, 0x2d, 0x73, 0x68, 0x75, 0x74, 0x20, 0x33, 0x2e, 
+  0x72, 0x65, 0x66, 0x75, 0x73, 0x65, 0x73, 0x20, 0x33, 0x2e, 0x31, 0x30, 
+  0x2e, 0x37, 0x2e, 0x33, 0x2c, 0x20, 0x73, 0x65, 0x63, 0x6f, 0x6e, 0x64, 
+  0x70, 0x65, 0x65, 0x72, 0x2d, 0x61, 0x63, 0x63, 0x65, 0x70, 0x74, 0x73, 
+  0x20, 0x33, 0x2e, 0x31, 0x30, 0x2e, 0x37, 0x2e, 0x33, 0x2c, 0x20, 0x66, 
+  0x6f, 0x75, 0x72, 0x74, 0x68, 0x75, 0x6e, 0x61, 0x63, 0x63, 0x65, 0x70, 
+  0x74, 0x61, 0x62, 0x6c, 0x65, 0x20, 0x33, 0x2e, 0x31, 0x30, 0x2e, 0x37, 
+  0x2e, 0x34, 0x2c, 0x20, 0x66, 0x69, 0x72, 0x73, 0x74, 0x70, 0x65, 0x65, 
+  0x72, 0x2d, 0x72, 0x65, 0x73, 0x65, 0x74, 0x73, 0x20, 0x33, 0x2e, 0x31, 
+  0x30, 0x2e, 0x37, 0x2e, 0x34, 0x2c, 0x20, 0x73, 0x65, 0x63, 0x6f, 0x6e, 
+  0x64, 0x72, 0x65, 0x73, 0x65, 0x74, 0x2d, 0x65, 0x6c, 0x73, 0x65, 0x77, 
+  0x68, 0x65, 0x72, 0x65, 0x20, 0x33, 0x2e, 0x31, 0x30, 0x2e, 0x37, 0x2e, 
+  0x34, 0x2c, 0x20, 0x73, 0x65, 0x63, 0x6f, 0x6e, 0x64, 0x73, 0x79, 0x6e, 
+  0x2d, 0x69, 0x6e, 0x2d, 0x77, 0x69, 0x6e, 0x64, 0x6f, 0x77, 0x20, 0x33, 
+  0x2e, 0x31, 0x30, 0x2e, 0x37, 0x2e, 0x34, 0x2c, 0x20, 0x66, 0x6f, 0x75, 
+  0x72, 0x74, 0x68, 0x6e, 0x6f, 0x2d, 0x61, 0x63, 0x6b, 0x20, 0x33, 0x2e, 
   0x31, 0x30, 0x2e, 0x37, 0x2e, 0x34, 0x2c, 0x20, 0x66, 0x69, 0x66, 0x74, 
-  0x68, 0x74, 0x61, 0x6b, 0x65, 0x6e, 0x20, 0x33, 0x2e, 0x31, 0x30, 0x2e, 
-  0x37, 0x2e, 0x34, 0x2c, 0x20, 0x66, 0x69, 0x66, 0x74, 0x68, 0x20, 0x74, 
-  0x6f, 0x20, 0x65, 0x69, 0x67, 0x68, 0x74, 0x68, 0x74, 0x61, 0x6b, 0x65, 
-  0x6e, 0x2d, 0x73, 0x68, 0x75, 0x74, 0x20, 0x33, 0x2e, 0x31, 0x30, 0x2e, 
-  0x37, 0x2e, 0x34, 0x2c, 0x20, 0x66, 0x69, 0x72, 0x73, 0x74, 0x2e, 0x73, 
-  0x74, 0x61, 0x74, 0x65, 0x20, 0x20, 0x71, 0x75, 0x65, 0x75, 0x65, 0x64, 
-  0x20, 0x20, 0x66, 0x6c, 0x69, 0x67, 0x68, 0x74, 0x20, 0x20, 0x75, 0x6e, 
-  0x6d, 0x61, 0x72, 0x6b, 0x65, 0x64, 0x20, 0x20, 0x75, 0x6e, 0x72, 0x65, 
-  0x61, 0x64, 0x20, 0x20, 0x68, 0x65, 0x6c, 0x64, 0x20, 0x20, 0x70, 0x65, 
-  0x65, 0x72, 0x20, 0x00, 0x00, 0x00, 0x00, 0x00, 0x00, 0x00, 0x00, 0x00, 
+  0x68, 0x61, 0x63, 0x6b, 0x73, 0x2d, 0x75, 0x6e, 0x73, 0x65, 0x6e, 0x74, 
+  0x20, 0x33, 0x2e, 0x31, 0x30, 0x2e, 0x37, 0x2e, 0x34, 0x2c, 0x20, 0x66, 
+  0x69, 0x66, 0x74, 0x68, 0x68, 0x61, 0x6e, 0x64, 0x73, 0x68, 0x61, 0x6b, 
+  0x65, 0x2d, 0x72, 0x65, 0x66, 0x75, 0x73, 0x65, 0x64, 0x20, 0x33, 0x2e, 
+  0x31, 0x30, 0x2e, 0x37, 0x2e, 0x34, 0x2c, 0x20, 0x66, 0x69, 0x66, 0x74, 
+  0x68, 0x68, 0x61, 0x6e, 0x64, 0x73, 0x68, 0x61, 0x6b, 0x65, 0x2d, 0x72, 
+  0x65, 0x66, 0x75, 0x73, 0x65, 0x64, 0x2d, 0x73, 0x68, 0x75, 0x74, 0x20, 
+  0x33, 0x2e, 0x31, 0x30, 0x2e, 0x37, 0x2e, 0x34, 0x2c, 0x20, 0x66, 0x69, 
+  0x66, 0x74, 0x68, 0x74, 0x61, 0x6b, 0x65, 0x6e, 0x20, 0x33, 0x2e, 0x31, 
+  0x30, 0x2e, 0x37, 0x2e, 0x34, 0x2c, 0x20, 0x66, 0x69, 0x66, 0x74, 0x68, 
+  0x20, 0x74, 0x6f, 0x20, 0x65, 0x69, 0x67, 0x68, 0x74, 0x68, 0x74, 0x61, 
+  0x6b, 0x65, 0x6e, 0x2d, 0x73, 0x68, 0x75, 0x74, 0x20, 0x33, 0x2e, 0x31, 
+  0x30, 0x2e, 0x37, 0x2e, 0x34, 0x2c, 0x20, 0x66, 0x69, 0x72, 0x73, 0x74, 
+  0x2e, 0x73, 0x74, 0x61, 0x74, 0x65, 0x20, 0x20, 0x71, 0x75, 0x65, 0x75, 
+  0x65, 0x64, 0x20, 0x20, 0x66, 0x6c, 0x69, 0x67, 0x68, 0x74, 0x20, 0x20, 
+  0x75, 0x6e, 0x6d, 0x61, 0x72, 0x6b, 0x65, 0x64, 0x20, 0x20, 0x75, 0x6e, 
+  0x72, 0x65, 0x61, 0x64, 0x20, 0x20, 0x68, 0x65, 0x6c, 0x64, 0x20, 0x20, 
+  0x70, 0x65, 0x65, 0x72, 0x20, 0x70, 0x61, 0x63, 0x6b, 0x65, 0x74, 0x73, 
+  0x20, 0x2c, 0x20, 0x63, 0x6f, 0x6e, 0x6e, 0x65, 0x63, 0x74, 0x69, 0x6f, 
+  0x6e, 0x73, 0x20, 0x74, 0x68, 0x65, 0x20, 0x63, 0x61, 0x70, 0x74, 0x75, 
+  0x72, 0x65, 0x20, 0x65, 0x6e, 0x64, 0x73, 0x20, 0x69, 0x6e, 0x20, 0x61, 
+  0x20, 0x72, 0x65, 0x63, 0x6f, 0x72, 0x64, 0x20, 0x74, 0x68, 0x61, 0x74, 
+  0x20, 0x69, 0x73, 0x20, 0x63, 0x75, 0x74, 0x20, 0x73, 0x68, 0x6f, 0x72, 
+  0x74, 0x20, 0x6f, 0x72, 0x20, 0x64, 0x61, 0x6d, 0x61, 0x67, 0x65, 0x64, 
+  0x2c, 0x20, 0x62, 0x65, 0x68, 0x69, 0x6e, 0x64, 0x20, 0x70, 0x61, 0x63, 
+  0x6b, 0x65, 0x74, 0x20, 0x70, 0x61, 0x63, 0x6b, 0x65, 0x74, 0x73, 0x20, 
+  0x61, 0x72, 0x65, 0x20, 0x6d, 0x69, 0x73, 0x73, 0x69, 0x6e, 0x67, 0x3a, 
+  0x20, 0x64, 0x72, 0x6f, 0x70, 0x70, 0x65, 0x64, 0x20, 0x77, 0x68, 0x65, 
+  0x6e, 0x20, 0x74, 0x68, 0x65, 0x20, 0x63, 0x61, 0x70, 0x74, 0x75, 0x72, 
+  0x65, 0x20, 0x77, 0x61, 0x73, 0x20, 0x74, 0x61, 0x6b, 0x65, 0x6e, 0x2c, 
+  0x20, 0x6f, 0x72, 0x20, 0x69, 0x6e, 0x20, 0x6f, 0x62, 0x73, 0x6f, 0x6c, 
+  0x65, 0x74, 0x65, 0x20, 0x70, 0x61, 0x63, 0x6b, 0x65, 0x74, 0x20, 0x62, 
+  0x6c, 0x6f, 0x63, 0x6b, 0x73, 0x2c, 0x20, 0x77, 0x68, 0x69, 0x63, 0x68, 
+  0x20, 0x61, 0x72, 0x65, 0x6e, 0x27, 0x74, 0x20, 0x72, 0x65, 0x61, 0x64, 
+  0x0a, 0x6e, 0x6f, 0x20, 0x73, 0x65, 0x67, 0x6d, 0x65, 0x6e, 0x74, 0x20, 
+  0x6f, 0x66, 0x20, 0x54, 0x43, 0x50, 0x20, 0x6f, 0x76, 0x65, 0x72, 0x20, 
+  0x49, 0x50, 0x76, 0x34, 0x20, 0x6f, 0x72, 0x20, 0x49, 0x50, 0x76, 0x36, 
+  0x20, 0x28, 0x6c, 0x69, 0x6e, 0x6b, 0x20, 0x74, 0x79, 0x70, 0x65, 0x20, 
+  0x29, 0x6c, 0x65, 0x66, 0x74, 0x20, 0x6f, 0x75, 0x74, 0x3a, 0x20, 0x70, 
+  0x61, 0x63, 0x6b, 0x65, 0x74, 0x73, 0x20, 0x77, 0x69, 0x74, 0x68, 0x6f, 
+  0x75, 0x74, 0x20, 0x54, 0x43, 0x50, 0x3a, 0x20, 0x6c, 0x65, 0x66, 0x74, 
+  0x20, 0x6f, 0x75, 0x74, 0x3a, 0x20, 0x66, 0x72, 0x61, 0x67, 0x6d, 0x65, 
+  0x6e, 0x74, 0x73, 0x3a, 0x20, 0x6c, 0x65, 0x66, 0x74, 0x20, 0x6f, 0x75, 
+  0x74, 0x3a, 0x20, 0x73, 0x65, 0x67, 0x6d, 0x65, 0x6e, 0x74, 0x73, 0x20, 
+  0x74, 0x68, 0x61, 0x74, 0x20, 0x61, 0x72, 0x65, 0x20, 0x63, 0x75, 0x74, 
+  0x20, 0x73, 0x68, 0x6f, 0x72, 0x74, 0x3a, 0x20, 0x6c, 0x65, 0x66, 0x74, 
+  0x20, 0x6f, 0x75, 0x74, 0x3a, 0x20, 0x73, 0x65, 0x67, 0x6d, 0x65, 0x6e, 
+  0x74, 0x73, 0x20, 0x6f, 0x66, 0x20, 0x6e, 0x6f, 0x20, 0x63, 0x6f, 0x6e, 
+  0x6e, 0x65, 0x63, 0x74, 0x69, 0x6f, 0x6e, 0x20, 0x77, 0x69, 0x74, 0x68, 
+  0x20, 0x61, 0x20, 0x77, 0x72, 0x6f, 0x6e, 0x67, 0x20, 0x63, 0x68, 0x65, 
+  0x63, 0x6b, 0x73, 0x75, 0x6d, 0x3a, 0x20, 0x2d, 0x2d, 0x61, 0x74, 0x20, 
+  0x41, 0x44, 0x44, 0x52, 0x45, 0x53, 0x53, 0x20, 0x6e, 0x61, 0x6d, 0x65, 
+  0x73, 0x20, 0x74, 0x68, 0x65, 0x20, 0x65, 0x6e, 0x64, 0x20, 0x77, 0x68, 
+  0x65, 0x72, 0x65, 0x20, 0x74, 0x68, 0x65, 0x20, 0x63, 0x61, 0x70, 0x74, 
+  0x75, 0x72, 0x65, 0x20, 0x77, 0x61, 0x73, 0x20, 0x74, 0x61, 0x6b, 0x65, 
+  0x6e, 0x74, 0x68, 0x65, 0x20, 0x63, 0x61, 0x70, 0x74, 0x75, 0x72, 0x65, 
+  0x27, 0x73, 0x20, 0x6c, 0x61, 0x73, 0x74, 0x20, 0x72, 0x65, 0x63, 0x6f, 
+  0x72, 0x64, 0x20, 0x69, 0x73, 0x20, 0x63, 0x75, 0x74, 0x20, 0x73, 0x68, 
+  0x6f, 0x72, 0x74, 0x20, 0x6f, 0x72, 0x20, 0x64, 0x61, 0x6d, 0x61, 0x67, 
+  0x65, 0x64, 0x70, 0x61, 0x63, 0x6b, 0x65, 0x74, 0x73, 0x20, 0x77, 0x65, 
+  0x72, 0x65, 0x20, 0x64, 0x72, 0x6f, 0x70, 0x70, 0x65, 0x64, 0x20, 0x77, 
+  0x68, 0x65, 0x6e, 0x20, 0x74, 0x68, 0x65, 0x20, 0x63, 0x61, 0x70, 0x74, 
+  0x75, 0x72, 0x65, 0x20, 0x77, 0x61, 0x73, 0x20, 0x74, 0x61, 0x6b, 0x65, 
+  0x6e, 0x2c, 0x20, 0x6f, 0x72, 0x20, 0x61, 0x72, 0x65, 0x20, 0x69, 0x6e, 
+  0x20, 0x6f, 0x62, 0x73, 0x6f, 0x6c, 0x65, 0x74, 0x65, 0x20, 0x70, 0x61, 
+  0x63, 0x6b, 0x65, 0x74, 0x20, 0x62, 0x6c, 0x6f, 0x63, 0x6b, 0x73, 0x73, 
+  0x65, 0x67, 0x6d, 0x65, 0x6e, 0x74, 0x73, 0x20, 0x61, 0x72, 0x65, 0x6e, 
+  0x27, 0x74, 0x20, 0x69, 0x6e, 0x20, 0x74, 0x68, 0x65, 0x20, 0x6f, 0x72, 
+  0x64, 0x65, 0x72, 0x20, 0x6f, 0x66, 0x20, 0x74, 0x68, 0x65, 0x69, 0x72, 
+  0x20, 0x74, 0x69, 0x6d, 0x65, 0x73, 0x20, 0x20, 0x2c, 0x20, 0x70, 0x61, 
+  0x63, 0x6b, 0x65, 0x74, 0x73, 0x20, 0x2c, 0x20, 0x5b, 0x5d, 0x3a, 0x3a, 
+  0x3a, 0x66, 0x66, 0x66, 0x66, 0x3a, 0x3a, 0x3a, 0x20, 0x73, 0x66, 0x69, 
+  0x6e, 0x64, 0x69, 0x6e, 0x67, 0x7b, 0x22, 0x6b, 0x69, 0x6e, 0x64, 0x22, 
+  0x3a, 0x22, 0x22, 0x2c, 0x22, 0x63, 0x6f, 0x6e, 0x6e, 0x65, 0x63, 0x74, 
+  0x69, 0x6f, 0x6e, 0x22, 0x3a, 0x2c, 0x22, 0x65, 0x6e, 0x64, 0x22, 0x3a, 
+  0x22, 0x22, 0x2c, 0x22, 0x70, 0x65, 0x65, 0x72, 0x22, 0x3a, 0x22, 0x22, 
+  0x2c, 0x22, 0x70, 0x61, 0x63, 0x6b, 0x65, 0x74, 0x22, 0x3a, 0x2c, 0x22, 
+  0x74, 0x69, 0x6d, 0x65, 0x22, 0x3a, 0x2c, 0x22, 0x72, 0x75, 0x6c, 0x65, 
+  0x22, 0x3a, 0x22, 0x22, 0x2c, 0x22, 0x63, 0x6f, 0x75, 0x6e, 0x74, 0x22, 
+  0x3a, 0x2c, 0x22, 0x72, 0x65, 0x6c, 0x61, 0x74, 0x69, 0x76, 0x65, 0x22, 
+  0x3a, 0x2c, 0x22, 0x74, 0x65, 0x78, 0x74, 0x22, 0x3a, 0x22, 0x22, 0x7d, 
+  0x0a, 0x55, 0x6e, 0x72, 0x65, 0x61, 0x64, 0x61, 0x62, 0x6c, 0x65, 0x53, 
+  0x79, 0x6e, 0x4f, 0x70, 0x74, 0x69, 0x6f, 0x6e, 0x47, 0x72, 0x65, 0x61, 
+  0x74, 0x53, 0x68, 0x69, 0x66, 0x74, 0x4e, 0x6f, 0x41, 0x63, 0x6b, 0x4f, 
+  0x74, 0x68, 0x65, 0x72, 0x49, 0x6e, 0x69, 0x74, 0x69, 0x61, 0x6c, 0x42, 
+  0x65, 0x66, 0x6f, 0x72, 0x65, 0x46, 0x69, 0x72, 0x73, 0x74, 0x4f, 0x74, 
+  0x68, 0x65, 0x72, 0x42, 0x79, 0x74, 0x65, 0x42, 0x65, 0x79, 0x6f, 0x6e, 
+  0x64, 0x46, 0x69, 0x6e, 0x42, 0x65, 0x66, 0x6f, 0x72, 0x65, 0x41, 0x63, 
+  0x6b, 0x41, 0x66, 0x74, 0x65, 0x72, 0x52, 0x65, 0x73, 0x65, 0x74, 0x47, 
+  0x61, 0x70, 0x42, 0x65, 0x68, 0x69, 0x6e, 0x64, 0x4e, 0x65, 0x78, 0x74, 
+  0x42, 0x65, 0x79, 0x6f, 0x6e, 0x64, 0x57, 0x69, 0x6e, 0x64, 0x6f, 0x77, 
+  0x53, 0x74, 0x72, 0x61, 0x79, 0x52, 0x65, 0x73, 0x65, 0x74, 0x41, 0x63, 
+  0x6b, 0x42, 0x65, 0x79, 0x6f, 0x6e, 0x64, 0x41, 0x63, 0x6b, 0x42, 0x61, 
+  0x63, 0x6b, 0x55, 0x6e, 0x6f, 0x66, 0x66, 0x65, 0x72, 0x65, 0x64, 0x55, 
+  0x6e, 0x70, 0x65, 0x72, 0x6d, 0x69, 0x74, 0x74, 0x65, 0x64, 0x42, 0x6c, 
+  0x6f, 0x63, 0x6b, 0x42, 0x65, 0x79, 0x6f, 0x6e, 0x64, 0x6e, 0x6f, 0x74, 
+  0x65, 0x2c, 0x22, 0x6e, 0x61, 0x6d, 0x65, 0x22, 0x3a, 0x22, 0x2c, 0x22, 
+  0x66, 0x69, 0x72, 0x73, 0x74, 0x22, 0x3a, 0x7d, 0x0a, 0x72, 0x6f, 0x75, 
+  0x6e, 0x64, 0x5f, 0x74, 0x72, 0x69, 0x70, 0x73, 0x2c, 0x22, 0x63, 0x6f, 
+  0x75, 0x6e, 0x74, 0x22, 0x3a, 0x2c, 0x22, 0x6c, 0x65, 0x61, 0x73, 0x74, 
+  0x22, 0x3a, 0x2c, 0x22, 0x6d, 0x65, 0x61, 0x6e, 0x22, 0x3a, 0x2c, 0x22, 
+  0x67, 0x72, 0x65, 0x61, 0x74, 0x65, 0x73, 0x74, 0x22, 0x3a, 0x52, 0x65, 
+  0x74, 0x72, 0x61, 0x6e, 0x73, 0x6d, 0x69, 0x73, 0x73, 0x69, 0x6f, 0x6e, 
+  0x46, 0x61, 0x73, 0x74, 0x52, 0x65, 0x74, 0x72, 0x61, 0x6e, 0x73, 0x6d, 
+  0x69, 0x73, 0x73, 0x69, 0x6f, 0x6e, 0x4f, 0x75, 0x74, 0x4f, 0x66, 0x4f, 
+  0x72, 0x64, 0x65, 0x72, 0x50, 0x72, 0x65, 0x76, 0x69, 0x6f, 0x75, 0x73, 
+  0x4e, 0x6f, 0x74, 0x53, 0x65, 0x65, 0x6e, 0x44, 0x75, 0x70, 0x6c, 0x69, 
+  0x63, 0x61, 0x74, 0x65, 0x41, 0x63, 0x6b, 0x5a, 0x65, 0x72, 0x6f, 0x57, 
+  0x69, 0x6e, 0x64, 0x6f, 0x77, 0x57, 0x69, 0x6e, 0x64, 0x6f, 0x77, 0x46, 
+  0x75, 0x6c, 0x6c, 0x4b, 0x65, 0x65, 0x70, 0x41, 0x6c, 0x69, 0x76, 0x65, 
+  0x53, 0x68, 0x72, 0x75, 0x6e, 0x6b, 0x57, 0x69, 0x6e, 0x64, 0x6f, 0x77, 
+  0x4c, 0x6f, 0x6e, 0x67, 0x53, 0x65, 0x67, 0x6d, 0x65, 0x6e, 0x74, 0x4e, 
+  0x6f, 0x54, 0x69, 0x6d, 0x65, 0x73, 0x74, 0x61, 0x6d, 0x70, 0x54, 0x69, 
+  0x6d, 0x65, 0x73, 0x74, 0x61, 0x6d, 0x70, 0x42, 0x61, 0x63, 0x6b, 0x53, 
+  0x74, 0x72, 0x61, 0x6e, 0x67, 0x65, 0x45, 0x63, 0x68, 0x6f, 0x4f, 0x6c, 
+  0x64, 0x4e, 0x75, 0x6d, 0x62, 0x65, 0x72, 0x46, 0x69, 0x72, 0x73, 0x74, 
+  0x42, 0x6c, 0x6f, 0x63, 0x6b, 0x54, 0x6f, 0x75, 0x63, 0x68, 0x69, 0x6e, 
+  0x67, 0x42, 0x6c, 0x6f, 0x63, 0x6b, 0x73, 0x4f, 0x6c, 0x64, 0x42, 0x6c, 
+  0x6f, 0x63, 0x6b, 0x2c, 0x22, 0x76, 0x65, 0x72, 0x64, 0x69, 0x63, 0x74, 
+  0x22, 0x3a, 0x22, 0x22, 0x2c, 0x22, 0x66, 0x69, 0x6e, 0x64, 0x69, 0x6e, 
+  0x67, 0x73, 0x22, 0x3a, 0x2c, 0x22, 0x61, 0x6c, 0x6c, 0x5f, 0x72, 0x75, 
+  0x6c, 0x65, 0x73, 0x22, 0x3a, 0x2c, 0x22, 0x73, 0x65, 0x67, 0x6d, 0x65, 
+  0x6e, 0x74, 0x73, 0x22, 0x3a, 0x2c, 0x22, 0x62, 0x79, 0x74, 0x65, 0x73, 
+  0x22, 0x3a, 0x2c, 0x22, 0x77, 0x72, 0x6f, 0x6e, 0x67, 0x5f, 0x63, 0x68, 
+  0x65, 0x63, 0x6b, 0x73, 0x75, 0x6d, 0x73, 0x22, 0x3a, 0x66, 0x6f, 0x75, 
+  0x6e, 0x64, 0x63, 0x6c, 0x65, 0x61, 0x6e, 0x74, 0x72, 0x75, 0x65, 0x66, 
+  0x61, 0x6c, 0x73, 0x65, 0x77, 0x72, 0x6f, 0x6e, 0x67, 0x20, 0x63, 0x68, 
+  0x65, 0x63, 0x6b, 0x73, 0x75, 0x6d, 0x73, 0x39, 0x32, 0x39, 0x33, 0x2c, 
+  0x20, 0x33, 0x2e, 0x31, 0x20, 0x20, 0x20, 0x20, 0x20, 0x20, 0x70, 0x61, 
+  0x63, 0x6b, 0x65, 0x74, 0x20, 0x20, 0x5b, 0x72, 0x65, 0x6c, 0x61, 0x74, 
+  0x69, 0x76, 0x65, 0x20, 0x6e, 0x75, 0x6d, 0x62, 0x65, 0x72, 0x20, 0x5d, 
+  0x2c, 0x20, 0x61, 0x6e, 0x64, 0x20, 0x20, 0x6d, 0x6f, 0x72, 0x65, 0x20, 
+  0x6c, 0x69, 0x6b, 0x65, 0x20, 0x69, 0x74, 0x1b, 0x5b, 0x33, 0x31, 0x6d, 
+  0x1b, 0x5b, 0x30, 0x6d, 0x6e, 0x6f, 0x74, 0x65, 0x3a, 0x20, 0x2c, 0x20, 
+  0x74, 0x68, 0x65, 0x20, 0x66, 0x69, 0x72, 0x73, 0x74, 0x20, 0x69, 0x6e, 
+  0x20, 0x70, 0x61, 0x63, 0x6b, 0x65, 0x74, 0x20, 0x20, 0x28, 0x52, 0x46, 
+  0x43, 0x20, 0x1b, 0x5b, 0x33, 0x33, 0x6d, 0x20, 0x20, 0x20, 0x3a, 0x20, 
+  0x73, 0x65, 0x6e, 0x74, 0x20, 0x6e, 0x6f, 0x74, 0x68, 0x69, 0x6e, 0x67, 
+  0x2c, 0x20, 0x6e, 0x6f, 0x74, 0x68, 0x69, 0x6e, 0x67, 0x20, 0x6a, 0x75, 
+  0x64, 0x67, 0x65, 0x64, 0x0a, 0x61, 0x6c, 0x6c, 0x20, 0x72, 0x75, 0x6c, 
+  0x65, 0x73, 0x66, 0x6f, 0x72, 0x6d, 0x20, 0x61, 0x6e, 0x64, 0x20, 0x70, 
+  0x6f, 0x73, 0x69, 0x74, 0x69, 0x6f, 0x6e, 0x73, 0x20, 0x61, 0x6c, 0x6f, 
+  0x6e, 0x65, 0x20, 0x28, 0x66, 0x69, 0x6e, 0x64, 0x69, 0x6e, 0x67, 0x73, 
+  0x20, 0x20, 0x73, 0x65, 0x67, 0x6d, 0x65, 0x6e, 0x74, 0x73, 0x2c, 0x20, 
+  0x20, 0x62, 0x79, 0x74, 0x65, 0x73, 0x20, 0x6f, 0x66, 0x20, 0x74, 0x65, 
+  0x78, 0x74, 0x0a, 0x1b, 0x5b, 0x33, 0x32, 0x6d, 0x20, 0x20, 0x20, 0x20, 
+  0x20, 0x20, 0x72, 0x6f, 0x75, 0x6e, 0x64, 0x20, 0x74, 0x72, 0x69, 0x70, 
+  0x73, 0x3a, 0x20, 0x2c, 0x20, 0x6c, 0x65, 0x61, 0x73, 0x74, 0x20, 0x2c, 
+  0x20, 0x6d, 0x65, 0x61, 0x6e, 0x20, 0x2c, 0x20, 0x67, 0x72, 0x65, 0x61, 
+  0x74, 0x65, 0x73, 0x74, 0x20, 0x72, 0x65, 0x74, 0x72, 0x61, 0x6e, 0x73, 
+  0x6d, 0x69, 0x73, 0x73, 0x69, 0x6f, 0x6e, 0x73, 0x66, 0x61, 0x73, 0x74, 
+  0x20, 0x72, 0x65, 0x74, 0x72, 0x61, 0x6e, 0x73, 0x6d, 0x69, 0x73, 0x73, 
+  0x69, 0x6f, 0x6e, 0x73, 0x6f, 0x75, 0x74, 0x20, 0x6f, 0x66, 0x20, 0x6f, 
+  0x72, 0x64, 0x65, 0x72, 0x70, 0x72, 0x65, 0x76, 0x69, 0x6f, 0x75, 0x73, 
+  0x20, 0x73, 0x65, 0x67, 0x6d, 0x65, 0x6e, 0x74, 0x20, 0x6e, 0x6f, 0x74, 
+  0x20, 0x73, 0x65, 0x65, 0x6e, 0x64, 0x75, 0x70, 0x6c, 0x69, 0x63, 0x61, 
+  0x74, 0x65, 0x20, 0x61, 0x63, 0x6b, 0x6e, 0x6f, 0x77, 0x6c, 0x65, 0x64, 
+  0x67, 0x65, 0x6d, 0x65, 0x6e, 0x74, 0x73, 0x7a, 0x65, 0x72, 0x6f, 0x20, 
+  0x77, 0x69, 0x6e, 0x64, 0x6f, 0x77, 0x73, 0x77, 0x69, 0x6e, 0x64, 0x6f, 
+  0x77, 0x20, 0x66, 0x75, 0x6c, 0x6c, 0x6b, 0x65, 0x65, 0x70, 0x2d, 0x61, 
+  0x6c, 0x69, 0x76, 0x65, 0x73, 0x77, 0x69, 0x6e, 0x64, 0x6f, 0x77, 0x73, 
+  0x20, 0x74, 0x68, 0x61, 0x74, 0x20, 0x73, 0x68, 0x72, 0x69, 0x6e, 0x6b, 
+  0x73, 0x65, 0x67, 0x6d, 0x65, 0x6e, 0x74, 0x73, 0x20, 0x6c, 0x6f, 0x6e, 
+  0x67, 0x65, 0x72, 0x20, 0x74, 0x68, 0x61, 0x6e, 0x20, 0x74, 0x68, 0x65, 
+  0x20, 0x70, 0x65, 0x65, 0x72, 0x27, 0x73, 0x20, 0x53, 0x59, 0x4e, 0x20, 
+  0x61, 0x6c, 0x6c, 0x6f, 0x77, 0x73, 0x74, 0x69, 0x6d, 0x65, 0x73, 0x74, 
+  0x61, 0x6d, 0x70, 0x73, 0x20, 0x6c, 0x65, 0x66, 0x74, 0x20, 0x6f, 0x75, 
+  0x74, 0x74, 0x69, 0x6d, 0x65, 0x73, 0x74, 0x61, 0x6d, 0x70, 0x73, 0x20, 
+  0x74, 0x68, 0x61, 0x74, 0x20, 0x66, 0x61, 0x6c, 0x6c, 0x65, 0x63, 0x68, 
+  0x6f, 0x65, 0x73, 0x20, 0x6f, 0x66, 0x20, 0x61, 0x20, 0x74, 0x69, 0x6d, 
+  0x65, 0x73, 0x74, 0x61, 0x6d, 0x70, 0x20, 0x74, 0x68, 0x61, 0x74, 0x20, 
+  0x64, 0x69, 0x64, 0x6e, 0x27, 0x74, 0x20, 0x63, 0x6f, 0x6d, 0x65, 0x73, 
+  0x65, 0x67, 0x6d, 0x65, 0x6e, 0x74, 0x73, 0x20, 0x77, 0x69, 0x74, 0x68, 
+  0x6f, 0x75, 0x74, 0x20, 0x74, 0x65, 0x78, 0x74, 0x20, 0x62, 0x65, 0x66, 
+  0x6f, 0x72, 0x65, 0x20, 0x53, 0x4e, 0x44, 0x2e, 0x4e, 0x58, 0x54, 0x66, 
+  0x69, 0x72, 0x73, 0x74, 0x20, 0x62, 0x6c, 0x6f, 0x63, 0x6b, 0x73, 0x20, 
+  0x74, 0x68, 0x61, 0x74, 0x20, 0x61, 0x72, 0x65, 0x6e, 0x27, 0x74, 0x20, 
+  0x74, 0x68, 0x65, 0x20, 0x6e, 0x65, 0x77, 0x65, 0x73, 0x74, 0x62, 0x6c, 
+  0x6f, 0x63, 0x6b, 0x73, 0x20, 0x74, 0x68, 0x61, 0x74, 0x20, 0x74, 0x6f, 
+  0x75, 0x63, 0x68, 0x62, 0x6c, 0x6f, 0x63, 0x6b, 0x73, 0x20, 0x62, 0x65, 
+  0x66, 0x6f, 0x72, 0x65, 0x20, 0x74, 0x68, 0x65, 0x20, 0x61, 0x63, 0x6b, 
+  0x6e, 0x6f, 0x77, 0x6c, 0x65, 0x64, 0x67, 0x65, 0x6d, 0x65, 0x6e, 0x74, 
+  0x74, 0x65, 0x78, 0x74, 0x20, 0x62, 0x65, 0x66, 0x6f, 0x72, 0x65, 0x20, 
+  0x74, 0x68, 0x65, 0x20, 0x53, 0x59, 0x4e, 0x20, 0x69, 0x73, 0x20, 0x61, 
+  0x63, 0x6b, 0x6e, 0x6f, 0x77, 0x6c, 0x65, 0x64, 0x67, 0x65, 0x64, 0x74, 
+  0x65, 0x78, 0x74, 0x20, 0x61, 0x66, 0x74, 0x65, 0x72, 0x20, 0x74, 0x68, 
+  0x65, 0x20, 0x65, 0x6e, 0x64, 0x27, 0x73, 0x20, 0x6f, 0x77, 0x6e, 0x20, 
+  0x72, 0x65, 0x73, 0x65, 0x74, 0x74, 0x65, 0x78, 0x74, 0x20, 0x62, 0x65, 
+  0x79, 0x6f, 0x6e, 0x64, 0x20, 0x74, 0x68, 0x65, 0x20, 0x77, 0x69, 0x6e, 
+  0x64, 0x6f, 0x77, 0x72, 0x65, 0x73, 0x65, 0x74, 0x73, 0x20, 0x74, 0x68, 
+  0x61, 0x74, 0x20, 0x61, 0x6e, 0x73, 0x77, 0x65, 0x72, 0x20, 0x6e, 0x6f, 
+  0x74, 0x68, 0x69, 0x6e, 0x67, 0x39, 0x32, 0x39, 0x33, 0x2c, 0x20, 0x33, 
+  0x2e, 0x38, 0x2e, 0x31, 0x35, 0x36, 0x38, 0x31, 0x2c, 0x20, 0x33, 0x2e, 
+  0x32, 0x39, 0x32, 0x39, 0x33, 0x2c, 0x20, 0x33, 0x2e, 0x34, 0x35, 0x36, 
+  0x38, 0x31, 0x2c, 0x20, 0x32, 0x39, 0x32, 0x39, 0x33, 0x2c, 0x20, 0x33, 
+  0x2e, 0x38, 0x2e, 0x36, 0x39, 0x32, 0x39, 0x33, 0x2c, 0x20, 0x33, 0x2e, 
+  0x38, 0x2e, 0x34, 0x39, 0x32, 0x39, 0x33, 0x2c, 0x20, 0x33, 0x2e, 0x37, 
+  0x2e, 0x31, 0x37, 0x33, 0x32, 0x33, 0x2c, 0x20, 0x33, 0x2e, 0x32, 0x37, 
+  0x33, 0x32, 0x33, 0x2c, 0x20, 0x34, 0x2e, 0x31, 0x37, 0x33, 0x32, 0x33, 
+  0x2c, 0x20, 0x34, 0x2e, 0x33, 0x39, 0x32, 0x39, 0x33, 0x2c, 0x20, 0x33, 
+  0x2e, 0x31, 0x30, 0x2e, 0x37, 0x2e, 0x34, 0x32, 0x30, 0x31, 0x38, 0x2c, 
+  0x20, 0x34, 0x32, 0x30, 0x31, 0x38, 0x2c, 0x20, 0x33, 0x39, 0x32, 0x39, 
+  0x33, 0x2c, 0x20, 0x33, 0x2e, 0x31, 0x30, 0x2e, 0x32, 0x39, 0x32, 0x39, 
+  0x33, 0x2c, 0x20, 0x33, 0x2e, 0x31, 0x30, 0x2e, 0x35, 0x39, 0x32, 0x39, 
+  0x33, 0x2c, 0x20, 0x33, 0x2e, 0x35, 0x2e, 0x32, 0x7b, 0x22, 0x6b, 0x69, 
+  0x6e, 0x64, 0x22, 0x3a, 0x22, 0x63, 0x61, 0x70, 0x74, 0x75, 0x72, 0x65, 
+  0x22, 0x2c, 0x22, 0x70, 0x61, 0x63, 0x6b, 0x65, 0x74, 0x73, 0x22, 0x3a, 
+  0x2c, 0x22, 0x63, 0x6f, 0x6e, 0x6e, 0x65, 0x63, 0x74, 0x69, 0x6f, 0x6e, 
+  0x73, 0x22, 0x3a, 0x2c, 0x22, 0x69, 0x73, 0x5f, 0x63, 0x75, 0x74, 0x22, 
+  0x3a, 0x2c, 0x22, 0x69, 0x73, 0x5f, 0x6c, 0x6f, 0x73, 0x73, 0x79, 0x22, 
+  0x3a, 0x2c, 0x22, 0x6f, 0x74, 0x68, 0x65, 0x72, 0x73, 0x22, 0x3a, 0x2c, 
+  0x22, 0x66, 0x72, 0x61, 0x67, 0x6d, 0x65, 0x6e, 0x74, 0x73, 0x22, 0x3a, 
+  0x2c, 0x22, 0x63, 0x75, 0x74, 0x5f, 0x73, 0x68, 0x6f, 0x72, 0x74, 0x22, 
+  0x3a, 0x2c, 0x22, 0x73, 0x74, 0x72, 0x61, 0x79, 0x73, 0x22, 0x3a, 0x2c, 
+  0x22, 0x65, 0x6e, 0x64, 0x73, 0x22, 0x3a, 0x2c, 0x22, 0x66, 0x69, 0x6e, 
+  0x64, 0x69, 0x6e, 0x67, 0x73, 0x22, 0x3a, 0x70, 0x61, 0x63, 0x6b, 0x65, 
+  0x74, 0x73, 0x20, 0x61, 0x72, 0x65, 0x20, 0x63, 0x75, 0x74, 0x20, 0x73, 
+  0x68, 0x6f, 0x72, 0x74, 0x2c, 0x20, 0x6f, 0x72, 0x20, 0x61, 0x72, 0x65, 
+  0x20, 0x66, 0x72, 0x61, 0x67, 0x6d, 0x65, 0x6e, 0x74, 0x73, 0x0a, 0x65, 
+  0x6e, 0x64, 0x73, 0x20, 0x6a, 0x75, 0x64, 0x67, 0x65, 0x64, 0x20, 0x2c, 
+  0x20, 0x66, 0x69, 0x6e, 0x64, 0x69, 0x6e, 0x67, 0x73, 0x20, 0x4e, 0x6f, 
+  0x74, 0x68, 0x69, 0x6e, 0x67, 0x20, 0x77, 0x61, 0x73, 0x20, 0x6a, 0x75, 
+  0x64, 0x67, 0x65, 0x64, 0x2e, 0x0a, 0x20, 0x6f, 0x66, 0x20, 0x20, 0x65, 
+  0x6e, 0x64, 0x73, 0x20, 0x73, 0x65, 0x6e, 0x74, 0x20, 0x77, 0x68, 0x61, 
+  0x74, 0x20, 0x54, 0x43, 0x50, 0x20, 0x66, 0x6f, 0x72, 0x62, 0x69, 0x64, 
+  0x73, 0x2c, 0x20, 0x77, 0x68, 0x61, 0x74, 0x65, 0x76, 0x65, 0x72, 0x20, 
+  0x74, 0x68, 0x65, 0x20, 0x6e, 0x65, 0x74, 0x77, 0x6f, 0x72, 0x6b, 0x20, 
+  0x64, 0x69, 0x64, 0x20, 0x74, 0x6f, 0x20, 0x69, 0x74, 0x2e, 0x0a, 0x4e, 
+  0x6f, 0x20, 0x65, 0x6e, 0x64, 0x20, 0x73, 0x65, 0x6e, 0x74, 0x20, 0x77, 
+  0x68, 0x61, 0x74, 0x20, 0x74, 0x68, 0x65, 0x20, 0x72, 0x75, 0x6c, 0x65, 
+  0x73, 0x20, 0x74, 0x68, 0x61, 0x74, 0x20, 0x77, 0x65, 0x72, 0x65, 0x20, 
+  0x74, 0x72, 0x69, 0x65, 0x64, 0x20, 0x66, 0x6f, 0x72, 0x62, 0x69, 0x64, 
+  0x2e, 0x0a, 0x41, 0x63, 0x6b, 0x6e, 0x6f, 0x77, 0x6c, 0x65, 0x64, 0x67, 
+  0x65, 0x6d, 0x65, 0x6e, 0x74, 0x73, 0x20, 0x61, 0x6e, 0x64, 0x20, 0x62, 
+  0x6c, 0x6f, 0x63, 0x6b, 0x73, 0x20, 0x77, 0x65, 0x72, 0x65, 0x20, 0x6a, 
+  0x75, 0x64, 0x67, 0x65, 0x64, 0x20, 0x61, 0x74, 0x20, 0x20, 0x65, 0x6e, 
+  0x64, 0x73, 0x2e, 0x0a, 0x07, 0x00, 0x00, 0x00, 0x00, 0x00, 0x00, 0x00, 
+  0x06, 0x00, 0x00, 0x00, 0x00, 0x00, 0x00, 0x00, 0x04, 0x00, 0x00, 0x00, 
+  0x00, 0x00, 0x00, 0x00, 0x07, 0x00, 0x00, 0x00, 0x00, 0x00, 0x00, 0x00, 
+  0x05, 0x00, 0x00, 0x00, 0x00, 0x00, 0x00, 0x00, 0x05, 0x00, 0x00, 0x00, 
+  0x00, 0x00, 0x00, 0x00, 0x0b, 0x00, 0x00, 0x00, 0x00, 0x00, 0x00, 0x00, 
+  0x05, 0x00, 0x00, 0x00, 0x00, 0x00, 0x00, 0x00, 0x04, 0x00, 0x00, 0x00, 
+  0x00, 0x00, 0x00, 0x00, 0x14, 0x00, 0x00, 0x00, 0x00, 0x00, 0x00, 0x00, 
+  0x0c, 0x00, 0x00, 0x00, 0x00, 0x00, 0x00, 0x00, 0x07, 0x00, 0x00, 0x00, 
+  0x00, 0x00, 0x00, 0x00, 0x06, 0x00, 0x00, 0x00, 0x00, 0x00, 0x00, 0x00, 
+  0x0b, 0x07, 0x10, 0x00, 0x00, 0x00, 0x00, 0x00, 0x12, 0x07, 0x10, 0x00, 
+  0x00, 0x00, 0x00, 0x00, 0x18, 0x07, 0x10, 0x00, 0x00, 0x00, 0x00, 0x00, 
+  0x1c, 0x07, 0x10, 0x00, 0x00, 0x00, 0x00, 0x00, 0x23, 0x07, 0x10, 0x00, 
+  0x00, 0x00, 0x00, 0x00, 0x28, 0x07, 0x10, 0x00, 0x00, 0x00, 0x00, 0x00, 
+  0x2d, 0x07, 0x10, 0x00, 0x00, 0x00, 0x00, 0x00, 0x38, 0x07, 0x10, 0x00, 
+  0x00, 0x00, 0x00, 0x00, 0x3d, 0x07, 0x10, 0x00, 0x00, 0x00, 0x00, 0x00, 
+  0x41, 0x07, 0x10, 0x00, 0x00, 0x00, 0x00, 0x00, 0x55, 0x07, 0x10, 0x00, 
+  0x00, 0x00, 0x00, 0x00, 0x61, 0x07, 0x10, 0x00, 0x00, 0x00, 0x00, 0x00, 
+  0x68, 0x07, 0x10, 0x00, 0x00, 0x00, 0x00, 0x00, 0x0a, 0x00, 0x00, 0x00, 
+  0x00, 0x00, 0x00, 0x00, 0x07, 0x00, 0x00, 0x00, 0x00, 0x00, 0x00, 0x00, 
+  0x08, 0x00, 0x00, 0x00, 0x00, 0x00, 0x00, 0x00, 0x6e, 0x07, 0x10, 0x00, 
+  0x00, 0x00, 0x00, 0x00, 0x78, 0x07, 0x10, 0x00, 0x00, 0x00, 0x00, 0x00, 
+  0x7f, 0x07, 0x10, 0x00, 0x00, 0x00, 0x00, 0x00, 0x06, 0x00, 0x00, 0x00, 
+  0x00, 0x00, 0x00, 0x00, 0x06, 0x00, 0x00, 0x00, 0x00, 0x00, 0x00, 0x00, 
+  0x08, 0x00, 0x00, 0x00, 0x00, 0x00, 0x00, 0x00, 0x0c, 0x00, 0x00, 0x00, 
+  0x00, 0x00, 0x00, 0x00, 0x0b, 0x00, 0x00, 0x00, 0x00, 0x00, 0x00, 0x00, 
+  0x0a, 0x00, 0x00, 0x00, 0x00, 0x00, 0x00, 0x00, 0x0a, 0x00, 0x00, 0x00, 
+  0x00, 0x00, 0x00, 0x00, 0x0a, 0x00, 0x00, 0x00, 0x00, 0x00, 0x00, 0x00, 
+  0x07, 0x00, 0x00, 0x00, 0x00, 0x00, 0x00, 0x00, 0x08, 0x00, 0x00, 0x00, 
+  0x00, 0x00, 0x00, 0x00, 0x09, 0x00, 0x00, 0x00, 0x00, 0x00, 0x00, 0x00, 
+  0xd9, 0x07, 0x10, 0x00, 0x00, 0x00, 0x00, 0x00, 0xdf, 0x07, 0x10, 0x00, 
+  0x00, 0x00, 0x00, 0x00, 0xe5, 0x07, 0x10, 0x00, 0x00, 0x00, 0x00, 0x00, 
+  0xed, 0x07, 0x10, 0x00, 0x00, 0x00, 0x00, 0x00, 0xf9, 0x07, 0x10, 0x00, 
+  0x00, 0x00, 0x00, 0x00, 0x04, 0x08, 0x10, 0x00, 0x00, 0x00, 0x00, 0x00, 
+  0x0e, 0x08, 0x10, 0x00, 0x00, 0x00, 0x00, 0x00, 0x18, 0x08, 0x10, 0x00, 
+  0x00, 0x00, 0x00, 0x00, 0x22, 0x08, 0x10, 0x00, 0x00, 0x00, 0x00, 0x00, 
+  0x29, 0x08, 0x10, 0x00, 0x00, 0x00, 0x00, 0x00, 0x31, 0x08, 0x10, 0x00, 
+  0x00, 0x00, 0x00, 0x00, 0x09, 0x00, 0x00, 0x00, 0x00, 0x00, 0x00, 0x00, 
+  0x07, 0x00, 0x00, 0x00, 0x00, 0x00, 0x00, 0x00, 0x05, 0x00, 0x00, 0x00, 
+  0x00, 0x00, 0x00, 0x00, 0x07, 0x00, 0x00, 0x00, 0x00, 0x00, 0x00, 0x00, 
+  0xe1, 0x08, 0x10, 0x00, 0x00, 0x00, 0x00, 0x00, 0xea, 0x08, 0x10, 0x00, 
+  0x00, 0x00, 0x00, 0x00, 0xf1, 0x08, 0x10, 0x00, 0x00, 0x00, 0x00, 0x00, 
+  0xf6, 0x08, 0x10, 0x00, 0x00, 0x00, 0x00, 0x00, 0x00, 0x00, 0x00, 0x00, 
   0x00, 0x00, 0x00, 0x00, 0x01, 0x00, 0x00, 0x00, 0x00, 0x00, 0x00, 0x00, 
   0x02, 0x00, 0x00, 0x00, 0x00, 0x00, 0x00, 0x00, 0x03, 0x00, 0x00, 0x00, 
   0x00, 0x00, 0x00, 0x00, 0x04, 0x00, 0x00, 0x00, 0x00, 0x00, 0x00, 0x00, 
@@ -14427,53 +14801,93 @@ static const u8 DATA[] = {
   0x0b, 0x00, 0x00, 0x00, 0x00, 0x00, 0x00, 0x00, 0x0c, 0x00, 0x00, 0x00, 
   0x00, 0x00, 0x00, 0x00, 0x0d, 0x00, 0x00, 0x00, 0x00, 0x00, 0x00, 0x00, 
   0x0e, 0x00, 0x00, 0x00, 0x00, 0x00, 0x00, 0x00, 0x0f, 0x00, 0x00, 0x00, 
-  0x00, 0x00, 0x00, 0x00, 0x07, 0x00, 0x00, 0x00, 0x00, 0x00, 0x00, 0x00, 
-  0x06, 0x00, 0x00, 0x00, 0x00, 0x00, 0x00, 0x00, 0x04, 0x00, 0x00, 0x00, 
-  0x00, 0x00, 0x00, 0x00, 0x07, 0x00, 0x00, 0x00, 0x00, 0x00, 0x00, 0x00, 
-  0x05, 0x00, 0x00, 0x00, 0x00, 0x00, 0x00, 0x00, 0x05, 0x00, 0x00, 0x00, 
-  0x00, 0x00, 0x00, 0x00, 0x0b, 0x00, 0x00, 0x00, 0x00, 0x00, 0x00, 0x00, 
-  0x05, 0x00, 0x00, 0x00, 0x00, 0x00, 0x00, 0x00, 0x04, 0x00, 0x00, 0x00, 
-  0x00, 0x00, 0x00, 0x00, 0x14, 0x00, 0x00, 0x00, 0x00, 0x00, 0x00, 0x00, 
-  0x0c, 0x00, 0x00, 0x00, 0x00, 0x00, 0x00, 0x00, 0x07, 0x00, 0x00, 0x00, 
-  0x00, 0x00, 0x00, 0x00, 0x06, 0x00, 0x00, 0x00, 0x00, 0x00, 0x00, 0x00, 
-  0x09, 0x07, 0x10, 0x00, 0x00, 0x00, 0x00, 0x00, 0x10, 0x07, 0x10, 0x00, 
-  0x00, 0x00, 0x00, 0x00, 0x16, 0x07, 0x10, 0x00, 0x00, 0x00, 0x00, 0x00, 
-  0x1a, 0x07, 0x10, 0x00, 0x00, 0x00, 0x00, 0x00, 0x21, 0x07, 0x10, 0x00, 
-  0x00, 0x00, 0x00, 0x00, 0x26, 0x07, 0x10, 0x00, 0x00, 0x00, 0x00, 0x00, 
-  0x2b, 0x07, 0x10, 0x00, 0x00, 0x00, 0x00, 0x00, 0x36, 0x07, 0x10, 0x00, 
-  0x00, 0x00, 0x00, 0x00, 0x3b, 0x07, 0x10, 0x00, 0x00, 0x00, 0x00, 0x00, 
-  0x3f, 0x07, 0x10, 0x00, 0x00, 0x00, 0x00, 0x00, 0x53, 0x07, 0x10, 0x00, 
-  0x00, 0x00, 0x00, 0x00, 0x5f, 0x07, 0x10, 0x00, 0x00, 0x00, 0x00, 0x00, 
-  0x66, 0x07, 0x10, 0x00, 0x00, 0x00, 0x00, 0x00, 0x0a, 0x00, 0x00, 0x00, 
-  0x00, 0x00, 0x00, 0x00, 0x07, 0x00, 0x00, 0x00, 0x00, 0x00, 0x00, 0x00, 
-  0x08, 0x00, 0x00, 0x00, 0x00, 0x00, 0x00, 0x00, 0x6c, 0x07, 0x10, 0x00, 
-  0x00, 0x00, 0x00, 0x00, 0x76, 0x07, 0x10, 0x00, 0x00, 0x00, 0x00, 0x00, 
-  0x7d, 0x07, 0x10, 0x00, 0x00, 0x00, 0x00, 0x00, 0x06, 0x00, 0x00, 0x00, 
-  0x00, 0x00, 0x00, 0x00, 0x06, 0x00, 0x00, 0x00, 0x00, 0x00, 0x00, 0x00, 
-  0x08, 0x00, 0x00, 0x00, 0x00, 0x00, 0x00, 0x00, 0x0c, 0x00, 0x00, 0x00, 
-  0x00, 0x00, 0x00, 0x00, 0x0b, 0x00, 0x00, 0x00, 0x00, 0x00, 0x00, 0x00, 
-  0x0a, 0x00, 0x00, 0x00, 0x00, 0x00, 0x00, 0x00, 0x0a, 0x00, 0x00, 0x00, 
   0x00, 0x00, 0x00, 0x00, 0x0a, 0x00, 0x00, 0x00, 0x00, 0x00, 0x00, 0x00, 
-  0x07, 0x00, 0x00, 0x00, 0x00, 0x00, 0x00, 0x00, 0x08, 0x00, 0x00, 0x00, 
+  0x09, 0x00, 0x00, 0x00, 0x00, 0x00, 0x00, 0x00, 0x0a, 0x00, 0x00, 0x00, 
+  0x00, 0x00, 0x00, 0x00, 0x05, 0x00, 0x00, 0x00, 0x00, 0x00, 0x00, 0x00, 
+  0x0c, 0x00, 0x00, 0x00, 0x00, 0x00, 0x00, 0x00, 0x0b, 0x00, 0x00, 0x00, 
   0x00, 0x00, 0x00, 0x00, 0x09, 0x00, 0x00, 0x00, 0x00, 0x00, 0x00, 0x00, 
-  0xd7, 0x07, 0x10, 0x00, 0x00, 0x00, 0x00, 0x00, 0xdd, 0x07, 0x10, 0x00, 
-  0x00, 0x00, 0x00, 0x00, 0xe3, 0x07, 0x10, 0x00, 0x00, 0x00, 0x00, 0x00, 
-  0xeb, 0x07, 0x10, 0x00, 0x00, 0x00, 0x00, 0x00, 0xf7, 0x07, 0x10, 0x00, 
-  0x00, 0x00, 0x00, 0x00, 0x02, 0x08, 0x10, 0x00, 0x00, 0x00, 0x00, 0x00, 
-  0x0c, 0x08, 0x10, 0x00, 0x00, 0x00, 0x00, 0x00, 0x16, 0x08, 0x10, 0x00, 
-  0x00, 0x00, 0x00, 0x00, 0x20, 0x08, 0x10, 0x00, 0x00, 0x00, 0x00, 0x00, 
-  0x27, 0x08, 0x10, 0x00, 0x00, 0x00, 0x00, 0x00, 0x2f, 0x08, 0x10, 0x00, 
-  0x00, 0x00, 0x00, 0x00, 0x09, 0x00, 0x00, 0x00, 0x00, 0x00, 0x00, 0x00, 
-  0x07, 0x00, 0x00, 0x00, 0x00, 0x00, 0x00, 0x00, 0x05, 0x00, 0x00, 0x00, 
+  0x09, 0x00, 0x00, 0x00, 0x00, 0x00, 0x00, 0x00, 0x09, 0x00, 0x00, 0x00, 
+  0x00, 0x00, 0x00, 0x00, 0x0a, 0x00, 0x00, 0x00, 0x00, 0x00, 0x00, 0x00, 
+  0x03, 0x00, 0x00, 0x00, 0x00, 0x00, 0x00, 0x00, 0x0a, 0x00, 0x00, 0x00, 
+  0x00, 0x00, 0x00, 0x00, 0x0c, 0x00, 0x00, 0x00, 0x00, 0x00, 0x00, 0x00, 
+  0x0a, 0x00, 0x00, 0x00, 0x00, 0x00, 0x00, 0x00, 0x09, 0x00, 0x00, 0x00, 
   0x00, 0x00, 0x00, 0x00, 0x07, 0x00, 0x00, 0x00, 0x00, 0x00, 0x00, 0x00, 
-  0xdf, 0x08, 0x10, 0x00, 0x00, 0x00, 0x00, 0x00, 0xe8, 0x08, 0x10, 0x00, 
-  0x00, 0x00, 0x00, 0x00, 0xef, 0x08, 0x10, 0x00, 0x00, 0x00, 0x00, 0x00, 
-  0xf4, 0x08, 0x10, 0x00, 0x00, 0x00, 0x00, 0x00, 0x3e, 0x09, 0x10, 0x00, 
-  0x00, 0x00, 0x00, 0x00, 0x60, 0x09, 0x10, 0x00, 0x00, 0x00, 0x00, 0x00, 
-  0x6e, 0x09, 0x10, 0x00, 0x00, 0x00, 0x00, 0x00, 0x8c, 0x09, 0x10, 0x00, 
-  0x00, 0x00, 0x00, 0x00, 0xbe, 0x09, 0x10, 0x00, 0x00, 0x00, 0x00, 0x00, 
-  0xd8, 0x09, 0x10, 0x00, 0x00, 0x00, 0x00, 0x00, 0xf5, 0x09, 0x10, 0x00, 
-  0x00, 0x00, 0x00, 0x00, 0x12, 0x0a, 0x10, 0x00, 0x00, 0x00, 0x00, 0x00, 
+  0x09, 0x00, 0x00, 0x00, 0x00, 0x00, 0x00, 0x00, 0x0b, 0x00, 0x00, 0x00, 
+  0x00, 0x00, 0x00, 0x00, 0x0b, 0x00, 0x00, 0x00, 0x00, 0x00, 0x00, 0x00, 
+  0x89, 0x0e, 0x10, 0x00, 0x00, 0x00, 0x00, 0x00, 0x93, 0x0e, 0x10, 0x00, 
+  0x00, 0x00, 0x00, 0x00, 0x9c, 0x0e, 0x10, 0x00, 0x00, 0x00, 0x00, 0x00, 
+  0xa6, 0x0e, 0x10, 0x00, 0x00, 0x00, 0x00, 0x00, 0xab, 0x0e, 0x10, 0x00, 
+  0x00, 0x00, 0x00, 0x00, 0xb7, 0x0e, 0x10, 0x00, 0x00, 0x00, 0x00, 0x00, 
+  0xc2, 0x0e, 0x10, 0x00, 0x00, 0x00, 0x00, 0x00, 0xcb, 0x0e, 0x10, 0x00, 
+  0x00, 0x00, 0x00, 0x00, 0xd4, 0x0e, 0x10, 0x00, 0x00, 0x00, 0x00, 0x00, 
+  0xdd, 0x0e, 0x10, 0x00, 0x00, 0x00, 0x00, 0x00, 0xe7, 0x0e, 0x10, 0x00, 
+  0x00, 0x00, 0x00, 0x00, 0xea, 0x0e, 0x10, 0x00, 0x00, 0x00, 0x00, 0x00, 
+  0xf4, 0x0e, 0x10, 0x00, 0x00, 0x00, 0x00, 0x00, 0x00, 0x0f, 0x10, 0x00, 
+  0x00, 0x00, 0x00, 0x00, 0x0a, 0x0f, 0x10, 0x00, 0x00, 0x00, 0x00, 0x00, 
+  0x13, 0x0f, 0x10, 0x00, 0x00, 0x00, 0x00, 0x00, 0x1a, 0x0f, 0x10, 0x00, 
+  0x00, 0x00, 0x00, 0x00, 0x23, 0x0f, 0x10, 0x00, 0x00, 0x00, 0x00, 0x00, 
+  0x2e, 0x0f, 0x10, 0x00, 0x00, 0x00, 0x00, 0x00, 0xbd, 0x11, 0x10, 0x00, 
+  0x00, 0x00, 0x00, 0x00, 0xcc, 0x11, 0x10, 0x00, 0x00, 0x00, 0x00, 0x00, 
+  0xe0, 0x11, 0x10, 0x00, 0x00, 0x00, 0x00, 0x00, 0xec, 0x11, 0x10, 0x00, 
+  0x00, 0x00, 0x00, 0x00, 0x05, 0x12, 0x10, 0x00, 0x00, 0x00, 0x00, 0x00, 
+  0x1f, 0x12, 0x10, 0x00, 0x00, 0x00, 0x00, 0x00, 0x2b, 0x12, 0x10, 0x00, 
+  0x00, 0x00, 0x00, 0x00, 0x36, 0x12, 0x10, 0x00, 0x00, 0x00, 0x00, 0x00, 
+  0x41, 0x12, 0x10, 0x00, 0x00, 0x00, 0x00, 0x00, 0x54, 0x12, 0x10, 0x00, 
+  0x00, 0x00, 0x00, 0x00, 0x7e, 0x12, 0x10, 0x00, 0x00, 0x00, 0x00, 0x00, 
+  0x91, 0x12, 0x10, 0x00, 0x00, 0x00, 0x00, 0x00, 0xa5, 0x12, 0x10, 0x00, 
+  0x00, 0x00, 0x00, 0x00, 0xcb, 0x12, 0x10, 0x00, 0x00, 0x00, 0x00, 0x00, 
+  0xef, 0x12, 0x10, 0x00, 0x00, 0x00, 0x00, 0x00, 0x12, 0x13, 0x10, 0x00, 
+  0x00, 0x00, 0x00, 0x00, 0x23, 0x13, 0x10, 0x00, 0x00, 0x00, 0x00, 0x00, 
+  0x44, 0x13, 0x10, 0x00, 0x00, 0x00, 0x00, 0x00, 0x67, 0x13, 0x10, 0x00, 
+  0x00, 0x00, 0x00, 0x00, 0x85, 0x13, 0x10, 0x00, 0x00, 0x00, 0x00, 0x00, 
+  0x9b, 0x13, 0x10, 0x00, 0x00, 0x00, 0x00, 0x00, 0x0f, 0x00, 0x00, 0x00, 
+  0x00, 0x00, 0x00, 0x00, 0x14, 0x00, 0x00, 0x00, 0x00, 0x00, 0x00, 0x00, 
+  0x0c, 0x00, 0x00, 0x00, 0x00, 0x00, 0x00, 0x00, 0x19, 0x00, 0x00, 0x00, 
+  0x00, 0x00, 0x00, 0x00, 0x1a, 0x00, 0x00, 0x00, 0x00, 0x00, 0x00, 0x00, 
+  0x0c, 0x00, 0x00, 0x00, 0x00, 0x00, 0x00, 0x00, 0x0b, 0x00, 0x00, 0x00, 
+  0x00, 0x00, 0x00, 0x00, 0x0b, 0x00, 0x00, 0x00, 0x00, 0x00, 0x00, 0x00, 
+  0x13, 0x00, 0x00, 0x00, 0x00, 0x00, 0x00, 0x00, 0x2a, 0x00, 0x00, 0x00, 
+  0x00, 0x00, 0x00, 0x00, 0x13, 0x00, 0x00, 0x00, 0x00, 0x00, 0x00, 0x00, 
+  0x14, 0x00, 0x00, 0x00, 0x00, 0x00, 0x00, 0x00, 0x26, 0x00, 0x00, 0x00, 
+  0x00, 0x00, 0x00, 0x00, 0x24, 0x00, 0x00, 0x00, 0x00, 0x00, 0x00, 0x00, 
+  0x23, 0x00, 0x00, 0x00, 0x00, 0x00, 0x00, 0x00, 0x11, 0x00, 0x00, 0x00, 
+  0x00, 0x00, 0x00, 0x00, 0x21, 0x00, 0x00, 0x00, 0x00, 0x00, 0x00, 0x00, 
+  0x23, 0x00, 0x00, 0x00, 0x00, 0x00, 0x00, 0x00, 0x1e, 0x00, 0x00, 0x00, 
+  0x00, 0x00, 0x00, 0x00, 0x16, 0x00, 0x00, 0x00, 0x00, 0x00, 0x00, 0x00, 
+  0x1a, 0x00, 0x00, 0x00, 0x00, 0x00, 0x00, 0x00, 0x0b, 0x00, 0x00, 0x00, 
+  0x00, 0x00, 0x00, 0x00, 0x09, 0x00, 0x00, 0x00, 0x00, 0x00, 0x00, 0x00, 
+  0x09, 0x00, 0x00, 0x00, 0x00, 0x00, 0x00, 0x00, 0x09, 0x00, 0x00, 0x00, 
+  0x00, 0x00, 0x00, 0x00, 0x07, 0x00, 0x00, 0x00, 0x00, 0x00, 0x00, 0x00, 
+  0x0b, 0x00, 0x00, 0x00, 0x00, 0x00, 0x00, 0x00, 0x0b, 0x00, 0x00, 0x00, 
+  0x00, 0x00, 0x00, 0x00, 0x0b, 0x00, 0x00, 0x00, 0x00, 0x00, 0x00, 0x00, 
+  0x0b, 0x00, 0x00, 0x00, 0x00, 0x00, 0x00, 0x00, 0x0b, 0x00, 0x00, 0x00, 
+  0x00, 0x00, 0x00, 0x00, 0x09, 0x00, 0x00, 0x00, 0x00, 0x00, 0x00, 0x00, 
+  0x09, 0x00, 0x00, 0x00, 0x00, 0x00, 0x00, 0x00, 0x09, 0x00, 0x00, 0x00, 
+  0x00, 0x00, 0x00, 0x00, 0x0e, 0x00, 0x00, 0x00, 0x00, 0x00, 0x00, 0x00, 
+  0x07, 0x00, 0x00, 0x00, 0x00, 0x00, 0x00, 0x00, 0x07, 0x00, 0x00, 0x00, 
+  0x00, 0x00, 0x00, 0x00, 0x07, 0x00, 0x00, 0x00, 0x00, 0x00, 0x00, 0x00, 
+  0x0c, 0x00, 0x00, 0x00, 0x00, 0x00, 0x00, 0x00, 0x0c, 0x00, 0x00, 0x00, 
+  0x00, 0x00, 0x00, 0x00, 0x0b, 0x00, 0x00, 0x00, 0x00, 0x00, 0x00, 0x00, 
+  0x0b, 0x00, 0x00, 0x00, 0x00, 0x00, 0x00, 0x00, 0xb5, 0x13, 0x10, 0x00, 
+  0x00, 0x00, 0x00, 0x00, 0xc0, 0x13, 0x10, 0x00, 0x00, 0x00, 0x00, 0x00, 
+  0xc9, 0x13, 0x10, 0x00, 0x00, 0x00, 0x00, 0x00, 0xc9, 0x13, 0x10, 0x00, 
+  0x00, 0x00, 0x00, 0x00, 0xd2, 0x13, 0x10, 0x00, 0x00, 0x00, 0x00, 0x00, 
+  0xd9, 0x13, 0x10, 0x00, 0x00, 0x00, 0x00, 0x00, 0xd9, 0x13, 0x10, 0x00, 
+  0x00, 0x00, 0x00, 0x00, 0xe4, 0x13, 0x10, 0x00, 0x00, 0x00, 0x00, 0x00, 
+  0xd9, 0x13, 0x10, 0x00, 0x00, 0x00, 0x00, 0x00, 0xef, 0x13, 0x10, 0x00, 
+  0x00, 0x00, 0x00, 0x00, 0xfa, 0x13, 0x10, 0x00, 0x00, 0x00, 0x00, 0x00, 
+  0x03, 0x14, 0x10, 0x00, 0x00, 0x00, 0x00, 0x00, 0x0c, 0x14, 0x10, 0x00, 
+  0x00, 0x00, 0x00, 0x00, 0x15, 0x14, 0x10, 0x00, 0x00, 0x00, 0x00, 0x00, 
+  0x23, 0x14, 0x10, 0x00, 0x00, 0x00, 0x00, 0x00, 0x2a, 0x14, 0x10, 0x00, 
+  0x00, 0x00, 0x00, 0x00, 0x23, 0x14, 0x10, 0x00, 0x00, 0x00, 0x00, 0x00, 
+  0x31, 0x14, 0x10, 0x00, 0x00, 0x00, 0x00, 0x00, 0x3d, 0x14, 0x10, 0x00, 
+  0x00, 0x00, 0x00, 0x00, 0xd9, 0x13, 0x10, 0x00, 0x00, 0x00, 0x00, 0x00, 
+  0x49, 0x14, 0x10, 0x00, 0x00, 0x00, 0x00, 0x00, 0x40, 0x09, 0x10, 0x00, 
+  0x00, 0x00, 0x00, 0x00, 0x62, 0x09, 0x10, 0x00, 0x00, 0x00, 0x00, 0x00, 
+  0x70, 0x09, 0x10, 0x00, 0x00, 0x00, 0x00, 0x00, 0x8e, 0x09, 0x10, 0x00, 
+  0x00, 0x00, 0x00, 0x00, 0xc0, 0x09, 0x10, 0x00, 0x00, 0x00, 0x00, 0x00, 
+  0xda, 0x09, 0x10, 0x00, 0x00, 0x00, 0x00, 0x00, 0xf7, 0x09, 0x10, 0x00, 
+  0x00, 0x00, 0x00, 0x00, 0x14, 0x0a, 0x10, 0x00, 0x00, 0x00, 0x00, 0x00, 
   0x22, 0x00, 0x00, 0x00, 0x00, 0x00, 0x00, 0x00, 0x0e, 0x00, 0x00, 0x00, 
   0x00, 0x00, 0x00, 0x00, 0x1e, 0x00, 0x00, 0x00, 0x00, 0x00, 0x00, 0x00, 
   0x32, 0x00, 0x00, 0x00, 0x00, 0x00, 0x00, 0x00, 0x1a, 0x00, 0x00, 0x00, 
@@ -14491,11 +14905,12 @@ static void w2c_kit_text__cutting__first_far(Machine *, u64, u32, u64, u64, u64)
 static u32 w2c_core__cmp__slices__groups_equal___i8_31_core__cmp__numbers__U8PartialEq___(Machine *, u64, u64, u64);
 static void w2c_kit_text__addresses__read_addr(Machine *, u64, u64, u64);
 static void w2c_kit_text__bytes__read_bytes(Machine *, u64, u64, u64, u64);
-static u32 w2c_tcp_numbers__sums__long_sum(Machine *, u64, u64);
-static void w2c_tcp_wire__options_left__OptionsLeft__next(Machine *, u64, u64);
 static void w2c_kit_text__cutting__first_farther(Machine *, u64, u32, u64, u64, u64);
+static u32 w2c_core__slice__scan__any_in_quarters(Machine *, u64, u64, u64);
 static void w2c_kit_text__addresses__read_octet(Machine *, u64, u64, u64);
 static u32 w2c_std_alloc__vec__Vec__move_to____8c6c02ecfde2865e_(Machine *, u64, u64);
+static u32 w2c_tcp_numbers__sums__long_sum(Machine *, u64, u64);
+static void w2c_tcp_wire__options_left__OptionsLeft__next(Machine *, u64, u64);
 static u32 w2c_core__fmt__utf8__is_utf8(Machine *, u64, u64);
 static u32 w2c_core__fmt__formatter__Formatter__write_piece____a46843f377dcc739_(Machine *, u64, u64);
 static u32 w2c_std_alloc__vec__Vec__grow_amortized____c6e8460222b7fe82_(Machine *, u64, u64);
@@ -15284,17 +15699,12 @@ static u32 w2c_core__cmp__slices__groups_equal___i8_31_core__cmp__numbers__U8Par
   const u8 *near3;
   const u8 *near4;
   const u8 *near5;
-  const u8 *near6;
-  const u8 *near7;
-  const u8 *near8;
-  const u8 *near9;
-  const u8 *near10;
-  const u8 *near11;
-  u32 w2c_l10 = 0;
-  u64 w2c_l3 = 0, w2c_l4 = 0, w2c_l5 = 0, w2c_l6 = 0, w2c_l7 = 0, w2c_l8 = 0, w2c_l9 = 0;
+  u32 w2c_l11 = 0;
+  u64 w2c_l3 = 0, w2c_l4 = 0, w2c_l5 = 0, w2c_l6 = 0, w2c_l7 = 0, w2c_l8 = 0, w2c_l9 = 0, w2c_l10 = 0;
   u32 w2c_i0, w2c_i1, w2c_i2, w2c_i3, w2c_i4, w2c_i5, w2c_i6;
   u64 w2c_j0, w2c_j1, w2c_j2, w2c_j3, w2c_j4, w2c_j5, w2c_j6, w2c_j7;
   w2c_j0 = instance->w2c___stack_pointer;
+  w2c_l3 = w2c_j0;
   w2c_j1 = 16ull;
   w2c_i0 = (u64)((s64)w2c_j0 < (s64)w2c_j1);
   if (w2c_i0) {goto w2c_B2;}
@@ -15349,12 +15759,12 @@ static u32 w2c_core__cmp__slices__groups_equal___i8_31_core__cmp__numbers__U8Par
   w2c_j2 = w2c_p1;
   w2c_j3 = 18446744073709551612ull;
   w2c_j2 += w2c_j3;
-  w2c_l3 = w2c_j2;
+  w2c_l4 = w2c_j2;
   w2c_j1 += w2c_j2;
   w2c_i1 = (u32)(w2c_j1);
   w2c_i1 = i32_load8_u(&instance->w2c_memory, (u64)(w2c_i1));
   w2c_j2 = w2c_p2;
-  w2c_j3 = w2c_l3;
+  w2c_j3 = w2c_l4;
   w2c_j2 += w2c_j3;
   w2c_i2 = (u32)(w2c_j2);
   w2c_i2 = i32_load8_u(&instance->w2c_memory, (u64)(w2c_i2));
@@ -15363,12 +15773,12 @@ static u32 w2c_core__cmp__slices__groups_equal___i8_31_core__cmp__numbers__U8Par
   w2c_j3 = w2c_p1;
   w2c_j4 = 18446744073709551613ull;
   w2c_j3 += w2c_j4;
-  w2c_l3 = w2c_j3;
+  w2c_l4 = w2c_j3;
   w2c_j2 += w2c_j3;
   w2c_i2 = (u32)(w2c_j2);
   w2c_i2 = i32_load8_u(&instance->w2c_memory, (u64)(w2c_i2));
   w2c_j3 = w2c_p2;
-  w2c_j4 = w2c_l3;
+  w2c_j4 = w2c_l4;
   w2c_j3 += w2c_j4;
   w2c_i3 = (u32)(w2c_j3);
   w2c_i3 = i32_load8_u(&instance->w2c_memory, (u64)(w2c_i3));
@@ -15378,12 +15788,12 @@ static u32 w2c_core__cmp__slices__groups_equal___i8_31_core__cmp__numbers__U8Par
   w2c_j3 = w2c_p1;
   w2c_j4 = 18446744073709551614ull;
   w2c_j3 += w2c_j4;
-  w2c_l3 = w2c_j3;
+  w2c_l4 = w2c_j3;
   w2c_j2 += w2c_j3;
   w2c_i2 = (u32)(w2c_j2);
   w2c_i2 = i32_load8_u(&instance->w2c_memory, (u64)(w2c_i2));
   w2c_j3 = w2c_p2;
-  w2c_j4 = w2c_l3;
+  w2c_j4 = w2c_l4;
   w2c_j3 += w2c_j4;
   w2c_i3 = (u32)(w2c_j3);
   w2c_i3 = i32_load8_u(&instance->w2c_memory, (u64)(w2c_i3));
@@ -15393,19 +15803,19 @@ static u32 w2c_core__cmp__slices__groups_equal___i8_31_core__cmp__numbers__U8Par
   w2c_j3 = w2c_p1;
   w2c_j4 = 18446744073709551615ull;
   w2c_j3 += w2c_j4;
-  w2c_l3 = w2c_j3;
+  w2c_l4 = w2c_j3;
   w2c_j2 += w2c_j3;
   w2c_i2 = (u32)(w2c_j2);
   w2c_i2 = i32_load8_u(&instance->w2c_memory, (u64)(w2c_i2));
   w2c_j3 = w2c_p2;
-  w2c_j4 = w2c_l3;
+  w2c_j4 = w2c_l4;
   w2c_j3 += w2c_j4;
   w2c_i3 = (u32)(w2c_j3);
   w2c_i3 = i32_load8_u(&instance->w2c_memory, (u64)(w2c_i3));
   w2c_i2 = w2c_i2 != w2c_i3;
   w2c_i1 |= w2c_i2;
   w2c_i0 |= w2c_i1;
-  w2c_l10 = w2c_i0;
+  w2c_l11 = w2c_i0;
   goto w2c_B0;
   w2c_B3:;
   w2c_j0 = w2c_p1;
@@ -15413,346 +15823,10 @@ static u32 w2c_core__cmp__slices__groups_equal___i8_31_core__cmp__numbers__U8Par
   w2c_i0 = w2c_j0 > w2c_j1;
   if (w2c_i0) {goto w2c_B4;}
   w2c_j0 = w2c_p0;
-  w2c_j1 = w2c_p1;
-  w2c_j2 = 18446744073709551608ull;
-  w2c_j1 += w2c_j2;
-  w2c_p1 = w2c_j1;
-  w2c_j2 = 8ull;
-  w2c_j3 = w2c_p1;
-  w2c_j4 = 8ull;
-  w2c_i3 = w2c_j3 < w2c_j4;
-  w2c_j1 = w2c_i3 ? w2c_j1 : w2c_j2;
-  w2c_l4 = w2c_j1;
-  w2c_j0 += w2c_j1;
-  w2c_l3 = w2c_j0;
-  w2c_i0 = (u32)(w2c_j0);
-  w2c_i0 = i32_load8_u(&instance->w2c_memory, (u64)(w2c_i0));
   w2c_j1 = w2c_p2;
-  w2c_j2 = w2c_l4;
-  w2c_j1 += w2c_j2;
-  w2c_l4 = w2c_j1;
-  w2c_i1 = (u32)(w2c_j1);
-  w2c_i1 = i32_load8_u(&instance->w2c_memory, (u64)(w2c_i1));
-  w2c_i0 = w2c_i0 != w2c_i1;
-  w2c_j1 = w2c_p0;
   w2c_j2 = w2c_p1;
-  w2c_j3 = 16ull;
-  w2c_j4 = w2c_p1;
-  w2c_j5 = 16ull;
-  w2c_i4 = w2c_j4 < w2c_j5;
-  w2c_j2 = w2c_i4 ? w2c_j2 : w2c_j3;
-  w2c_l5 = w2c_j2;
-  w2c_j1 += w2c_j2;
-  w2c_l6 = w2c_j1;
-  w2c_i1 = (u32)(w2c_j1);
-  w2c_i1 = i32_load8_u(&instance->w2c_memory, (u64)(w2c_i1));
-  w2c_j2 = w2c_p2;
-  w2c_j3 = w2c_l5;
-  w2c_j2 += w2c_j3;
-  w2c_l5 = w2c_j2;
-  w2c_i2 = (u32)(w2c_j2);
-  w2c_i2 = i32_load8_u(&instance->w2c_memory, (u64)(w2c_i2));
-  w2c_i1 = w2c_i1 != w2c_i2;
-  w2c_i0 |= w2c_i1;
-  w2c_j1 = w2c_p0;
-  w2c_j2 = w2c_p1;
-  w2c_j1 += w2c_j2;
-  w2c_l7 = w2c_j1;
-  w2c_i1 = (u32)(w2c_j1);
-  w2c_i1 = i32_load8_u(&instance->w2c_memory, (u64)(w2c_i1));
-  w2c_j2 = w2c_p2;
-  w2c_j3 = w2c_p1;
-  w2c_j2 += w2c_j3;
-  w2c_p1 = w2c_j2;
-  w2c_i2 = (u32)(w2c_j2);
-  w2c_i2 = i32_load8_u(&instance->w2c_memory, (u64)(w2c_i2));
-  w2c_i1 = w2c_i1 != w2c_i2;
-  w2c_i0 |= w2c_i1;
-  w2c_j1 = w2c_l3;
-  w2c_i1 = (u32)(w2c_j1);
-  near0 = read_place(&instance->w2c_memory, (u32)w2c_l3 + 1u, 7);
-  w2c_i1 = get8(near0 + 0);
-  w2c_j2 = w2c_l4;
-  w2c_i2 = (u32)(w2c_j2);
-  near1 = read_place(&instance->w2c_memory, (u32)w2c_l4 + 1u, 7);
-  w2c_i2 = get8(near1 + 0);
-  w2c_i1 = w2c_i1 != w2c_i2;
-  w2c_j2 = w2c_l6;
-  w2c_i2 = (u32)(w2c_j2);
-  near3 = read_place(&instance->w2c_memory, (u32)w2c_l6 + 1u, 7);
-  w2c_i2 = get8(near3 + 0);
-  w2c_j3 = w2c_l5;
-  w2c_i3 = (u32)(w2c_j3);
-  near2 = read_place(&instance->w2c_memory, (u32)w2c_l5 + 1u, 7);
-  w2c_i3 = get8(near2 + 0);
-  w2c_i2 = w2c_i2 != w2c_i3;
-  w2c_i1 |= w2c_i2;
-  w2c_j2 = w2c_l7;
-  w2c_i2 = (u32)(w2c_j2);
-  near4 = read_place(&instance->w2c_memory, (u32)w2c_l7 + 1u, 7);
-  w2c_i2 = get8(near4 + 0);
-  w2c_j3 = w2c_p1;
-  w2c_i3 = (u32)(w2c_j3);
-  near5 = read_place(&instance->w2c_memory, (u32)w2c_p1 + 1u, 7);
-  w2c_i3 = get8(near5 + 0);
-  w2c_i2 = w2c_i2 != w2c_i3;
-  w2c_i1 |= w2c_i2;
-  w2c_i2 = 1u;
-  w2c_i1 <<= (w2c_i2 & 31);
-  w2c_i0 |= w2c_i1;
-  w2c_j1 = w2c_l3;
-  w2c_i1 = (u32)(w2c_j1);
-  w2c_i1 = get8(near0 + 2);
-  w2c_j2 = w2c_l4;
-  w2c_i2 = (u32)(w2c_j2);
-  w2c_i2 = get8(near1 + 2);
-  w2c_i1 = w2c_i1 != w2c_i2;
-  w2c_j2 = w2c_l6;
-  w2c_i2 = (u32)(w2c_j2);
-  w2c_i2 = get8(near3 + 2);
-  w2c_j3 = w2c_l5;
-  w2c_i3 = (u32)(w2c_j3);
-  w2c_i3 = get8(near2 + 2);
-  w2c_i2 = w2c_i2 != w2c_i3;
-  w2c_i1 |= w2c_i2;
-  w2c_j2 = w2c_l7;
-  w2c_i2 = (u32)(w2c_j2);
-  w2c_i2 = get8(near4 + 2);
-  w2c_j3 = w2c_p1;
-  w2c_i3 = (u32)(w2c_j3);
-  w2c_i3 = get8(near5 + 2);
-  w2c_i2 = w2c_i2 != w2c_i3;
-  w2c_i1 |= w2c_i2;
-  w2c_i2 = 3u;
-  w2c_i1 <<= (w2c_i2 & 31);
-  w2c_j2 = w2c_l3;
-  w2c_i2 = (u32)(w2c_j2);
-  w2c_i2 = get8(near0 + 1);
-  w2c_j3 = w2c_l4;
-  w2c_i3 = (u32)(w2c_j3);
-  w2c_i3 = get8(near1 + 1);
-  w2c_i2 = w2c_i2 != w2c_i3;
-  w2c_j3 = w2c_l6;
-  w2c_i3 = (u32)(w2c_j3);
-  w2c_i3 = get8(near3 + 1);
-  w2c_j4 = w2c_l5;
-  w2c_i4 = (u32)(w2c_j4);
-  w2c_i4 = get8(near2 + 1);
-  w2c_i3 = w2c_i3 != w2c_i4;
-  w2c_i2 |= w2c_i3;
-  w2c_j3 = w2c_l7;
-  w2c_i3 = (u32)(w2c_j3);
-  w2c_i3 = get8(near4 + 1);
-  w2c_j4 = w2c_p1;
-  w2c_i4 = (u32)(w2c_j4);
-  w2c_i4 = get8(near5 + 1);
-  w2c_i3 = w2c_i3 != w2c_i4;
-  w2c_i2 |= w2c_i3;
-  w2c_i3 = 2u;
-  w2c_i2 <<= (w2c_i3 & 31);
-  w2c_i1 |= w2c_i2;
-  w2c_i0 |= w2c_i1;
-  w2c_j1 = w2c_l3;
-  w2c_i1 = (u32)(w2c_j1);
-  w2c_i1 = get8(near0 + 3);
-  w2c_j2 = w2c_l4;
-  w2c_i2 = (u32)(w2c_j2);
-  w2c_i2 = get8(near1 + 3);
-  w2c_i1 = w2c_i1 != w2c_i2;
-  w2c_j2 = w2c_l6;
-  w2c_i2 = (u32)(w2c_j2);
-  w2c_i2 = get8(near3 + 3);
-  w2c_j3 = w2c_l5;
-  w2c_i3 = (u32)(w2c_j3);
-  w2c_i3 = get8(near2 + 3);
-  w2c_i2 = w2c_i2 != w2c_i3;
-  w2c_i1 |= w2c_i2;
-  w2c_j2 = w2c_l7;
-  w2c_i2 = (u32)(w2c_j2);
-  w2c_i2 = get8(near4 + 3);
-  w2c_j3 = w2c_p1;
-  w2c_i3 = (u32)(w2c_j3);
-  w2c_i3 = get8(near5 + 3);
-  w2c_i2 = w2c_i2 != w2c_i3;
-  w2c_i1 |= w2c_i2;
-  w2c_j2 = w2c_l3;
-  w2c_i2 = (u32)(w2c_j2);
-  w2c_i2 = get8(near0 + 4);
-  w2c_j3 = w2c_l4;
-  w2c_i3 = (u32)(w2c_j3);
-  w2c_i3 = get8(near1 + 4);
-  w2c_i2 = w2c_i2 != w2c_i3;
-  w2c_j3 = w2c_l6;
-  w2c_i3 = (u32)(w2c_j3);
-  w2c_i3 = get8(near3 + 4);
-  w2c_j4 = w2c_l5;
-  w2c_i4 = (u32)(w2c_j4);
-  w2c_i4 = get8(near2 + 4);
-  w2c_i3 = w2c_i3 != w2c_i4;
-  w2c_i2 |= w2c_i3;
-  w2c_j3 = w2c_l7;
-  w2c_i3 = (u32)(w2c_j3);
-  w2c_i3 = get8(near4 + 4);
-  w2c_j4 = w2c_p1;
-  w2c_i4 = (u32)(w2c_j4);
-  w2c_i4 = get8(near5 + 4);
-  w2c_i3 = w2c_i3 != w2c_i4;
-  w2c_i2 |= w2c_i3;
-  w2c_i3 = 1u;
-  w2c_i2 <<= (w2c_i3 & 31);
-  w2c_i1 |= w2c_i2;
-  w2c_j2 = w2c_l3;
-  w2c_i2 = (u32)(w2c_j2);
-  w2c_i2 = get8(near0 + 6);
-  w2c_j3 = w2c_l4;
-  w2c_i3 = (u32)(w2c_j3);
-  w2c_i3 = get8(near1 + 6);
-  w2c_i2 = w2c_i2 != w2c_i3;
-  w2c_j3 = w2c_l6;
-  w2c_i3 = (u32)(w2c_j3);
-  w2c_i3 = get8(near3 + 6);
-  w2c_j4 = w2c_l5;
-  w2c_i4 = (u32)(w2c_j4);
-  w2c_i4 = get8(near2 + 6);
-  w2c_i3 = w2c_i3 != w2c_i4;
-  w2c_i2 |= w2c_i3;
-  w2c_j3 = w2c_l7;
-  w2c_i3 = (u32)(w2c_j3);
-  w2c_i3 = get8(near4 + 6);
-  w2c_j4 = w2c_p1;
-  w2c_i4 = (u32)(w2c_j4);
-  w2c_i4 = get8(near5 + 6);
-  w2c_i3 = w2c_i3 != w2c_i4;
-  w2c_i2 |= w2c_i3;
-  w2c_i3 = 3u;
-  w2c_i2 <<= (w2c_i3 & 31);
-  w2c_j3 = w2c_l3;
-  w2c_i3 = (u32)(w2c_j3);
-  w2c_i3 = get8(near0 + 5);
-  w2c_j4 = w2c_l4;
-  w2c_i4 = (u32)(w2c_j4);
-  w2c_i4 = get8(near1 + 5);
-  w2c_i3 = w2c_i3 != w2c_i4;
-  w2c_j4 = w2c_l6;
-  w2c_i4 = (u32)(w2c_j4);
-  w2c_i4 = get8(near3 + 5);
-  w2c_j5 = w2c_l5;
-  w2c_i5 = (u32)(w2c_j5);
-  w2c_i5 = get8(near2 + 5);
-  w2c_i4 = w2c_i4 != w2c_i5;
-  w2c_i3 |= w2c_i4;
-  w2c_j4 = w2c_l7;
-  w2c_i4 = (u32)(w2c_j4);
-  w2c_i4 = get8(near4 + 5);
-  w2c_j5 = w2c_p1;
-  w2c_i5 = (u32)(w2c_j5);
-  w2c_i5 = get8(near5 + 5);
-  w2c_i4 = w2c_i4 != w2c_i5;
-  w2c_i3 |= w2c_i4;
-  w2c_i4 = 2u;
-  w2c_i3 <<= (w2c_i4 & 31);
-  w2c_i2 |= w2c_i3;
-  w2c_i1 |= w2c_i2;
-  w2c_i2 = 4u;
-  w2c_i1 <<= (w2c_i2 & 31);
-  w2c_i0 |= w2c_i1;
-  w2c_i1 = 255u;
-  w2c_i0 &= w2c_i1;
-  w2c_i1 = 0u;
-  w2c_i0 = w2c_i0 != w2c_i1;
-  w2c_j1 = w2c_p0;
-  w2c_i1 = (u32)(w2c_j1);
-  w2c_i1 = i32_load8_u(&instance->w2c_memory, (u64)(w2c_i1));
-  w2c_j2 = w2c_p2;
-  w2c_i2 = (u32)(w2c_j2);
-  w2c_i2 = i32_load8_u(&instance->w2c_memory, (u64)(w2c_i2));
-  w2c_i1 = w2c_i1 != w2c_i2;
-  w2c_i0 |= w2c_i1;
-  w2c_j1 = w2c_p0;
-  w2c_j2 = 1ull;
-  w2c_j1 += w2c_j2;
-  w2c_i1 = (u32)(w2c_j1);
-  w2c_i1 = i32_load8_u(&instance->w2c_memory, (u64)(w2c_i1));
-  w2c_j2 = w2c_p2;
-  w2c_j3 = 1ull;
-  w2c_j2 += w2c_j3;
-  w2c_i2 = (u32)(w2c_j2);
-  w2c_i2 = i32_load8_u(&instance->w2c_memory, (u64)(w2c_i2));
-  w2c_i1 = w2c_i1 != w2c_i2;
-  w2c_j2 = w2c_p0;
-  w2c_j3 = 2ull;
-  w2c_j2 += w2c_j3;
-  w2c_i2 = (u32)(w2c_j2);
-  w2c_i2 = i32_load8_u(&instance->w2c_memory, (u64)(w2c_i2));
-  w2c_j3 = w2c_p2;
-  w2c_j4 = 2ull;
-  w2c_j3 += w2c_j4;
-  w2c_i3 = (u32)(w2c_j3);
-  w2c_i3 = i32_load8_u(&instance->w2c_memory, (u64)(w2c_i3));
-  w2c_i2 = w2c_i2 != w2c_i3;
-  w2c_i1 |= w2c_i2;
-  w2c_i0 |= w2c_i1;
-  w2c_j1 = w2c_p0;
-  w2c_j2 = 3ull;
-  w2c_j1 += w2c_j2;
-  w2c_i1 = (u32)(w2c_j1);
-  w2c_i1 = i32_load8_u(&instance->w2c_memory, (u64)(w2c_i1));
-  w2c_j2 = w2c_p2;
-  w2c_j3 = 3ull;
-  w2c_j2 += w2c_j3;
-  w2c_i2 = (u32)(w2c_j2);
-  w2c_i2 = i32_load8_u(&instance->w2c_memory, (u64)(w2c_i2));
-  w2c_i1 = w2c_i1 != w2c_i2;
-  w2c_j2 = w2c_p0;
-  w2c_j3 = 4ull;
-  w2c_j2 += w2c_j3;
-  w2c_i2 = (u32)(w2c_j2);
-  w2c_i2 = i32_load8_u(&instance->w2c_memory, (u64)(w2c_i2));
-  w2c_j3 = w2c_p2;
-  w2c_j4 = 4ull;
-  w2c_j3 += w2c_j4;
-  w2c_i3 = (u32)(w2c_j3);
-  w2c_i3 = i32_load8_u(&instance->w2c_memory, (u64)(w2c_i3));
-  w2c_i2 = w2c_i2 != w2c_i3;
-  w2c_i1 |= w2c_i2;
-  w2c_j2 = w2c_p0;
-  w2c_j3 = 5ull;
-  w2c_j2 += w2c_j3;
-  w2c_i2 = (u32)(w2c_j2);
-  w2c_i2 = i32_load8_u(&instance->w2c_memory, (u64)(w2c_i2));
-  w2c_j3 = w2c_p2;
-  w2c_j4 = 5ull;
-  w2c_j3 += w2c_j4;
-  w2c_i3 = (u32)(w2c_j3);
-  w2c_i3 = i32_load8_u(&instance->w2c_memory, (u64)(w2c_i3));
-  w2c_i2 = w2c_i2 != w2c_i3;
-  w2c_j3 = w2c_p0;
-  w2c_j4 = 6ull;
-  w2c_j3 += w2c_j4;
-  w2c_i3 = (u32)(w2c_j3);
-  w2c_i3 = i32_load8_u(&instance->w2c_memory, (u64)(w2c_i3));
-  w2c_j4 = w2c_p2;
-  w2c_j5 = 6ull;
-  w2c_j4 += w2c_j5;
-  w2c_i4 = (u32)(w2c_j4);
-  w2c_i4 = i32_load8_u(&instance->w2c_memory, (u64)(w2c_i4));
-  w2c_i3 = w2c_i3 != w2c_i4;
-  w2c_i2 |= w2c_i3;
-  w2c_i1 |= w2c_i2;
-  w2c_i0 |= w2c_i1;
-  w2c_j1 = w2c_p0;
-  w2c_j2 = 7ull;
-  w2c_j1 += w2c_j2;
-  w2c_i1 = (u32)(w2c_j1);
-  w2c_i1 = i32_load8_u(&instance->w2c_memory, (u64)(w2c_i1));
-  w2c_j2 = w2c_p2;
-  w2c_j3 = 7ull;
-  w2c_j2 += w2c_j3;
-  w2c_i2 = (u32)(w2c_j2);
-  w2c_i2 = i32_load8_u(&instance->w2c_memory, (u64)(w2c_i2));
-  w2c_i1 = w2c_i1 != w2c_i2;
-  w2c_i0 |= w2c_i1;
-  w2c_l10 = w2c_i0;
+  w2c_i0 = w2c_core__slice__scan__any_in_quarters(instance, w2c_j0, w2c_j1, w2c_j2);
+  w2c_l11 = w2c_i0;
   goto w2c_B0;
   w2c_B4:;
   w2c_j0 = w2c_p1;
@@ -15762,167 +15836,167 @@ static u32 w2c_core__cmp__slices__groups_equal___i8_31_core__cmp__numbers__U8Par
   w2c_j0 = w2c_p1;
   w2c_j1 = 18446744073709551552ull;
   w2c_j0 &= w2c_j1;
-  w2c_l8 = w2c_j0;
-  w2c_j0 = 0ull;
-  w2c_l9 = w2c_j0;
-  w2c_j0 = w2c_p0;
   w2c_l5 = w2c_j0;
-  w2c_j0 = w2c_p2;
+  w2c_j0 = 0ull;
+  w2c_l6 = w2c_j0;
+  w2c_j0 = w2c_p0;
   w2c_l7 = w2c_j0;
+  w2c_j0 = w2c_p2;
+  w2c_l8 = w2c_j0;
   w2c_L6: 
     w2c_i0 = 0u;
-    w2c_l10 = w2c_i0;
+    w2c_l11 = w2c_i0;
     w2c_j0 = 0ull;
-    w2c_l3 = w2c_j0;
+    w2c_l4 = w2c_j0;
     w2c_L7: 
-      w2c_i0 = w2c_l10;
-      w2c_j1 = w2c_l5;
-      w2c_j2 = w2c_l3;
+      w2c_i0 = w2c_l11;
+      w2c_j1 = w2c_l7;
+      w2c_j2 = w2c_l4;
       w2c_j1 += w2c_j2;
-      w2c_l4 = w2c_j1;
+      w2c_l9 = w2c_j1;
       w2c_i1 = (u32)(w2c_j1);
       w2c_i1 = i32_load8_u(&instance->w2c_memory, (u64)(w2c_i1));
-      w2c_j2 = w2c_l7;
-      w2c_j3 = w2c_l3;
+      w2c_j2 = w2c_l8;
+      w2c_j3 = w2c_l4;
       w2c_j2 += w2c_j3;
-      w2c_l6 = w2c_j2;
+      w2c_l10 = w2c_j2;
       w2c_i2 = (u32)(w2c_j2);
       w2c_i2 = i32_load8_u(&instance->w2c_memory, (u64)(w2c_i2));
       w2c_i1 = w2c_i1 != w2c_i2;
       w2c_i0 |= w2c_i1;
-      w2c_j1 = w2c_l4;
+      w2c_j1 = w2c_l9;
       w2c_j2 = 1ull;
       w2c_j1 += w2c_j2;
       w2c_i1 = (u32)(w2c_j1);
       w2c_i1 = i32_load8_u(&instance->w2c_memory, (u64)(w2c_i1));
-      w2c_j2 = w2c_l6;
+      w2c_j2 = w2c_l10;
       w2c_j3 = 1ull;
       w2c_j2 += w2c_j3;
       w2c_i2 = (u32)(w2c_j2);
       w2c_i2 = i32_load8_u(&instance->w2c_memory, (u64)(w2c_i2));
       w2c_i1 = w2c_i1 != w2c_i2;
       w2c_i0 |= w2c_i1;
-      w2c_l10 = w2c_i0;
-      w2c_j0 = w2c_l3;
+      w2c_l11 = w2c_i0;
+      w2c_j0 = w2c_l4;
       w2c_j1 = 2ull;
       w2c_j0 += w2c_j1;
-      w2c_l3 = w2c_j0;
+      w2c_l4 = w2c_j0;
       w2c_j1 = 64ull;
       w2c_i0 = w2c_j0 != w2c_j1;
       if (w2c_i0) {goto w2c_L7;}
-    w2c_i0 = w2c_l10;
+    w2c_i0 = w2c_l11;
     w2c_i1 = 1u;
     w2c_i0 &= w2c_i1;
     if (w2c_i0) {goto w2c_B5;}
-    w2c_j0 = w2c_l5;
-    w2c_j1 = 64ull;
-    w2c_j0 += w2c_j1;
-    w2c_l5 = w2c_j0;
     w2c_j0 = w2c_l7;
     w2c_j1 = 64ull;
     w2c_j0 += w2c_j1;
     w2c_l7 = w2c_j0;
+    w2c_j0 = w2c_l8;
+    w2c_j1 = 64ull;
+    w2c_j0 += w2c_j1;
+    w2c_l8 = w2c_j0;
     w2c_j0 = w2c_p1;
-    w2c_j1 = w2c_l9;
+    w2c_j1 = w2c_l6;
     w2c_j2 = 64ull;
     w2c_j1 += w2c_j2;
-    w2c_l9 = w2c_j1;
+    w2c_l6 = w2c_j1;
     w2c_j0 -= w2c_j1;
     w2c_j1 = 63ull;
     w2c_i0 = w2c_j0 > w2c_j1;
     if (w2c_i0) {goto w2c_L6;}
-  w2c_j0 = w2c_l8;
-  w2c_l9 = w2c_j0;
+  w2c_j0 = w2c_l5;
+  w2c_l6 = w2c_j0;
   w2c_B5:;
   w2c_j0 = w2c_p1;
-  w2c_j1 = w2c_l9;
+  w2c_j1 = w2c_l6;
   w2c_j0 -= w2c_j1;
-  w2c_l6 = w2c_j0;
+  w2c_l10 = w2c_j0;
   w2c_j1 = 32ull;
   w2c_i0 = w2c_j0 < w2c_j1;
   if (w2c_i0) {goto w2c_B8;}
   w2c_j0 = w2c_p2;
-  w2c_j1 = w2c_l9;
-  w2c_j0 += w2c_j1;
-  w2c_l3 = w2c_j0;
-  w2c_j0 = w2c_p0;
-  w2c_j1 = w2c_l9;
+  w2c_j1 = w2c_l6;
   w2c_j0 += w2c_j1;
   w2c_l4 = w2c_j0;
+  w2c_j0 = w2c_p0;
+  w2c_j1 = w2c_l6;
+  w2c_j0 += w2c_j1;
+  w2c_l9 = w2c_j0;
   w2c_L10: 
     w2c_i0 = 1u;
-    w2c_l10 = w2c_i0;
-    w2c_j0 = w2c_l4;
+    w2c_l11 = w2c_i0;
+    w2c_j0 = w2c_l9;
     w2c_i0 = (u32)(w2c_j0);
-    near7 = read_place(&instance->w2c_memory, (u32)w2c_l4 + 0u, 32);
-    w2c_i0 = get8(near7 + 0);
-    w2c_j1 = w2c_l3;
-    w2c_i1 = (u32)(w2c_j1);
-    near6 = read_place(&instance->w2c_memory, (u32)w2c_l3 + 0u, 32);
-    w2c_i1 = get8(near6 + 0);
-    w2c_i0 = w2c_i0 != w2c_i1;
+    near1 = read_place(&instance->w2c_memory, (u32)w2c_l9 + 0u, 32);
+    w2c_i0 = get8(near1 + 0);
     w2c_j1 = w2c_l4;
     w2c_i1 = (u32)(w2c_j1);
-    w2c_i1 = get8(near7 + 1);
-    w2c_j2 = w2c_l3;
+    near0 = read_place(&instance->w2c_memory, (u32)w2c_l4 + 0u, 32);
+    w2c_i1 = get8(near0 + 0);
+    w2c_i0 = w2c_i0 != w2c_i1;
+    w2c_j1 = w2c_l9;
+    w2c_i1 = (u32)(w2c_j1);
+    w2c_i1 = get8(near1 + 1);
+    w2c_j2 = w2c_l4;
     w2c_i2 = (u32)(w2c_j2);
-    w2c_i2 = get8(near6 + 1);
+    w2c_i2 = get8(near0 + 1);
     w2c_i1 = w2c_i1 != w2c_i2;
     w2c_i2 = 1u;
     w2c_i1 <<= (w2c_i2 & 31);
     w2c_i0 |= w2c_i1;
-    w2c_j1 = w2c_l4;
+    w2c_j1 = w2c_l9;
     w2c_i1 = (u32)(w2c_j1);
-    w2c_i1 = get8(near7 + 3);
-    w2c_j2 = w2c_l3;
+    w2c_i1 = get8(near1 + 3);
+    w2c_j2 = w2c_l4;
     w2c_i2 = (u32)(w2c_j2);
-    w2c_i2 = get8(near6 + 3);
+    w2c_i2 = get8(near0 + 3);
     w2c_i1 = w2c_i1 != w2c_i2;
     w2c_i2 = 3u;
     w2c_i1 <<= (w2c_i2 & 31);
-    w2c_j2 = w2c_l4;
+    w2c_j2 = w2c_l9;
     w2c_i2 = (u32)(w2c_j2);
-    w2c_i2 = get8(near7 + 2);
-    w2c_j3 = w2c_l3;
+    w2c_i2 = get8(near1 + 2);
+    w2c_j3 = w2c_l4;
     w2c_i3 = (u32)(w2c_j3);
-    w2c_i3 = get8(near6 + 2);
+    w2c_i3 = get8(near0 + 2);
     w2c_i2 = w2c_i2 != w2c_i3;
     w2c_i3 = 2u;
     w2c_i2 <<= (w2c_i3 & 31);
     w2c_i1 |= w2c_i2;
     w2c_i0 |= w2c_i1;
-    w2c_j1 = w2c_l4;
+    w2c_j1 = w2c_l9;
     w2c_i1 = (u32)(w2c_j1);
-    w2c_i1 = get8(near7 + 4);
-    w2c_j2 = w2c_l3;
-    w2c_i2 = (u32)(w2c_j2);
-    w2c_i2 = get8(near6 + 4);
-    w2c_i1 = w2c_i1 != w2c_i2;
+    w2c_i1 = get8(near1 + 4);
     w2c_j2 = w2c_l4;
     w2c_i2 = (u32)(w2c_j2);
-    w2c_i2 = get8(near7 + 5);
-    w2c_j3 = w2c_l3;
+    w2c_i2 = get8(near0 + 4);
+    w2c_i1 = w2c_i1 != w2c_i2;
+    w2c_j2 = w2c_l9;
+    w2c_i2 = (u32)(w2c_j2);
+    w2c_i2 = get8(near1 + 5);
+    w2c_j3 = w2c_l4;
     w2c_i3 = (u32)(w2c_j3);
-    w2c_i3 = get8(near6 + 5);
+    w2c_i3 = get8(near0 + 5);
     w2c_i2 = w2c_i2 != w2c_i3;
     w2c_i3 = 1u;
     w2c_i2 <<= (w2c_i3 & 31);
     w2c_i1 |= w2c_i2;
-    w2c_j2 = w2c_l4;
+    w2c_j2 = w2c_l9;
     w2c_i2 = (u32)(w2c_j2);
-    w2c_i2 = get8(near7 + 7);
-    w2c_j3 = w2c_l3;
+    w2c_i2 = get8(near1 + 7);
+    w2c_j3 = w2c_l4;
     w2c_i3 = (u32)(w2c_j3);
-    w2c_i3 = get8(near6 + 7);
+    w2c_i3 = get8(near0 + 7);
     w2c_i2 = w2c_i2 != w2c_i3;
     w2c_i3 = 3u;
     w2c_i2 <<= (w2c_i3 & 31);
-    w2c_j3 = w2c_l4;
+    w2c_j3 = w2c_l9;
     w2c_i3 = (u32)(w2c_j3);
-    w2c_i3 = get8(near7 + 6);
-    w2c_j4 = w2c_l3;
+    w2c_i3 = get8(near1 + 6);
+    w2c_j4 = w2c_l4;
     w2c_i4 = (u32)(w2c_j4);
-    w2c_i4 = get8(near6 + 6);
+    w2c_i4 = get8(near0 + 6);
     w2c_i3 = w2c_i3 != w2c_i4;
     w2c_i4 = 2u;
     w2c_i3 <<= (w2c_i4 & 31);
@@ -15931,38 +16005,38 @@ static u32 w2c_core__cmp__slices__groups_equal___i8_31_core__cmp__numbers__U8Par
     w2c_i2 = 4u;
     w2c_i1 <<= (w2c_i2 & 31);
     w2c_i0 |= w2c_i1;
-    w2c_j1 = w2c_l4;
+    w2c_j1 = w2c_l9;
     w2c_i1 = (u32)(w2c_j1);
-    w2c_i1 = get8(near7 + 12);
-    w2c_j2 = w2c_l3;
-    w2c_i2 = (u32)(w2c_j2);
-    w2c_i2 = get8(near6 + 12);
-    w2c_i1 = w2c_i1 != w2c_i2;
+    w2c_i1 = get8(near1 + 12);
     w2c_j2 = w2c_l4;
     w2c_i2 = (u32)(w2c_j2);
-    w2c_i2 = get8(near7 + 13);
-    w2c_j3 = w2c_l3;
+    w2c_i2 = get8(near0 + 12);
+    w2c_i1 = w2c_i1 != w2c_i2;
+    w2c_j2 = w2c_l9;
+    w2c_i2 = (u32)(w2c_j2);
+    w2c_i2 = get8(near1 + 13);
+    w2c_j3 = w2c_l4;
     w2c_i3 = (u32)(w2c_j3);
-    w2c_i3 = get8(near6 + 13);
+    w2c_i3 = get8(near0 + 13);
     w2c_i2 = w2c_i2 != w2c_i3;
     w2c_i3 = 1u;
     w2c_i2 <<= (w2c_i3 & 31);
     w2c_i1 |= w2c_i2;
-    w2c_j2 = w2c_l4;
+    w2c_j2 = w2c_l9;
     w2c_i2 = (u32)(w2c_j2);
-    w2c_i2 = get8(near7 + 15);
-    w2c_j3 = w2c_l3;
+    w2c_i2 = get8(near1 + 15);
+    w2c_j3 = w2c_l4;
     w2c_i3 = (u32)(w2c_j3);
-    w2c_i3 = get8(near6 + 15);
+    w2c_i3 = get8(near0 + 15);
     w2c_i2 = w2c_i2 != w2c_i3;
     w2c_i3 = 3u;
     w2c_i2 <<= (w2c_i3 & 31);
-    w2c_j3 = w2c_l4;
+    w2c_j3 = w2c_l9;
     w2c_i3 = (u32)(w2c_j3);
-    w2c_i3 = get8(near7 + 14);
-    w2c_j4 = w2c_l3;
+    w2c_i3 = get8(near1 + 14);
+    w2c_j4 = w2c_l4;
     w2c_i4 = (u32)(w2c_j4);
-    w2c_i4 = get8(near6 + 14);
+    w2c_i4 = get8(near0 + 14);
     w2c_i3 = w2c_i3 != w2c_i4;
     w2c_i4 = 2u;
     w2c_i3 <<= (w2c_i4 & 31);
@@ -15970,38 +16044,38 @@ static u32 w2c_core__cmp__slices__groups_equal___i8_31_core__cmp__numbers__U8Par
     w2c_i1 |= w2c_i2;
     w2c_i2 = 12u;
     w2c_i1 <<= (w2c_i2 & 31);
-    w2c_j2 = w2c_l4;
+    w2c_j2 = w2c_l9;
     w2c_i2 = (u32)(w2c_j2);
-    w2c_i2 = get8(near7 + 8);
-    w2c_j3 = w2c_l3;
-    w2c_i3 = (u32)(w2c_j3);
-    w2c_i3 = get8(near6 + 8);
-    w2c_i2 = w2c_i2 != w2c_i3;
+    w2c_i2 = get8(near1 + 8);
     w2c_j3 = w2c_l4;
     w2c_i3 = (u32)(w2c_j3);
-    w2c_i3 = get8(near7 + 9);
-    w2c_j4 = w2c_l3;
+    w2c_i3 = get8(near0 + 8);
+    w2c_i2 = w2c_i2 != w2c_i3;
+    w2c_j3 = w2c_l9;
+    w2c_i3 = (u32)(w2c_j3);
+    w2c_i3 = get8(near1 + 9);
+    w2c_j4 = w2c_l4;
     w2c_i4 = (u32)(w2c_j4);
-    w2c_i4 = get8(near6 + 9);
+    w2c_i4 = get8(near0 + 9);
     w2c_i3 = w2c_i3 != w2c_i4;
     w2c_i4 = 1u;
     w2c_i3 <<= (w2c_i4 & 31);
     w2c_i2 |= w2c_i3;
-    w2c_j3 = w2c_l4;
+    w2c_j3 = w2c_l9;
     w2c_i3 = (u32)(w2c_j3);
-    w2c_i3 = get8(near7 + 11);
-    w2c_j4 = w2c_l3;
+    w2c_i3 = get8(near1 + 11);
+    w2c_j4 = w2c_l4;
     w2c_i4 = (u32)(w2c_j4);
-    w2c_i4 = get8(near6 + 11);
+    w2c_i4 = get8(near0 + 11);
     w2c_i3 = w2c_i3 != w2c_i4;
     w2c_i4 = 3u;
     w2c_i3 <<= (w2c_i4 & 31);
-    w2c_j4 = w2c_l4;
+    w2c_j4 = w2c_l9;
     w2c_i4 = (u32)(w2c_j4);
-    w2c_i4 = get8(near7 + 10);
-    w2c_j5 = w2c_l3;
+    w2c_i4 = get8(near1 + 10);
+    w2c_j5 = w2c_l4;
     w2c_i5 = (u32)(w2c_j5);
-    w2c_i5 = get8(near6 + 10);
+    w2c_i5 = get8(near0 + 10);
     w2c_i4 = w2c_i4 != w2c_i5;
     w2c_i5 = 2u;
     w2c_i4 <<= (w2c_i5 & 31);
@@ -16011,75 +16085,75 @@ static u32 w2c_core__cmp__slices__groups_equal___i8_31_core__cmp__numbers__U8Par
     w2c_i2 <<= (w2c_i3 & 31);
     w2c_i1 |= w2c_i2;
     w2c_i0 |= w2c_i1;
-    w2c_j1 = w2c_l4;
+    w2c_j1 = w2c_l9;
     w2c_i1 = (u32)(w2c_j1);
-    w2c_i1 = get8(near7 + 16);
-    w2c_j2 = w2c_l3;
-    w2c_i2 = (u32)(w2c_j2);
-    w2c_i2 = get8(near6 + 16);
-    w2c_i1 = w2c_i1 != w2c_i2;
+    w2c_i1 = get8(near1 + 16);
     w2c_j2 = w2c_l4;
     w2c_i2 = (u32)(w2c_j2);
-    w2c_i2 = get8(near7 + 17);
-    w2c_j3 = w2c_l3;
+    w2c_i2 = get8(near0 + 16);
+    w2c_i1 = w2c_i1 != w2c_i2;
+    w2c_j2 = w2c_l9;
+    w2c_i2 = (u32)(w2c_j2);
+    w2c_i2 = get8(near1 + 17);
+    w2c_j3 = w2c_l4;
     w2c_i3 = (u32)(w2c_j3);
-    w2c_i3 = get8(near6 + 17);
+    w2c_i3 = get8(near0 + 17);
     w2c_i2 = w2c_i2 != w2c_i3;
     w2c_i3 = 1u;
     w2c_i2 <<= (w2c_i3 & 31);
     w2c_i1 |= w2c_i2;
-    w2c_j2 = w2c_l4;
+    w2c_j2 = w2c_l9;
     w2c_i2 = (u32)(w2c_j2);
-    w2c_i2 = get8(near7 + 19);
-    w2c_j3 = w2c_l3;
+    w2c_i2 = get8(near1 + 19);
+    w2c_j3 = w2c_l4;
     w2c_i3 = (u32)(w2c_j3);
-    w2c_i3 = get8(near6 + 19);
+    w2c_i3 = get8(near0 + 19);
     w2c_i2 = w2c_i2 != w2c_i3;
     w2c_i3 = 3u;
     w2c_i2 <<= (w2c_i3 & 31);
-    w2c_j3 = w2c_l4;
+    w2c_j3 = w2c_l9;
     w2c_i3 = (u32)(w2c_j3);
-    w2c_i3 = get8(near7 + 18);
-    w2c_j4 = w2c_l3;
+    w2c_i3 = get8(near1 + 18);
+    w2c_j4 = w2c_l4;
     w2c_i4 = (u32)(w2c_j4);
-    w2c_i4 = get8(near6 + 18);
+    w2c_i4 = get8(near0 + 18);
     w2c_i3 = w2c_i3 != w2c_i4;
     w2c_i4 = 2u;
     w2c_i3 <<= (w2c_i4 & 31);
     w2c_i2 |= w2c_i3;
     w2c_i1 |= w2c_i2;
-    w2c_j2 = w2c_l4;
+    w2c_j2 = w2c_l9;
     w2c_i2 = (u32)(w2c_j2);
-    w2c_i2 = get8(near7 + 20);
-    w2c_j3 = w2c_l3;
-    w2c_i3 = (u32)(w2c_j3);
-    w2c_i3 = get8(near6 + 20);
-    w2c_i2 = w2c_i2 != w2c_i3;
+    w2c_i2 = get8(near1 + 20);
     w2c_j3 = w2c_l4;
     w2c_i3 = (u32)(w2c_j3);
-    w2c_i3 = get8(near7 + 21);
-    w2c_j4 = w2c_l3;
+    w2c_i3 = get8(near0 + 20);
+    w2c_i2 = w2c_i2 != w2c_i3;
+    w2c_j3 = w2c_l9;
+    w2c_i3 = (u32)(w2c_j3);
+    w2c_i3 = get8(near1 + 21);
+    w2c_j4 = w2c_l4;
     w2c_i4 = (u32)(w2c_j4);
-    w2c_i4 = get8(near6 + 21);
+    w2c_i4 = get8(near0 + 21);
     w2c_i3 = w2c_i3 != w2c_i4;
     w2c_i4 = 1u;
     w2c_i3 <<= (w2c_i4 & 31);
     w2c_i2 |= w2c_i3;
-    w2c_j3 = w2c_l4;
+    w2c_j3 = w2c_l9;
     w2c_i3 = (u32)(w2c_j3);
-    w2c_i3 = get8(near7 + 23);
-    w2c_j4 = w2c_l3;
+    w2c_i3 = get8(near1 + 23);
+    w2c_j4 = w2c_l4;
     w2c_i4 = (u32)(w2c_j4);
-    w2c_i4 = get8(near6 + 23);
+    w2c_i4 = get8(near0 + 23);
     w2c_i3 = w2c_i3 != w2c_i4;
     w2c_i4 = 3u;
     w2c_i3 <<= (w2c_i4 & 31);
-    w2c_j4 = w2c_l4;
+    w2c_j4 = w2c_l9;
     w2c_i4 = (u32)(w2c_j4);
-    w2c_i4 = get8(near7 + 22);
-    w2c_j5 = w2c_l3;
+    w2c_i4 = get8(near1 + 22);
+    w2c_j5 = w2c_l4;
     w2c_i5 = (u32)(w2c_j5);
-    w2c_i5 = get8(near6 + 22);
+    w2c_i5 = get8(near0 + 22);
     w2c_i4 = w2c_i4 != w2c_i5;
     w2c_i5 = 2u;
     w2c_i4 <<= (w2c_i5 & 31);
@@ -16088,38 +16162,38 @@ static u32 w2c_core__cmp__slices__groups_equal___i8_31_core__cmp__numbers__U8Par
     w2c_i3 = 4u;
     w2c_i2 <<= (w2c_i3 & 31);
     w2c_i1 |= w2c_i2;
-    w2c_j2 = w2c_l4;
+    w2c_j2 = w2c_l9;
     w2c_i2 = (u32)(w2c_j2);
-    w2c_i2 = get8(near7 + 28);
-    w2c_j3 = w2c_l3;
-    w2c_i3 = (u32)(w2c_j3);
-    w2c_i3 = get8(near6 + 28);
-    w2c_i2 = w2c_i2 != w2c_i3;
+    w2c_i2 = get8(near1 + 28);
     w2c_j3 = w2c_l4;
     w2c_i3 = (u32)(w2c_j3);
-    w2c_i3 = get8(near7 + 29);
-    w2c_j4 = w2c_l3;
+    w2c_i3 = get8(near0 + 28);
+    w2c_i2 = w2c_i2 != w2c_i3;
+    w2c_j3 = w2c_l9;
+    w2c_i3 = (u32)(w2c_j3);
+    w2c_i3 = get8(near1 + 29);
+    w2c_j4 = w2c_l4;
     w2c_i4 = (u32)(w2c_j4);
-    w2c_i4 = get8(near6 + 29);
+    w2c_i4 = get8(near0 + 29);
     w2c_i3 = w2c_i3 != w2c_i4;
     w2c_i4 = 1u;
     w2c_i3 <<= (w2c_i4 & 31);
     w2c_i2 |= w2c_i3;
-    w2c_j3 = w2c_l4;
+    w2c_j3 = w2c_l9;
     w2c_i3 = (u32)(w2c_j3);
-    w2c_i3 = get8(near7 + 31);
-    w2c_j4 = w2c_l3;
+    w2c_i3 = get8(near1 + 31);
+    w2c_j4 = w2c_l4;
     w2c_i4 = (u32)(w2c_j4);
-    w2c_i4 = get8(near6 + 31);
+    w2c_i4 = get8(near0 + 31);
     w2c_i3 = w2c_i3 != w2c_i4;
     w2c_i4 = 3u;
     w2c_i3 <<= (w2c_i4 & 31);
-    w2c_j4 = w2c_l4;
+    w2c_j4 = w2c_l9;
     w2c_i4 = (u32)(w2c_j4);
-    w2c_i4 = get8(near7 + 30);
-    w2c_j5 = w2c_l3;
+    w2c_i4 = get8(near1 + 30);
+    w2c_j5 = w2c_l4;
     w2c_i5 = (u32)(w2c_j5);
-    w2c_i5 = get8(near6 + 30);
+    w2c_i5 = get8(near0 + 30);
     w2c_i4 = w2c_i4 != w2c_i5;
     w2c_i5 = 2u;
     w2c_i4 <<= (w2c_i5 & 31);
@@ -16127,38 +16201,38 @@ static u32 w2c_core__cmp__slices__groups_equal___i8_31_core__cmp__numbers__U8Par
     w2c_i2 |= w2c_i3;
     w2c_i3 = 12u;
     w2c_i2 <<= (w2c_i3 & 31);
-    w2c_j3 = w2c_l4;
+    w2c_j3 = w2c_l9;
     w2c_i3 = (u32)(w2c_j3);
-    w2c_i3 = get8(near7 + 24);
-    w2c_j4 = w2c_l3;
-    w2c_i4 = (u32)(w2c_j4);
-    w2c_i4 = get8(near6 + 24);
-    w2c_i3 = w2c_i3 != w2c_i4;
+    w2c_i3 = get8(near1 + 24);
     w2c_j4 = w2c_l4;
     w2c_i4 = (u32)(w2c_j4);
-    w2c_i4 = get8(near7 + 25);
-    w2c_j5 = w2c_l3;
+    w2c_i4 = get8(near0 + 24);
+    w2c_i3 = w2c_i3 != w2c_i4;
+    w2c_j4 = w2c_l9;
+    w2c_i4 = (u32)(w2c_j4);
+    w2c_i4 = get8(near1 + 25);
+    w2c_j5 = w2c_l4;
     w2c_i5 = (u32)(w2c_j5);
-    w2c_i5 = get8(near6 + 25);
+    w2c_i5 = get8(near0 + 25);
     w2c_i4 = w2c_i4 != w2c_i5;
     w2c_i5 = 1u;
     w2c_i4 <<= (w2c_i5 & 31);
     w2c_i3 |= w2c_i4;
-    w2c_j4 = w2c_l4;
+    w2c_j4 = w2c_l9;
     w2c_i4 = (u32)(w2c_j4);
-    w2c_i4 = get8(near7 + 27);
-    w2c_j5 = w2c_l3;
+    w2c_i4 = get8(near1 + 27);
+    w2c_j5 = w2c_l4;
     w2c_i5 = (u32)(w2c_j5);
-    w2c_i5 = get8(near6 + 27);
+    w2c_i5 = get8(near0 + 27);
     w2c_i4 = w2c_i4 != w2c_i5;
     w2c_i5 = 3u;
     w2c_i4 <<= (w2c_i5 & 31);
-    w2c_j5 = w2c_l4;
+    w2c_j5 = w2c_l9;
     w2c_i5 = (u32)(w2c_j5);
-    w2c_i5 = get8(near7 + 26);
-    w2c_j6 = w2c_l3;
+    w2c_i5 = get8(near1 + 26);
+    w2c_j6 = w2c_l4;
     w2c_i6 = (u32)(w2c_j6);
-    w2c_i6 = get8(near6 + 26);
+    w2c_i6 = get8(near0 + 26);
     w2c_i5 = w2c_i5 != w2c_i6;
     w2c_i6 = 2u;
     w2c_i5 <<= (w2c_i6 & 31);
@@ -16172,25 +16246,25 @@ static u32 w2c_core__cmp__slices__groups_equal___i8_31_core__cmp__numbers__U8Par
     w2c_i1 = 65535u;
     w2c_i0 &= w2c_i1;
     if (w2c_i0) {goto w2c_B9;}
-    w2c_j0 = w2c_l3;
-    w2c_j1 = 32ull;
-    w2c_j0 += w2c_j1;
-    w2c_l3 = w2c_j0;
     w2c_j0 = w2c_l4;
     w2c_j1 = 32ull;
     w2c_j0 += w2c_j1;
     w2c_l4 = w2c_j0;
-    w2c_j0 = w2c_l6;
+    w2c_j0 = w2c_l9;
+    w2c_j1 = 32ull;
+    w2c_j0 += w2c_j1;
+    w2c_l9 = w2c_j0;
+    w2c_j0 = w2c_l10;
     w2c_j1 = 18446744073709551584ull;
     w2c_j0 += w2c_j1;
-    w2c_l6 = w2c_j0;
+    w2c_l10 = w2c_j0;
     w2c_j1 = 32ull;
     w2c_i0 = w2c_j0 >= w2c_j1;
     if (w2c_i0) {goto w2c_L10;}
     goto w2c_B8;
   UNREACHABLE;
   w2c_B9:;
-  w2c_j0 = w2c_l6;
+  w2c_j0 = w2c_l10;
   w2c_j1 = 31ull;
   w2c_i0 = w2c_j0 > w2c_j1;
   if (w2c_i0) {goto w2c_B0;}
@@ -16199,82 +16273,82 @@ static u32 w2c_core__cmp__slices__groups_equal___i8_31_core__cmp__numbers__U8Par
   w2c_j1 = w2c_p1;
   w2c_j2 = 18446744073709551584ull;
   w2c_j1 += w2c_j2;
-  w2c_l4 = w2c_j1;
+  w2c_l9 = w2c_j1;
   w2c_j0 += w2c_j1;
-  w2c_l3 = w2c_j0;
+  w2c_l4 = w2c_j0;
   w2c_i0 = (u32)(w2c_j0);
   w2c_i0 = i32_load8_u(&instance->w2c_memory, (u64)(w2c_i0));
   w2c_j1 = w2c_p2;
-  w2c_j2 = w2c_l4;
+  w2c_j2 = w2c_l9;
   w2c_j1 += w2c_j2;
-  w2c_l4 = w2c_j1;
+  w2c_l9 = w2c_j1;
   w2c_i1 = (u32)(w2c_j1);
   w2c_i1 = i32_load8_u(&instance->w2c_memory, (u64)(w2c_i1));
   w2c_i0 = w2c_i0 != w2c_i1;
-  w2c_j1 = w2c_l3;
+  w2c_j1 = w2c_l4;
   w2c_i1 = (u32)(w2c_j1);
-  near8 = read_place(&instance->w2c_memory, (u32)w2c_l3 + 1u, 31);
-  w2c_i1 = get8(near8 + 0);
-  w2c_j2 = w2c_l4;
+  near2 = read_place(&instance->w2c_memory, (u32)w2c_l4 + 1u, 31);
+  w2c_i1 = get8(near2 + 0);
+  w2c_j2 = w2c_l9;
   w2c_i2 = (u32)(w2c_j2);
-  near9 = read_place(&instance->w2c_memory, (u32)w2c_l4 + 1u, 31);
-  w2c_i2 = get8(near9 + 0);
+  near3 = read_place(&instance->w2c_memory, (u32)w2c_l9 + 1u, 31);
+  w2c_i2 = get8(near3 + 0);
   w2c_i1 = w2c_i1 != w2c_i2;
   w2c_i2 = 1u;
   w2c_i1 <<= (w2c_i2 & 31);
   w2c_i0 |= w2c_i1;
-  w2c_j1 = w2c_l3;
+  w2c_j1 = w2c_l4;
   w2c_i1 = (u32)(w2c_j1);
-  w2c_i1 = get8(near8 + 2);
-  w2c_j2 = w2c_l4;
+  w2c_i1 = get8(near2 + 2);
+  w2c_j2 = w2c_l9;
   w2c_i2 = (u32)(w2c_j2);
-  w2c_i2 = get8(near9 + 2);
+  w2c_i2 = get8(near3 + 2);
   w2c_i1 = w2c_i1 != w2c_i2;
   w2c_i2 = 3u;
   w2c_i1 <<= (w2c_i2 & 31);
-  w2c_j2 = w2c_l3;
+  w2c_j2 = w2c_l4;
   w2c_i2 = (u32)(w2c_j2);
-  w2c_i2 = get8(near8 + 1);
-  w2c_j3 = w2c_l4;
+  w2c_i2 = get8(near2 + 1);
+  w2c_j3 = w2c_l9;
   w2c_i3 = (u32)(w2c_j3);
-  w2c_i3 = get8(near9 + 1);
+  w2c_i3 = get8(near3 + 1);
   w2c_i2 = w2c_i2 != w2c_i3;
   w2c_i3 = 2u;
   w2c_i2 <<= (w2c_i3 & 31);
   w2c_i1 |= w2c_i2;
   w2c_i0 |= w2c_i1;
-  w2c_j1 = w2c_l3;
+  w2c_j1 = w2c_l4;
   w2c_i1 = (u32)(w2c_j1);
-  w2c_i1 = get8(near8 + 3);
+  w2c_i1 = get8(near2 + 3);
+  w2c_j2 = w2c_l9;
+  w2c_i2 = (u32)(w2c_j2);
+  w2c_i2 = get8(near3 + 3);
+  w2c_i1 = w2c_i1 != w2c_i2;
   w2c_j2 = w2c_l4;
   w2c_i2 = (u32)(w2c_j2);
-  w2c_i2 = get8(near9 + 3);
-  w2c_i1 = w2c_i1 != w2c_i2;
-  w2c_j2 = w2c_l3;
-  w2c_i2 = (u32)(w2c_j2);
-  w2c_i2 = get8(near8 + 4);
-  w2c_j3 = w2c_l4;
+  w2c_i2 = get8(near2 + 4);
+  w2c_j3 = w2c_l9;
   w2c_i3 = (u32)(w2c_j3);
-  w2c_i3 = get8(near9 + 4);
+  w2c_i3 = get8(near3 + 4);
   w2c_i2 = w2c_i2 != w2c_i3;
   w2c_i3 = 1u;
   w2c_i2 <<= (w2c_i3 & 31);
   w2c_i1 |= w2c_i2;
-  w2c_j2 = w2c_l3;
+  w2c_j2 = w2c_l4;
   w2c_i2 = (u32)(w2c_j2);
-  w2c_i2 = get8(near8 + 6);
-  w2c_j3 = w2c_l4;
+  w2c_i2 = get8(near2 + 6);
+  w2c_j3 = w2c_l9;
   w2c_i3 = (u32)(w2c_j3);
-  w2c_i3 = get8(near9 + 6);
+  w2c_i3 = get8(near3 + 6);
   w2c_i2 = w2c_i2 != w2c_i3;
   w2c_i3 = 3u;
   w2c_i2 <<= (w2c_i3 & 31);
-  w2c_j3 = w2c_l3;
+  w2c_j3 = w2c_l4;
   w2c_i3 = (u32)(w2c_j3);
-  w2c_i3 = get8(near8 + 5);
-  w2c_j4 = w2c_l4;
+  w2c_i3 = get8(near2 + 5);
+  w2c_j4 = w2c_l9;
   w2c_i4 = (u32)(w2c_j4);
-  w2c_i4 = get8(near9 + 5);
+  w2c_i4 = get8(near3 + 5);
   w2c_i3 = w2c_i3 != w2c_i4;
   w2c_i4 = 2u;
   w2c_i3 <<= (w2c_i4 & 31);
@@ -16283,38 +16357,38 @@ static u32 w2c_core__cmp__slices__groups_equal___i8_31_core__cmp__numbers__U8Par
   w2c_i2 = 4u;
   w2c_i1 <<= (w2c_i2 & 31);
   w2c_i0 |= w2c_i1;
-  w2c_j1 = w2c_l3;
+  w2c_j1 = w2c_l4;
   w2c_i1 = (u32)(w2c_j1);
-  w2c_i1 = get8(near8 + 11);
+  w2c_i1 = get8(near2 + 11);
+  w2c_j2 = w2c_l9;
+  w2c_i2 = (u32)(w2c_j2);
+  w2c_i2 = get8(near3 + 11);
+  w2c_i1 = w2c_i1 != w2c_i2;
   w2c_j2 = w2c_l4;
   w2c_i2 = (u32)(w2c_j2);
-  w2c_i2 = get8(near9 + 11);
-  w2c_i1 = w2c_i1 != w2c_i2;
-  w2c_j2 = w2c_l3;
-  w2c_i2 = (u32)(w2c_j2);
-  w2c_i2 = get8(near8 + 12);
-  w2c_j3 = w2c_l4;
+  w2c_i2 = get8(near2 + 12);
+  w2c_j3 = w2c_l9;
   w2c_i3 = (u32)(w2c_j3);
-  w2c_i3 = get8(near9 + 12);
+  w2c_i3 = get8(near3 + 12);
   w2c_i2 = w2c_i2 != w2c_i3;
   w2c_i3 = 1u;
   w2c_i2 <<= (w2c_i3 & 31);
   w2c_i1 |= w2c_i2;
-  w2c_j2 = w2c_l3;
+  w2c_j2 = w2c_l4;
   w2c_i2 = (u32)(w2c_j2);
-  w2c_i2 = get8(near8 + 14);
-  w2c_j3 = w2c_l4;
+  w2c_i2 = get8(near2 + 14);
+  w2c_j3 = w2c_l9;
   w2c_i3 = (u32)(w2c_j3);
-  w2c_i3 = get8(near9 + 14);
+  w2c_i3 = get8(near3 + 14);
   w2c_i2 = w2c_i2 != w2c_i3;
   w2c_i3 = 3u;
   w2c_i2 <<= (w2c_i3 & 31);
-  w2c_j3 = w2c_l3;
+  w2c_j3 = w2c_l4;
   w2c_i3 = (u32)(w2c_j3);
-  w2c_i3 = get8(near8 + 13);
-  w2c_j4 = w2c_l4;
+  w2c_i3 = get8(near2 + 13);
+  w2c_j4 = w2c_l9;
   w2c_i4 = (u32)(w2c_j4);
-  w2c_i4 = get8(near9 + 13);
+  w2c_i4 = get8(near3 + 13);
   w2c_i3 = w2c_i3 != w2c_i4;
   w2c_i4 = 2u;
   w2c_i3 <<= (w2c_i4 & 31);
@@ -16322,38 +16396,38 @@ static u32 w2c_core__cmp__slices__groups_equal___i8_31_core__cmp__numbers__U8Par
   w2c_i1 |= w2c_i2;
   w2c_i2 = 12u;
   w2c_i1 <<= (w2c_i2 & 31);
-  w2c_j2 = w2c_l3;
+  w2c_j2 = w2c_l4;
   w2c_i2 = (u32)(w2c_j2);
-  w2c_i2 = get8(near8 + 7);
+  w2c_i2 = get8(near2 + 7);
+  w2c_j3 = w2c_l9;
+  w2c_i3 = (u32)(w2c_j3);
+  w2c_i3 = get8(near3 + 7);
+  w2c_i2 = w2c_i2 != w2c_i3;
   w2c_j3 = w2c_l4;
   w2c_i3 = (u32)(w2c_j3);
-  w2c_i3 = get8(near9 + 7);
-  w2c_i2 = w2c_i2 != w2c_i3;
-  w2c_j3 = w2c_l3;
-  w2c_i3 = (u32)(w2c_j3);
-  w2c_i3 = get8(near8 + 8);
-  w2c_j4 = w2c_l4;
+  w2c_i3 = get8(near2 + 8);
+  w2c_j4 = w2c_l9;
   w2c_i4 = (u32)(w2c_j4);
-  w2c_i4 = get8(near9 + 8);
+  w2c_i4 = get8(near3 + 8);
   w2c_i3 = w2c_i3 != w2c_i4;
   w2c_i4 = 1u;
   w2c_i3 <<= (w2c_i4 & 31);
   w2c_i2 |= w2c_i3;
-  w2c_j3 = w2c_l3;
+  w2c_j3 = w2c_l4;
   w2c_i3 = (u32)(w2c_j3);
-  w2c_i3 = get8(near8 + 10);
-  w2c_j4 = w2c_l4;
+  w2c_i3 = get8(near2 + 10);
+  w2c_j4 = w2c_l9;
   w2c_i4 = (u32)(w2c_j4);
-  w2c_i4 = get8(near9 + 10);
+  w2c_i4 = get8(near3 + 10);
   w2c_i3 = w2c_i3 != w2c_i4;
   w2c_i4 = 3u;
   w2c_i3 <<= (w2c_i4 & 31);
-  w2c_j4 = w2c_l3;
+  w2c_j4 = w2c_l4;
   w2c_i4 = (u32)(w2c_j4);
-  w2c_i4 = get8(near8 + 9);
-  w2c_j5 = w2c_l4;
+  w2c_i4 = get8(near2 + 9);
+  w2c_j5 = w2c_l9;
   w2c_i5 = (u32)(w2c_j5);
-  w2c_i5 = get8(near9 + 9);
+  w2c_i5 = get8(near3 + 9);
   w2c_i4 = w2c_i4 != w2c_i5;
   w2c_i5 = 2u;
   w2c_i4 <<= (w2c_i5 & 31);
@@ -16363,75 +16437,75 @@ static u32 w2c_core__cmp__slices__groups_equal___i8_31_core__cmp__numbers__U8Par
   w2c_i2 <<= (w2c_i3 & 31);
   w2c_i1 |= w2c_i2;
   w2c_i0 |= w2c_i1;
-  w2c_j1 = w2c_l3;
+  w2c_j1 = w2c_l4;
   w2c_i1 = (u32)(w2c_j1);
-  w2c_i1 = get8(near8 + 15);
+  w2c_i1 = get8(near2 + 15);
+  w2c_j2 = w2c_l9;
+  w2c_i2 = (u32)(w2c_j2);
+  w2c_i2 = get8(near3 + 15);
+  w2c_i1 = w2c_i1 != w2c_i2;
   w2c_j2 = w2c_l4;
   w2c_i2 = (u32)(w2c_j2);
-  w2c_i2 = get8(near9 + 15);
-  w2c_i1 = w2c_i1 != w2c_i2;
-  w2c_j2 = w2c_l3;
-  w2c_i2 = (u32)(w2c_j2);
-  w2c_i2 = get8(near8 + 16);
-  w2c_j3 = w2c_l4;
+  w2c_i2 = get8(near2 + 16);
+  w2c_j3 = w2c_l9;
   w2c_i3 = (u32)(w2c_j3);
-  w2c_i3 = get8(near9 + 16);
+  w2c_i3 = get8(near3 + 16);
   w2c_i2 = w2c_i2 != w2c_i3;
   w2c_i3 = 1u;
   w2c_i2 <<= (w2c_i3 & 31);
   w2c_i1 |= w2c_i2;
-  w2c_j2 = w2c_l3;
+  w2c_j2 = w2c_l4;
   w2c_i2 = (u32)(w2c_j2);
-  w2c_i2 = get8(near8 + 18);
-  w2c_j3 = w2c_l4;
+  w2c_i2 = get8(near2 + 18);
+  w2c_j3 = w2c_l9;
   w2c_i3 = (u32)(w2c_j3);
-  w2c_i3 = get8(near9 + 18);
+  w2c_i3 = get8(near3 + 18);
   w2c_i2 = w2c_i2 != w2c_i3;
   w2c_i3 = 3u;
   w2c_i2 <<= (w2c_i3 & 31);
-  w2c_j3 = w2c_l3;
+  w2c_j3 = w2c_l4;
   w2c_i3 = (u32)(w2c_j3);
-  w2c_i3 = get8(near8 + 17);
-  w2c_j4 = w2c_l4;
+  w2c_i3 = get8(near2 + 17);
+  w2c_j4 = w2c_l9;
   w2c_i4 = (u32)(w2c_j4);
-  w2c_i4 = get8(near9 + 17);
+  w2c_i4 = get8(near3 + 17);
   w2c_i3 = w2c_i3 != w2c_i4;
   w2c_i4 = 2u;
   w2c_i3 <<= (w2c_i4 & 31);
   w2c_i2 |= w2c_i3;
   w2c_i1 |= w2c_i2;
-  w2c_j2 = w2c_l3;
+  w2c_j2 = w2c_l4;
   w2c_i2 = (u32)(w2c_j2);
-  w2c_i2 = get8(near8 + 19);
+  w2c_i2 = get8(near2 + 19);
+  w2c_j3 = w2c_l9;
+  w2c_i3 = (u32)(w2c_j3);
+  w2c_i3 = get8(near3 + 19);
+  w2c_i2 = w2c_i2 != w2c_i3;
   w2c_j3 = w2c_l4;
   w2c_i3 = (u32)(w2c_j3);
-  w2c_i3 = get8(near9 + 19);
-  w2c_i2 = w2c_i2 != w2c_i3;
-  w2c_j3 = w2c_l3;
-  w2c_i3 = (u32)(w2c_j3);
-  w2c_i3 = get8(near8 + 20);
-  w2c_j4 = w2c_l4;
+  w2c_i3 = get8(near2 + 20);
+  w2c_j4 = w2c_l9;
   w2c_i4 = (u32)(w2c_j4);
-  w2c_i4 = get8(near9 + 20);
+  w2c_i4 = get8(near3 + 20);
   w2c_i3 = w2c_i3 != w2c_i4;
   w2c_i4 = 1u;
   w2c_i3 <<= (w2c_i4 & 31);
   w2c_i2 |= w2c_i3;
-  w2c_j3 = w2c_l3;
+  w2c_j3 = w2c_l4;
   w2c_i3 = (u32)(w2c_j3);
-  w2c_i3 = get8(near8 + 22);
-  w2c_j4 = w2c_l4;
+  w2c_i3 = get8(near2 + 22);
+  w2c_j4 = w2c_l9;
   w2c_i4 = (u32)(w2c_j4);
-  w2c_i4 = get8(near9 + 22);
+  w2c_i4 = get8(near3 + 22);
   w2c_i3 = w2c_i3 != w2c_i4;
   w2c_i4 = 3u;
   w2c_i3 <<= (w2c_i4 & 31);
-  w2c_j4 = w2c_l3;
+  w2c_j4 = w2c_l4;
   w2c_i4 = (u32)(w2c_j4);
-  w2c_i4 = get8(near8 + 21);
-  w2c_j5 = w2c_l4;
+  w2c_i4 = get8(near2 + 21);
+  w2c_j5 = w2c_l9;
   w2c_i5 = (u32)(w2c_j5);
-  w2c_i5 = get8(near9 + 21);
+  w2c_i5 = get8(near3 + 21);
   w2c_i4 = w2c_i4 != w2c_i5;
   w2c_i5 = 2u;
   w2c_i4 <<= (w2c_i5 & 31);
@@ -16440,38 +16514,38 @@ static u32 w2c_core__cmp__slices__groups_equal___i8_31_core__cmp__numbers__U8Par
   w2c_i3 = 4u;
   w2c_i2 <<= (w2c_i3 & 31);
   w2c_i1 |= w2c_i2;
-  w2c_j2 = w2c_l3;
+  w2c_j2 = w2c_l4;
   w2c_i2 = (u32)(w2c_j2);
-  w2c_i2 = get8(near8 + 27);
+  w2c_i2 = get8(near2 + 27);
+  w2c_j3 = w2c_l9;
+  w2c_i3 = (u32)(w2c_j3);
+  w2c_i3 = get8(near3 + 27);
+  w2c_i2 = w2c_i2 != w2c_i3;
   w2c_j3 = w2c_l4;
   w2c_i3 = (u32)(w2c_j3);
-  w2c_i3 = get8(near9 + 27);
-  w2c_i2 = w2c_i2 != w2c_i3;
-  w2c_j3 = w2c_l3;
-  w2c_i3 = (u32)(w2c_j3);
-  w2c_i3 = get8(near8 + 28);
-  w2c_j4 = w2c_l4;
+  w2c_i3 = get8(near2 + 28);
+  w2c_j4 = w2c_l9;
   w2c_i4 = (u32)(w2c_j4);
-  w2c_i4 = get8(near9 + 28);
+  w2c_i4 = get8(near3 + 28);
   w2c_i3 = w2c_i3 != w2c_i4;
   w2c_i4 = 1u;
   w2c_i3 <<= (w2c_i4 & 31);
   w2c_i2 |= w2c_i3;
-  w2c_j3 = w2c_l3;
+  w2c_j3 = w2c_l4;
   w2c_i3 = (u32)(w2c_j3);
-  w2c_i3 = get8(near8 + 30);
-  w2c_j4 = w2c_l4;
+  w2c_i3 = get8(near2 + 30);
+  w2c_j4 = w2c_l9;
   w2c_i4 = (u32)(w2c_j4);
-  w2c_i4 = get8(near9 + 30);
+  w2c_i4 = get8(near3 + 30);
   w2c_i3 = w2c_i3 != w2c_i4;
   w2c_i4 = 3u;
   w2c_i3 <<= (w2c_i4 & 31);
-  w2c_j4 = w2c_l3;
+  w2c_j4 = w2c_l4;
   w2c_i4 = (u32)(w2c_j4);
-  w2c_i4 = get8(near8 + 29);
-  w2c_j5 = w2c_l4;
+  w2c_i4 = get8(near2 + 29);
+  w2c_j5 = w2c_l9;
   w2c_i5 = (u32)(w2c_j5);
-  w2c_i5 = get8(near9 + 29);
+  w2c_i5 = get8(near3 + 29);
   w2c_i4 = w2c_i4 != w2c_i5;
   w2c_i5 = 2u;
   w2c_i4 <<= (w2c_i5 & 31);
@@ -16479,38 +16553,38 @@ static u32 w2c_core__cmp__slices__groups_equal___i8_31_core__cmp__numbers__U8Par
   w2c_i2 |= w2c_i3;
   w2c_i3 = 12u;
   w2c_i2 <<= (w2c_i3 & 31);
-  w2c_j3 = w2c_l3;
+  w2c_j3 = w2c_l4;
   w2c_i3 = (u32)(w2c_j3);
-  w2c_i3 = get8(near8 + 23);
+  w2c_i3 = get8(near2 + 23);
+  w2c_j4 = w2c_l9;
+  w2c_i4 = (u32)(w2c_j4);
+  w2c_i4 = get8(near3 + 23);
+  w2c_i3 = w2c_i3 != w2c_i4;
   w2c_j4 = w2c_l4;
   w2c_i4 = (u32)(w2c_j4);
-  w2c_i4 = get8(near9 + 23);
-  w2c_i3 = w2c_i3 != w2c_i4;
-  w2c_j4 = w2c_l3;
-  w2c_i4 = (u32)(w2c_j4);
-  w2c_i4 = get8(near8 + 24);
-  w2c_j5 = w2c_l4;
+  w2c_i4 = get8(near2 + 24);
+  w2c_j5 = w2c_l9;
   w2c_i5 = (u32)(w2c_j5);
-  w2c_i5 = get8(near9 + 24);
+  w2c_i5 = get8(near3 + 24);
   w2c_i4 = w2c_i4 != w2c_i5;
   w2c_i5 = 1u;
   w2c_i4 <<= (w2c_i5 & 31);
   w2c_i3 |= w2c_i4;
-  w2c_j4 = w2c_l3;
+  w2c_j4 = w2c_l4;
   w2c_i4 = (u32)(w2c_j4);
-  w2c_i4 = get8(near8 + 26);
-  w2c_j5 = w2c_l4;
+  w2c_i4 = get8(near2 + 26);
+  w2c_j5 = w2c_l9;
   w2c_i5 = (u32)(w2c_j5);
-  w2c_i5 = get8(near9 + 26);
+  w2c_i5 = get8(near3 + 26);
   w2c_i4 = w2c_i4 != w2c_i5;
   w2c_i5 = 3u;
   w2c_i4 <<= (w2c_i5 & 31);
-  w2c_j5 = w2c_l3;
+  w2c_j5 = w2c_l4;
   w2c_i5 = (u32)(w2c_j5);
-  w2c_i5 = get8(near8 + 25);
-  w2c_j6 = w2c_l4;
+  w2c_i5 = get8(near2 + 25);
+  w2c_j6 = w2c_l9;
   w2c_i6 = (u32)(w2c_j6);
-  w2c_i6 = get8(near9 + 25);
+  w2c_i6 = get8(near3 + 25);
   w2c_i5 = w2c_i5 != w2c_i6;
   w2c_i6 = 2u;
   w2c_i5 <<= (w2c_i6 & 31);
@@ -16525,7 +16599,7 @@ static u32 w2c_core__cmp__slices__groups_equal___i8_31_core__cmp__numbers__U8Par
   w2c_i0 &= w2c_i1;
   w2c_i1 = 0u;
   w2c_i0 = w2c_i0 != w2c_i1;
-  w2c_l10 = w2c_i0;
+  w2c_l11 = w2c_i0;
   goto w2c_B0;
   w2c_B2:;
   UNREACHABLE;
@@ -16534,82 +16608,82 @@ static u32 w2c_core__cmp__slices__groups_equal___i8_31_core__cmp__numbers__U8Par
   w2c_j1 = w2c_p1;
   w2c_j2 = 18446744073709551584ull;
   w2c_j1 += w2c_j2;
-  w2c_l4 = w2c_j1;
+  w2c_l9 = w2c_j1;
   w2c_j0 += w2c_j1;
-  w2c_l3 = w2c_j0;
+  w2c_l4 = w2c_j0;
   w2c_i0 = (u32)(w2c_j0);
   w2c_i0 = i32_load8_u(&instance->w2c_memory, (u64)(w2c_i0));
   w2c_j1 = w2c_p2;
-  w2c_j2 = w2c_l4;
+  w2c_j2 = w2c_l9;
   w2c_j1 += w2c_j2;
-  w2c_l4 = w2c_j1;
+  w2c_l9 = w2c_j1;
   w2c_i1 = (u32)(w2c_j1);
   w2c_i1 = i32_load8_u(&instance->w2c_memory, (u64)(w2c_i1));
   w2c_i0 = w2c_i0 != w2c_i1;
-  w2c_j1 = w2c_l3;
+  w2c_j1 = w2c_l4;
   w2c_i1 = (u32)(w2c_j1);
-  near10 = read_place(&instance->w2c_memory, (u32)w2c_l3 + 1u, 31);
-  w2c_i1 = get8(near10 + 0);
-  w2c_j2 = w2c_l4;
+  near4 = read_place(&instance->w2c_memory, (u32)w2c_l4 + 1u, 31);
+  w2c_i1 = get8(near4 + 0);
+  w2c_j2 = w2c_l9;
   w2c_i2 = (u32)(w2c_j2);
-  near11 = read_place(&instance->w2c_memory, (u32)w2c_l4 + 1u, 31);
-  w2c_i2 = get8(near11 + 0);
+  near5 = read_place(&instance->w2c_memory, (u32)w2c_l9 + 1u, 31);
+  w2c_i2 = get8(near5 + 0);
   w2c_i1 = w2c_i1 != w2c_i2;
   w2c_i2 = 1u;
   w2c_i1 <<= (w2c_i2 & 31);
   w2c_i0 |= w2c_i1;
-  w2c_j1 = w2c_l3;
+  w2c_j1 = w2c_l4;
   w2c_i1 = (u32)(w2c_j1);
-  w2c_i1 = get8(near10 + 2);
-  w2c_j2 = w2c_l4;
+  w2c_i1 = get8(near4 + 2);
+  w2c_j2 = w2c_l9;
   w2c_i2 = (u32)(w2c_j2);
-  w2c_i2 = get8(near11 + 2);
+  w2c_i2 = get8(near5 + 2);
   w2c_i1 = w2c_i1 != w2c_i2;
   w2c_i2 = 3u;
   w2c_i1 <<= (w2c_i2 & 31);
-  w2c_j2 = w2c_l3;
+  w2c_j2 = w2c_l4;
   w2c_i2 = (u32)(w2c_j2);
-  w2c_i2 = get8(near10 + 1);
-  w2c_j3 = w2c_l4;
+  w2c_i2 = get8(near4 + 1);
+  w2c_j3 = w2c_l9;
   w2c_i3 = (u32)(w2c_j3);
-  w2c_i3 = get8(near11 + 1);
+  w2c_i3 = get8(near5 + 1);
   w2c_i2 = w2c_i2 != w2c_i3;
   w2c_i3 = 2u;
   w2c_i2 <<= (w2c_i3 & 31);
   w2c_i1 |= w2c_i2;
   w2c_i0 |= w2c_i1;
-  w2c_j1 = w2c_l3;
+  w2c_j1 = w2c_l4;
   w2c_i1 = (u32)(w2c_j1);
-  w2c_i1 = get8(near10 + 3);
+  w2c_i1 = get8(near4 + 3);
+  w2c_j2 = w2c_l9;
+  w2c_i2 = (u32)(w2c_j2);
+  w2c_i2 = get8(near5 + 3);
+  w2c_i1 = w2c_i1 != w2c_i2;
   w2c_j2 = w2c_l4;
   w2c_i2 = (u32)(w2c_j2);
-  w2c_i2 = get8(near11 + 3);
-  w2c_i1 = w2c_i1 != w2c_i2;
-  w2c_j2 = w2c_l3;
-  w2c_i2 = (u32)(w2c_j2);
-  w2c_i2 = get8(near10 + 4);
-  w2c_j3 = w2c_l4;
+  w2c_i2 = get8(near4 + 4);
+  w2c_j3 = w2c_l9;
   w2c_i3 = (u32)(w2c_j3);
-  w2c_i3 = get8(near11 + 4);
+  w2c_i3 = get8(near5 + 4);
   w2c_i2 = w2c_i2 != w2c_i3;
   w2c_i3 = 1u;
   w2c_i2 <<= (w2c_i3 & 31);
   w2c_i1 |= w2c_i2;
-  w2c_j2 = w2c_l3;
+  w2c_j2 = w2c_l4;
   w2c_i2 = (u32)(w2c_j2);
-  w2c_i2 = get8(near10 + 6);
-  w2c_j3 = w2c_l4;
+  w2c_i2 = get8(near4 + 6);
+  w2c_j3 = w2c_l9;
   w2c_i3 = (u32)(w2c_j3);
-  w2c_i3 = get8(near11 + 6);
+  w2c_i3 = get8(near5 + 6);
   w2c_i2 = w2c_i2 != w2c_i3;
   w2c_i3 = 3u;
   w2c_i2 <<= (w2c_i3 & 31);
-  w2c_j3 = w2c_l3;
+  w2c_j3 = w2c_l4;
   w2c_i3 = (u32)(w2c_j3);
-  w2c_i3 = get8(near10 + 5);
-  w2c_j4 = w2c_l4;
+  w2c_i3 = get8(near4 + 5);
+  w2c_j4 = w2c_l9;
   w2c_i4 = (u32)(w2c_j4);
-  w2c_i4 = get8(near11 + 5);
+  w2c_i4 = get8(near5 + 5);
   w2c_i3 = w2c_i3 != w2c_i4;
   w2c_i4 = 2u;
   w2c_i3 <<= (w2c_i4 & 31);
@@ -16618,38 +16692,38 @@ static u32 w2c_core__cmp__slices__groups_equal___i8_31_core__cmp__numbers__U8Par
   w2c_i2 = 4u;
   w2c_i1 <<= (w2c_i2 & 31);
   w2c_i0 |= w2c_i1;
-  w2c_j1 = w2c_l3;
+  w2c_j1 = w2c_l4;
   w2c_i1 = (u32)(w2c_j1);
-  w2c_i1 = get8(near10 + 11);
+  w2c_i1 = get8(near4 + 11);
+  w2c_j2 = w2c_l9;
+  w2c_i2 = (u32)(w2c_j2);
+  w2c_i2 = get8(near5 + 11);
+  w2c_i1 = w2c_i1 != w2c_i2;
   w2c_j2 = w2c_l4;
   w2c_i2 = (u32)(w2c_j2);
-  w2c_i2 = get8(near11 + 11);
-  w2c_i1 = w2c_i1 != w2c_i2;
-  w2c_j2 = w2c_l3;
-  w2c_i2 = (u32)(w2c_j2);
-  w2c_i2 = get8(near10 + 12);
-  w2c_j3 = w2c_l4;
+  w2c_i2 = get8(near4 + 12);
+  w2c_j3 = w2c_l9;
   w2c_i3 = (u32)(w2c_j3);
-  w2c_i3 = get8(near11 + 12);
+  w2c_i3 = get8(near5 + 12);
   w2c_i2 = w2c_i2 != w2c_i3;
   w2c_i3 = 1u;
   w2c_i2 <<= (w2c_i3 & 31);
   w2c_i1 |= w2c_i2;
-  w2c_j2 = w2c_l3;
+  w2c_j2 = w2c_l4;
   w2c_i2 = (u32)(w2c_j2);
-  w2c_i2 = get8(near10 + 14);
-  w2c_j3 = w2c_l4;
+  w2c_i2 = get8(near4 + 14);
+  w2c_j3 = w2c_l9;
   w2c_i3 = (u32)(w2c_j3);
-  w2c_i3 = get8(near11 + 14);
+  w2c_i3 = get8(near5 + 14);
   w2c_i2 = w2c_i2 != w2c_i3;
   w2c_i3 = 3u;
   w2c_i2 <<= (w2c_i3 & 31);
-  w2c_j3 = w2c_l3;
+  w2c_j3 = w2c_l4;
   w2c_i3 = (u32)(w2c_j3);
-  w2c_i3 = get8(near10 + 13);
-  w2c_j4 = w2c_l4;
+  w2c_i3 = get8(near4 + 13);
+  w2c_j4 = w2c_l9;
   w2c_i4 = (u32)(w2c_j4);
-  w2c_i4 = get8(near11 + 13);
+  w2c_i4 = get8(near5 + 13);
   w2c_i3 = w2c_i3 != w2c_i4;
   w2c_i4 = 2u;
   w2c_i3 <<= (w2c_i4 & 31);
@@ -16657,38 +16731,38 @@ static u32 w2c_core__cmp__slices__groups_equal___i8_31_core__cmp__numbers__U8Par
   w2c_i1 |= w2c_i2;
   w2c_i2 = 12u;
   w2c_i1 <<= (w2c_i2 & 31);
-  w2c_j2 = w2c_l3;
+  w2c_j2 = w2c_l4;
   w2c_i2 = (u32)(w2c_j2);
-  w2c_i2 = get8(near10 + 7);
+  w2c_i2 = get8(near4 + 7);
+  w2c_j3 = w2c_l9;
+  w2c_i3 = (u32)(w2c_j3);
+  w2c_i3 = get8(near5 + 7);
+  w2c_i2 = w2c_i2 != w2c_i3;
   w2c_j3 = w2c_l4;
   w2c_i3 = (u32)(w2c_j3);
-  w2c_i3 = get8(near11 + 7);
-  w2c_i2 = w2c_i2 != w2c_i3;
-  w2c_j3 = w2c_l3;
-  w2c_i3 = (u32)(w2c_j3);
-  w2c_i3 = get8(near10 + 8);
-  w2c_j4 = w2c_l4;
+  w2c_i3 = get8(near4 + 8);
+  w2c_j4 = w2c_l9;
   w2c_i4 = (u32)(w2c_j4);
-  w2c_i4 = get8(near11 + 8);
+  w2c_i4 = get8(near5 + 8);
   w2c_i3 = w2c_i3 != w2c_i4;
   w2c_i4 = 1u;
   w2c_i3 <<= (w2c_i4 & 31);
   w2c_i2 |= w2c_i3;
-  w2c_j3 = w2c_l3;
+  w2c_j3 = w2c_l4;
   w2c_i3 = (u32)(w2c_j3);
-  w2c_i3 = get8(near10 + 10);
-  w2c_j4 = w2c_l4;
+  w2c_i3 = get8(near4 + 10);
+  w2c_j4 = w2c_l9;
   w2c_i4 = (u32)(w2c_j4);
-  w2c_i4 = get8(near11 + 10);
+  w2c_i4 = get8(near5 + 10);
   w2c_i3 = w2c_i3 != w2c_i4;
   w2c_i4 = 3u;
   w2c_i3 <<= (w2c_i4 & 31);
-  w2c_j4 = w2c_l3;
+  w2c_j4 = w2c_l4;
   w2c_i4 = (u32)(w2c_j4);
-  w2c_i4 = get8(near10 + 9);
-  w2c_j5 = w2c_l4;
+  w2c_i4 = get8(near4 + 9);
+  w2c_j5 = w2c_l9;
   w2c_i5 = (u32)(w2c_j5);
-  w2c_i5 = get8(near11 + 9);
+  w2c_i5 = get8(near5 + 9);
   w2c_i4 = w2c_i4 != w2c_i5;
   w2c_i5 = 2u;
   w2c_i4 <<= (w2c_i5 & 31);
@@ -16698,75 +16772,75 @@ static u32 w2c_core__cmp__slices__groups_equal___i8_31_core__cmp__numbers__U8Par
   w2c_i2 <<= (w2c_i3 & 31);
   w2c_i1 |= w2c_i2;
   w2c_i0 |= w2c_i1;
-  w2c_j1 = w2c_l3;
+  w2c_j1 = w2c_l4;
   w2c_i1 = (u32)(w2c_j1);
-  w2c_i1 = get8(near10 + 15);
+  w2c_i1 = get8(near4 + 15);
+  w2c_j2 = w2c_l9;
+  w2c_i2 = (u32)(w2c_j2);
+  w2c_i2 = get8(near5 + 15);
+  w2c_i1 = w2c_i1 != w2c_i2;
   w2c_j2 = w2c_l4;
   w2c_i2 = (u32)(w2c_j2);
-  w2c_i2 = get8(near11 + 15);
-  w2c_i1 = w2c_i1 != w2c_i2;
-  w2c_j2 = w2c_l3;
-  w2c_i2 = (u32)(w2c_j2);
-  w2c_i2 = get8(near10 + 16);
-  w2c_j3 = w2c_l4;
+  w2c_i2 = get8(near4 + 16);
+  w2c_j3 = w2c_l9;
   w2c_i3 = (u32)(w2c_j3);
-  w2c_i3 = get8(near11 + 16);
+  w2c_i3 = get8(near5 + 16);
   w2c_i2 = w2c_i2 != w2c_i3;
   w2c_i3 = 1u;
   w2c_i2 <<= (w2c_i3 & 31);
   w2c_i1 |= w2c_i2;
-  w2c_j2 = w2c_l3;
+  w2c_j2 = w2c_l4;
   w2c_i2 = (u32)(w2c_j2);
-  w2c_i2 = get8(near10 + 18);
-  w2c_j3 = w2c_l4;
+  w2c_i2 = get8(near4 + 18);
+  w2c_j3 = w2c_l9;
   w2c_i3 = (u32)(w2c_j3);
-  w2c_i3 = get8(near11 + 18);
+  w2c_i3 = get8(near5 + 18);
   w2c_i2 = w2c_i2 != w2c_i3;
   w2c_i3 = 3u;
   w2c_i2 <<= (w2c_i3 & 31);
-  w2c_j3 = w2c_l3;
+  w2c_j3 = w2c_l4;
   w2c_i3 = (u32)(w2c_j3);
-  w2c_i3 = get8(near10 + 17);
-  w2c_j4 = w2c_l4;
+  w2c_i3 = get8(near4 + 17);
+  w2c_j4 = w2c_l9;
   w2c_i4 = (u32)(w2c_j4);
-  w2c_i4 = get8(near11 + 17);
+  w2c_i4 = get8(near5 + 17);
   w2c_i3 = w2c_i3 != w2c_i4;
   w2c_i4 = 2u;
   w2c_i3 <<= (w2c_i4 & 31);
   w2c_i2 |= w2c_i3;
   w2c_i1 |= w2c_i2;
-  w2c_j2 = w2c_l3;
+  w2c_j2 = w2c_l4;
   w2c_i2 = (u32)(w2c_j2);
-  w2c_i2 = get8(near10 + 19);
+  w2c_i2 = get8(near4 + 19);
+  w2c_j3 = w2c_l9;
+  w2c_i3 = (u32)(w2c_j3);
+  w2c_i3 = get8(near5 + 19);
+  w2c_i2 = w2c_i2 != w2c_i3;
   w2c_j3 = w2c_l4;
   w2c_i3 = (u32)(w2c_j3);
-  w2c_i3 = get8(near11 + 19);
-  w2c_i2 = w2c_i2 != w2c_i3;
-  w2c_j3 = w2c_l3;
-  w2c_i3 = (u32)(w2c_j3);
-  w2c_i3 = get8(near10 + 20);
-  w2c_j4 = w2c_l4;
+  w2c_i3 = get8(near4 + 20);
+  w2c_j4 = w2c_l9;
   w2c_i4 = (u32)(w2c_j4);
-  w2c_i4 = get8(near11 + 20);
+  w2c_i4 = get8(near5 + 20);
   w2c_i3 = w2c_i3 != w2c_i4;
   w2c_i4 = 1u;
   w2c_i3 <<= (w2c_i4 & 31);
   w2c_i2 |= w2c_i3;
-  w2c_j3 = w2c_l3;
+  w2c_j3 = w2c_l4;
   w2c_i3 = (u32)(w2c_j3);
-  w2c_i3 = get8(near10 + 22);
-  w2c_j4 = w2c_l4;
+  w2c_i3 = get8(near4 + 22);
+  w2c_j4 = w2c_l9;
   w2c_i4 = (u32)(w2c_j4);
-  w2c_i4 = get8(near11 + 22);
+  w2c_i4 = get8(near5 + 22);
   w2c_i3 = w2c_i3 != w2c_i4;
   w2c_i4 = 3u;
   w2c_i3 <<= (w2c_i4 & 31);
-  w2c_j4 = w2c_l3;
+  w2c_j4 = w2c_l4;
   w2c_i4 = (u32)(w2c_j4);
-  w2c_i4 = get8(near10 + 21);
-  w2c_j5 = w2c_l4;
+  w2c_i4 = get8(near4 + 21);
+  w2c_j5 = w2c_l9;
   w2c_i5 = (u32)(w2c_j5);
-  w2c_i5 = get8(near11 + 21);
+  w2c_i5 = get8(near5 + 21);
   w2c_i4 = w2c_i4 != w2c_i5;
   w2c_i5 = 2u;
   w2c_i4 <<= (w2c_i5 & 31);
@@ -16775,38 +16849,38 @@ static u32 w2c_core__cmp__slices__groups_equal___i8_31_core__cmp__numbers__U8Par
   w2c_i3 = 4u;
   w2c_i2 <<= (w2c_i3 & 31);
   w2c_i1 |= w2c_i2;
-  w2c_j2 = w2c_l3;
+  w2c_j2 = w2c_l4;
   w2c_i2 = (u32)(w2c_j2);
-  w2c_i2 = get8(near10 + 27);
+  w2c_i2 = get8(near4 + 27);
+  w2c_j3 = w2c_l9;
+  w2c_i3 = (u32)(w2c_j3);
+  w2c_i3 = get8(near5 + 27);
+  w2c_i2 = w2c_i2 != w2c_i3;
   w2c_j3 = w2c_l4;
   w2c_i3 = (u32)(w2c_j3);
-  w2c_i3 = get8(near11 + 27);
-  w2c_i2 = w2c_i2 != w2c_i3;
-  w2c_j3 = w2c_l3;
-  w2c_i3 = (u32)(w2c_j3);
-  w2c_i3 = get8(near10 + 28);
-  w2c_j4 = w2c_l4;
+  w2c_i3 = get8(near4 + 28);
+  w2c_j4 = w2c_l9;
   w2c_i4 = (u32)(w2c_j4);
-  w2c_i4 = get8(near11 + 28);
+  w2c_i4 = get8(near5 + 28);
   w2c_i3 = w2c_i3 != w2c_i4;
   w2c_i4 = 1u;
   w2c_i3 <<= (w2c_i4 & 31);
   w2c_i2 |= w2c_i3;
-  w2c_j3 = w2c_l3;
+  w2c_j3 = w2c_l4;
   w2c_i3 = (u32)(w2c_j3);
-  w2c_i3 = get8(near10 + 30);
-  w2c_j4 = w2c_l4;
+  w2c_i3 = get8(near4 + 30);
+  w2c_j4 = w2c_l9;
   w2c_i4 = (u32)(w2c_j4);
-  w2c_i4 = get8(near11 + 30);
+  w2c_i4 = get8(near5 + 30);
   w2c_i3 = w2c_i3 != w2c_i4;
   w2c_i4 = 3u;
   w2c_i3 <<= (w2c_i4 & 31);
-  w2c_j4 = w2c_l3;
+  w2c_j4 = w2c_l4;
   w2c_i4 = (u32)(w2c_j4);
-  w2c_i4 = get8(near10 + 29);
-  w2c_j5 = w2c_l4;
+  w2c_i4 = get8(near4 + 29);
+  w2c_j5 = w2c_l9;
   w2c_i5 = (u32)(w2c_j5);
-  w2c_i5 = get8(near11 + 29);
+  w2c_i5 = get8(near5 + 29);
   w2c_i4 = w2c_i4 != w2c_i5;
   w2c_i5 = 2u;
   w2c_i4 <<= (w2c_i5 & 31);
@@ -16814,38 +16888,38 @@ static u32 w2c_core__cmp__slices__groups_equal___i8_31_core__cmp__numbers__U8Par
   w2c_i2 |= w2c_i3;
   w2c_i3 = 12u;
   w2c_i2 <<= (w2c_i3 & 31);
-  w2c_j3 = w2c_l3;
+  w2c_j3 = w2c_l4;
   w2c_i3 = (u32)(w2c_j3);
-  w2c_i3 = get8(near10 + 23);
+  w2c_i3 = get8(near4 + 23);
+  w2c_j4 = w2c_l9;
+  w2c_i4 = (u32)(w2c_j4);
+  w2c_i4 = get8(near5 + 23);
+  w2c_i3 = w2c_i3 != w2c_i4;
   w2c_j4 = w2c_l4;
   w2c_i4 = (u32)(w2c_j4);
-  w2c_i4 = get8(near11 + 23);
-  w2c_i3 = w2c_i3 != w2c_i4;
-  w2c_j4 = w2c_l3;
-  w2c_i4 = (u32)(w2c_j4);
-  w2c_i4 = get8(near10 + 24);
-  w2c_j5 = w2c_l4;
+  w2c_i4 = get8(near4 + 24);
+  w2c_j5 = w2c_l9;
   w2c_i5 = (u32)(w2c_j5);
-  w2c_i5 = get8(near11 + 24);
+  w2c_i5 = get8(near5 + 24);
   w2c_i4 = w2c_i4 != w2c_i5;
   w2c_i5 = 1u;
   w2c_i4 <<= (w2c_i5 & 31);
   w2c_i3 |= w2c_i4;
-  w2c_j4 = w2c_l3;
+  w2c_j4 = w2c_l4;
   w2c_i4 = (u32)(w2c_j4);
-  w2c_i4 = get8(near10 + 26);
-  w2c_j5 = w2c_l4;
+  w2c_i4 = get8(near4 + 26);
+  w2c_j5 = w2c_l9;
   w2c_i5 = (u32)(w2c_j5);
-  w2c_i5 = get8(near11 + 26);
+  w2c_i5 = get8(near5 + 26);
   w2c_i4 = w2c_i4 != w2c_i5;
   w2c_i5 = 3u;
   w2c_i4 <<= (w2c_i5 & 31);
-  w2c_j5 = w2c_l3;
+  w2c_j5 = w2c_l4;
   w2c_i5 = (u32)(w2c_j5);
-  w2c_i5 = get8(near10 + 25);
-  w2c_j6 = w2c_l4;
+  w2c_i5 = get8(near4 + 25);
+  w2c_j6 = w2c_l9;
   w2c_i6 = (u32)(w2c_j6);
-  w2c_i6 = get8(near11 + 25);
+  w2c_i6 = get8(near5 + 25);
   w2c_i5 = w2c_i5 != w2c_i6;
   w2c_i6 = 2u;
   w2c_i5 <<= (w2c_i6 & 31);
@@ -17240,9 +17314,11 @@ static u32 w2c_core__cmp__slices__groups_equal___i8_31_core__cmp__numbers__U8Par
   w2c_i2 = i32_load8_u(&instance->w2c_memory, (u64)(w2c_i2));
   w2c_i1 = w2c_i1 != w2c_i2;
   w2c_i0 |= w2c_i1;
-  w2c_l10 = w2c_i0;
+  w2c_l11 = w2c_i0;
   w2c_B0:;
-  w2c_i0 = w2c_l10;
+  w2c_j0 = w2c_l3;
+  instance->w2c___stack_pointer = w2c_j0;
+  w2c_i0 = w2c_l11;
   w2c_i1 = 4294967295u;
   w2c_i0 ^= w2c_i1;
   w2c_i1 = 1u;
@@ -19543,6 +19619,1852 @@ static void w2c_kit_text__bytes__read_bytes(Machine * instance, u64 w2c_p0, u64 
   instance->w2c___stack_pointer = w2c_j0;
 }
 
+static void w2c_kit_text__cutting__first_farther(Machine * instance, u64 w2c_p0, u32 w2c_p1, u64 w2c_p2, u64 w2c_p3, u64 w2c_p4) {
+  u32 w2c_l7 = 0;
+  u64 w2c_l5 = 0, w2c_l6 = 0;
+  u32 w2c_i0, w2c_i1, w2c_i2;
+  u64 w2c_j0, w2c_j1, w2c_j2;
+  w2c_j0 = instance->w2c___stack_pointer;
+  w2c_j1 = 16ull;
+  w2c_i0 = (u64)((s64)w2c_j0 < (s64)w2c_j1);
+  if (w2c_i0) {goto w2c_B0;}
+  w2c_j0 = w2c_p3;
+  w2c_j1 = w2c_p4;
+  w2c_j0 -= w2c_j1;
+  w2c_l5 = w2c_j0;
+  w2c_j1 = 64ull;
+  w2c_i0 = w2c_j0 < w2c_j1;
+  if (w2c_i0) {goto w2c_B1;}
+  w2c_L2: 
+    w2c_j0 = w2c_p2;
+    w2c_j1 = w2c_p4;
+    w2c_j0 += w2c_j1;
+    w2c_l6 = w2c_j0;
+    w2c_i0 = (u32)(w2c_j0);
+    w2c_i0 = i32_load8_u(&instance->w2c_memory, (u64)(w2c_i0));
+    w2c_i1 = w2c_p1;
+    w2c_i2 = 255u;
+    w2c_i1 &= w2c_i2;
+    w2c_l7 = w2c_i1;
+    w2c_i0 = w2c_i0 == w2c_i1;
+    if (w2c_i0) {goto w2c_B1;}
+    w2c_j0 = w2c_l6;
+    w2c_j1 = 1ull;
+    w2c_j0 += w2c_j1;
+    w2c_i0 = (u32)(w2c_j0);
+    w2c_i0 = i32_load8_u(&instance->w2c_memory, (u64)(w2c_i0));
+    w2c_i1 = 255u;
+    w2c_i0 &= w2c_i1;
+    w2c_i1 = w2c_l7;
+    w2c_i0 = w2c_i0 == w2c_i1;
+    if (w2c_i0) {goto w2c_B1;}
+    w2c_j0 = w2c_l6;
+    w2c_j1 = 2ull;
+    w2c_j0 += w2c_j1;
+    w2c_i0 = (u32)(w2c_j0);
+    w2c_i0 = i32_load8_u(&instance->w2c_memory, (u64)(w2c_i0));
+    w2c_i1 = 255u;
+    w2c_i0 &= w2c_i1;
+    w2c_i1 = w2c_p1;
+    w2c_i2 = 255u;
+    w2c_i1 &= w2c_i2;
+    w2c_l7 = w2c_i1;
+    w2c_i0 = w2c_i0 == w2c_i1;
+    if (w2c_i0) {goto w2c_B1;}
+    w2c_j0 = w2c_l6;
+    w2c_j1 = 3ull;
+    w2c_j0 += w2c_j1;
+    w2c_i0 = (u32)(w2c_j0);
+    w2c_i0 = i32_load8_u(&instance->w2c_memory, (u64)(w2c_i0));
+    w2c_i1 = 255u;
+    w2c_i0 &= w2c_i1;
+    w2c_i1 = w2c_l7;
+    w2c_i0 = w2c_i0 == w2c_i1;
+    if (w2c_i0) {goto w2c_B1;}
+    w2c_j0 = w2c_l6;
+    w2c_j1 = 4ull;
+    w2c_j0 += w2c_j1;
+    w2c_i0 = (u32)(w2c_j0);
+    w2c_i0 = i32_load8_u(&instance->w2c_memory, (u64)(w2c_i0));
+    w2c_i1 = 255u;
+    w2c_i0 &= w2c_i1;
+    w2c_i1 = w2c_p1;
+    w2c_i2 = 255u;
+    w2c_i1 &= w2c_i2;
+    w2c_l7 = w2c_i1;
+    w2c_i0 = w2c_i0 == w2c_i1;
+    if (w2c_i0) {goto w2c_B1;}
+    w2c_j0 = w2c_l6;
+    w2c_j1 = 5ull;
+    w2c_j0 += w2c_j1;
+    w2c_i0 = (u32)(w2c_j0);
+    w2c_i0 = i32_load8_u(&instance->w2c_memory, (u64)(w2c_i0));
+    w2c_i1 = 255u;
+    w2c_i0 &= w2c_i1;
+    w2c_i1 = w2c_l7;
+    w2c_i0 = w2c_i0 == w2c_i1;
+    if (w2c_i0) {goto w2c_B1;}
+    w2c_j0 = w2c_l6;
+    w2c_j1 = 6ull;
+    w2c_j0 += w2c_j1;
+    w2c_i0 = (u32)(w2c_j0);
+    w2c_i0 = i32_load8_u(&instance->w2c_memory, (u64)(w2c_i0));
+    w2c_i1 = 255u;
+    w2c_i0 &= w2c_i1;
+    w2c_i1 = w2c_p1;
+    w2c_i2 = 255u;
+    w2c_i1 &= w2c_i2;
+    w2c_l7 = w2c_i1;
+    w2c_i0 = w2c_i0 == w2c_i1;
+    if (w2c_i0) {goto w2c_B1;}
+    w2c_j0 = w2c_l6;
+    w2c_j1 = 7ull;
+    w2c_j0 += w2c_j1;
+    w2c_i0 = (u32)(w2c_j0);
+    w2c_i0 = i32_load8_u(&instance->w2c_memory, (u64)(w2c_i0));
+    w2c_i1 = 255u;
+    w2c_i0 &= w2c_i1;
+    w2c_i1 = w2c_l7;
+    w2c_i0 = w2c_i0 == w2c_i1;
+    if (w2c_i0) {goto w2c_B1;}
+    w2c_j0 = w2c_l6;
+    w2c_j1 = 8ull;
+    w2c_j0 += w2c_j1;
+    w2c_i0 = (u32)(w2c_j0);
+    w2c_i0 = i32_load8_u(&instance->w2c_memory, (u64)(w2c_i0));
+    w2c_i1 = 255u;
+    w2c_i0 &= w2c_i1;
+    w2c_i1 = w2c_p1;
+    w2c_i2 = 255u;
+    w2c_i1 &= w2c_i2;
+    w2c_l7 = w2c_i1;
+    w2c_i0 = w2c_i0 == w2c_i1;
+    if (w2c_i0) {goto w2c_B1;}
+    w2c_j0 = w2c_l6;
+    w2c_j1 = 9ull;
+    w2c_j0 += w2c_j1;
+    w2c_i0 = (u32)(w2c_j0);
+    w2c_i0 = i32_load8_u(&instance->w2c_memory, (u64)(w2c_i0));
+    w2c_i1 = 255u;
+    w2c_i0 &= w2c_i1;
+    w2c_i1 = w2c_l7;
+    w2c_i0 = w2c_i0 == w2c_i1;
+    if (w2c_i0) {goto w2c_B1;}
+    w2c_j0 = w2c_l6;
+    w2c_j1 = 10ull;
+    w2c_j0 += w2c_j1;
+    w2c_i0 = (u32)(w2c_j0);
+    w2c_i0 = i32_load8_u(&instance->w2c_memory, (u64)(w2c_i0));
+    w2c_i1 = 255u;
+    w2c_i0 &= w2c_i1;
+    w2c_i1 = w2c_p1;
+    w2c_i2 = 255u;
+    w2c_i1 &= w2c_i2;
+    w2c_l7 = w2c_i1;
+    w2c_i0 = w2c_i0 == w2c_i1;
+    if (w2c_i0) {goto w2c_B1;}
+    w2c_j0 = w2c_l6;
+    w2c_j1 = 11ull;
+    w2c_j0 += w2c_j1;
+    w2c_i0 = (u32)(w2c_j0);
+    w2c_i0 = i32_load8_u(&instance->w2c_memory, (u64)(w2c_i0));
+    w2c_i1 = 255u;
+    w2c_i0 &= w2c_i1;
+    w2c_i1 = w2c_l7;
+    w2c_i0 = w2c_i0 == w2c_i1;
+    if (w2c_i0) {goto w2c_B1;}
+    w2c_j0 = w2c_l6;
+    w2c_j1 = 12ull;
+    w2c_j0 += w2c_j1;
+    w2c_i0 = (u32)(w2c_j0);
+    w2c_i0 = i32_load8_u(&instance->w2c_memory, (u64)(w2c_i0));
+    w2c_i1 = 255u;
+    w2c_i0 &= w2c_i1;
+    w2c_i1 = w2c_p1;
+    w2c_i2 = 255u;
+    w2c_i1 &= w2c_i2;
+    w2c_l7 = w2c_i1;
+    w2c_i0 = w2c_i0 == w2c_i1;
+    if (w2c_i0) {goto w2c_B1;}
+    w2c_j0 = w2c_l6;
+    w2c_j1 = 13ull;
+    w2c_j0 += w2c_j1;
+    w2c_i0 = (u32)(w2c_j0);
+    w2c_i0 = i32_load8_u(&instance->w2c_memory, (u64)(w2c_i0));
+    w2c_i1 = 255u;
+    w2c_i0 &= w2c_i1;
+    w2c_i1 = w2c_l7;
+    w2c_i0 = w2c_i0 == w2c_i1;
+    if (w2c_i0) {goto w2c_B1;}
+    w2c_j0 = w2c_l6;
+    w2c_j1 = 14ull;
+    w2c_j0 += w2c_j1;
+    w2c_i0 = (u32)(w2c_j0);
+    w2c_i0 = i32_load8_u(&instance->w2c_memory, (u64)(w2c_i0));
+    w2c_i1 = 255u;
+    w2c_i0 &= w2c_i1;
+    w2c_i1 = w2c_p1;
+    w2c_i2 = 255u;
+    w2c_i1 &= w2c_i2;
+    w2c_l7 = w2c_i1;
+    w2c_i0 = w2c_i0 == w2c_i1;
+    if (w2c_i0) {goto w2c_B1;}
+    w2c_j0 = w2c_l6;
+    w2c_j1 = 15ull;
+    w2c_j0 += w2c_j1;
+    w2c_i0 = (u32)(w2c_j0);
+    w2c_i0 = i32_load8_u(&instance->w2c_memory, (u64)(w2c_i0));
+    w2c_i1 = 255u;
+    w2c_i0 &= w2c_i1;
+    w2c_i1 = w2c_l7;
+    w2c_i0 = w2c_i0 == w2c_i1;
+    if (w2c_i0) {goto w2c_B1;}
+    w2c_j0 = w2c_l6;
+    w2c_j1 = 16ull;
+    w2c_j0 += w2c_j1;
+    w2c_i0 = (u32)(w2c_j0);
+    w2c_i0 = i32_load8_u(&instance->w2c_memory, (u64)(w2c_i0));
+    w2c_i1 = 255u;
+    w2c_i0 &= w2c_i1;
+    w2c_i1 = w2c_p1;
+    w2c_i2 = 255u;
+    w2c_i1 &= w2c_i2;
+    w2c_l7 = w2c_i1;
+    w2c_i0 = w2c_i0 == w2c_i1;
+    if (w2c_i0) {goto w2c_B1;}
+    w2c_j0 = w2c_l6;
+    w2c_j1 = 17ull;
+    w2c_j0 += w2c_j1;
+    w2c_i0 = (u32)(w2c_j0);
+    w2c_i0 = i32_load8_u(&instance->w2c_memory, (u64)(w2c_i0));
+    w2c_i1 = 255u;
+    w2c_i0 &= w2c_i1;
+    w2c_i1 = w2c_l7;
+    w2c_i0 = w2c_i0 == w2c_i1;
+    if (w2c_i0) {goto w2c_B1;}
+    w2c_j0 = w2c_l6;
+    w2c_j1 = 18ull;
+    w2c_j0 += w2c_j1;
+    w2c_i0 = (u32)(w2c_j0);
+    w2c_i0 = i32_load8_u(&instance->w2c_memory, (u64)(w2c_i0));
+    w2c_i1 = 255u;
+    w2c_i0 &= w2c_i1;
+    w2c_i1 = w2c_p1;
+    w2c_i2 = 255u;
+    w2c_i1 &= w2c_i2;
+    w2c_l7 = w2c_i1;
+    w2c_i0 = w2c_i0 == w2c_i1;
+    if (w2c_i0) {goto w2c_B1;}
+    w2c_j0 = w2c_l6;
+    w2c_j1 = 19ull;
+    w2c_j0 += w2c_j1;
+    w2c_i0 = (u32)(w2c_j0);
+    w2c_i0 = i32_load8_u(&instance->w2c_memory, (u64)(w2c_i0));
+    w2c_i1 = 255u;
+    w2c_i0 &= w2c_i1;
+    w2c_i1 = w2c_l7;
+    w2c_i0 = w2c_i0 == w2c_i1;
+    if (w2c_i0) {goto w2c_B1;}
+    w2c_j0 = w2c_l6;
+    w2c_j1 = 20ull;
+    w2c_j0 += w2c_j1;
+    w2c_i0 = (u32)(w2c_j0);
+    w2c_i0 = i32_load8_u(&instance->w2c_memory, (u64)(w2c_i0));
+    w2c_i1 = 255u;
+    w2c_i0 &= w2c_i1;
+    w2c_i1 = w2c_p1;
+    w2c_i2 = 255u;
+    w2c_i1 &= w2c_i2;
+    w2c_l7 = w2c_i1;
+    w2c_i0 = w2c_i0 == w2c_i1;
+    if (w2c_i0) {goto w2c_B1;}
+    w2c_j0 = w2c_l6;
+    w2c_j1 = 21ull;
+    w2c_j0 += w2c_j1;
+    w2c_i0 = (u32)(w2c_j0);
+    w2c_i0 = i32_load8_u(&instance->w2c_memory, (u64)(w2c_i0));
+    w2c_i1 = 255u;
+    w2c_i0 &= w2c_i1;
+    w2c_i1 = w2c_l7;
+    w2c_i0 = w2c_i0 == w2c_i1;
+    if (w2c_i0) {goto w2c_B1;}
+    w2c_j0 = w2c_l6;
+    w2c_j1 = 22ull;
+    w2c_j0 += w2c_j1;
+    w2c_i0 = (u32)(w2c_j0);
+    w2c_i0 = i32_load8_u(&instance->w2c_memory, (u64)(w2c_i0));
+    w2c_i1 = 255u;
+    w2c_i0 &= w2c_i1;
+    w2c_i1 = w2c_p1;
+    w2c_i2 = 255u;
+    w2c_i1 &= w2c_i2;
+    w2c_l7 = w2c_i1;
+    w2c_i0 = w2c_i0 == w2c_i1;
+    if (w2c_i0) {goto w2c_B1;}
+    w2c_j0 = w2c_l6;
+    w2c_j1 = 23ull;
+    w2c_j0 += w2c_j1;
+    w2c_i0 = (u32)(w2c_j0);
+    w2c_i0 = i32_load8_u(&instance->w2c_memory, (u64)(w2c_i0));
+    w2c_i1 = 255u;
+    w2c_i0 &= w2c_i1;
+    w2c_i1 = w2c_l7;
+    w2c_i0 = w2c_i0 == w2c_i1;
+    if (w2c_i0) {goto w2c_B1;}
+    w2c_j0 = w2c_l6;
+    w2c_j1 = 24ull;
+    w2c_j0 += w2c_j1;
+    w2c_i0 = (u32)(w2c_j0);
+    w2c_i0 = i32_load8_u(&instance->w2c_memory, (u64)(w2c_i0));
+    w2c_i1 = 255u;
+    w2c_i0 &= w2c_i1;
+    w2c_i1 = w2c_p1;
+    w2c_i2 = 255u;
+    w2c_i1 &= w2c_i2;
+    w2c_l7 = w2c_i1;
+    w2c_i0 = w2c_i0 == w2c_i1;
+    if (w2c_i0) {goto w2c_B1;}
+    w2c_j0 = w2c_l6;
+    w2c_j1 = 25ull;
+    w2c_j0 += w2c_j1;
+    w2c_i0 = (u32)(w2c_j0);
+    w2c_i0 = i32_load8_u(&instance->w2c_memory, (u64)(w2c_i0));
+    w2c_i1 = 255u;
+    w2c_i0 &= w2c_i1;
+    w2c_i1 = w2c_l7;
+    w2c_i0 = w2c_i0 == w2c_i1;
+    if (w2c_i0) {goto w2c_B1;}
+    w2c_j0 = w2c_l6;
+    w2c_j1 = 26ull;
+    w2c_j0 += w2c_j1;
+    w2c_i0 = (u32)(w2c_j0);
+    w2c_i0 = i32_load8_u(&instance->w2c_memory, (u64)(w2c_i0));
+    w2c_i1 = 255u;
+    w2c_i0 &= w2c_i1;
+    w2c_i1 = w2c_p1;
+    w2c_i2 = 255u;
+    w2c_i1 &= w2c_i2;
+    w2c_l7 = w2c_i1;
+    w2c_i0 = w2c_i0 == w2c_i1;
+    if (w2c_i0) {goto w2c_B1;}
+    w2c_j0 = w2c_l6;
+    w2c_j1 = 27ull;
+    w2c_j0 += w2c_j1;
+    w2c_i0 = (u32)(w2c_j0);
+    w2c_i0 = i32_load8_u(&instance->w2c_memory, (u64)(w2c_i0));
+    w2c_i1 = 255u;
+    w2c_i0 &= w2c_i1;
+    w2c_i1 = w2c_l7;
+    w2c_i0 = w2c_i0 == w2c_i1;
+    if (w2c_i0) {goto w2c_B1;}
+    w2c_j0 = w2c_l6;
+    w2c_j1 = 28ull;
+    w2c_j0 += w2c_j1;
+    w2c_i0 = (u32)(w2c_j0);
+    w2c_i0 = i32_load8_u(&instance->w2c_memory, (u64)(w2c_i0));
+    w2c_i1 = 255u;
+    w2c_i0 &= w2c_i1;
+    w2c_i1 = w2c_p1;
+    w2c_i2 = 255u;
+    w2c_i1 &= w2c_i2;
+    w2c_l7 = w2c_i1;
+    w2c_i0 = w2c_i0 == w2c_i1;
+    if (w2c_i0) {goto w2c_B1;}
+    w2c_j0 = w2c_l6;
+    w2c_j1 = 29ull;
+    w2c_j0 += w2c_j1;
+    w2c_i0 = (u32)(w2c_j0);
+    w2c_i0 = i32_load8_u(&instance->w2c_memory, (u64)(w2c_i0));
+    w2c_i1 = 255u;
+    w2c_i0 &= w2c_i1;
+    w2c_i1 = w2c_l7;
+    w2c_i0 = w2c_i0 == w2c_i1;
+    if (w2c_i0) {goto w2c_B1;}
+    w2c_j0 = w2c_l6;
+    w2c_j1 = 30ull;
+    w2c_j0 += w2c_j1;
+    w2c_i0 = (u32)(w2c_j0);
+    w2c_i0 = i32_load8_u(&instance->w2c_memory, (u64)(w2c_i0));
+    w2c_i1 = 255u;
+    w2c_i0 &= w2c_i1;
+    w2c_i1 = w2c_p1;
+    w2c_i2 = 255u;
+    w2c_i1 &= w2c_i2;
+    w2c_l7 = w2c_i1;
+    w2c_i0 = w2c_i0 == w2c_i1;
+    if (w2c_i0) {goto w2c_B1;}
+    w2c_j0 = w2c_l6;
+    w2c_j1 = 31ull;
+    w2c_j0 += w2c_j1;
+    w2c_i0 = (u32)(w2c_j0);
+    w2c_i0 = i32_load8_u(&instance->w2c_memory, (u64)(w2c_i0));
+    w2c_i1 = 255u;
+    w2c_i0 &= w2c_i1;
+    w2c_i1 = w2c_l7;
+    w2c_i0 = w2c_i0 == w2c_i1;
+    if (w2c_i0) {goto w2c_B1;}
+    w2c_j0 = w2c_l6;
+    w2c_j1 = 32ull;
+    w2c_j0 += w2c_j1;
+    w2c_i0 = (u32)(w2c_j0);
+    w2c_i0 = i32_load8_u(&instance->w2c_memory, (u64)(w2c_i0));
+    w2c_i1 = 255u;
+    w2c_i0 &= w2c_i1;
+    w2c_i1 = w2c_p1;
+    w2c_i2 = 255u;
+    w2c_i1 &= w2c_i2;
+    w2c_l7 = w2c_i1;
+    w2c_i0 = w2c_i0 == w2c_i1;
+    if (w2c_i0) {goto w2c_B1;}
+    w2c_j0 = w2c_l6;
+    w2c_j1 = 33ull;
+    w2c_j0 += w2c_j1;
+    w2c_i0 = (u32)(w2c_j0);
+    w2c_i0 = i32_load8_u(&instance->w2c_memory, (u64)(w2c_i0));
+    w2c_i1 = 255u;
+    w2c_i0 &= w2c_i1;
+    w2c_i1 = w2c_l7;
+    w2c_i0 = w2c_i0 == w2c_i1;
+    if (w2c_i0) {goto w2c_B1;}
+    w2c_j0 = w2c_l6;
+    w2c_j1 = 34ull;
+    w2c_j0 += w2c_j1;
+    w2c_i0 = (u32)(w2c_j0);
+    w2c_i0 = i32_load8_u(&instance->w2c_memory, (u64)(w2c_i0));
+    w2c_i1 = 255u;
+    w2c_i0 &= w2c_i1;
+    w2c_i1 = w2c_p1;
+    w2c_i2 = 255u;
+    w2c_i1 &= w2c_i2;
+    w2c_l7 = w2c_i1;
+    w2c_i0 = w2c_i0 == w2c_i1;
+    if (w2c_i0) {goto w2c_B1;}
+    w2c_j0 = w2c_l6;
+    w2c_j1 = 35ull;
+    w2c_j0 += w2c_j1;
+    w2c_i0 = (u32)(w2c_j0);
+    w2c_i0 = i32_load8_u(&instance->w2c_memory, (u64)(w2c_i0));
+    w2c_i1 = 255u;
+    w2c_i0 &= w2c_i1;
+    w2c_i1 = w2c_l7;
+    w2c_i0 = w2c_i0 == w2c_i1;
+    if (w2c_i0) {goto w2c_B1;}
+    w2c_j0 = w2c_l6;
+    w2c_j1 = 36ull;
+    w2c_j0 += w2c_j1;
+    w2c_i0 = (u32)(w2c_j0);
+    w2c_i0 = i32_load8_u(&instance->w2c_memory, (u64)(w2c_i0));
+    w2c_i1 = 255u;
+    w2c_i0 &= w2c_i1;
+    w2c_i1 = w2c_p1;
+    w2c_i2 = 255u;
+    w2c_i1 &= w2c_i2;
+    w2c_l7 = w2c_i1;
+    w2c_i0 = w2c_i0 == w2c_i1;
+    if (w2c_i0) {goto w2c_B1;}
+    w2c_j0 = w2c_l6;
+    w2c_j1 = 37ull;
+    w2c_j0 += w2c_j1;
+    w2c_i0 = (u32)(w2c_j0);
+    w2c_i0 = i32_load8_u(&instance->w2c_memory, (u64)(w2c_i0));
+    w2c_i1 = 255u;
+    w2c_i0 &= w2c_i1;
+    w2c_i1 = w2c_l7;
+    w2c_i0 = w2c_i0 == w2c_i1;
+    if (w2c_i0) {goto w2c_B1;}
+    w2c_j0 = w2c_l6;
+    w2c_j1 = 38ull;
+    w2c_j0 += w2c_j1;
+    w2c_i0 = (u32)(w2c_j0);
+    w2c_i0 = i32_load8_u(&instance->w2c_memory, (u64)(w2c_i0));
+    w2c_i1 = 255u;
+    w2c_i0 &= w2c_i1;
+    w2c_i1 = w2c_p1;
+    w2c_i2 = 255u;
+    w2c_i1 &= w2c_i2;
+    w2c_l7 = w2c_i1;
+    w2c_i0 = w2c_i0 == w2c_i1;
+    if (w2c_i0) {goto w2c_B1;}
+    w2c_j0 = w2c_l6;
+    w2c_j1 = 39ull;
+    w2c_j0 += w2c_j1;
+    w2c_i0 = (u32)(w2c_j0);
+    w2c_i0 = i32_load8_u(&instance->w2c_memory, (u64)(w2c_i0));
+    w2c_i1 = 255u;
+    w2c_i0 &= w2c_i1;
+    w2c_i1 = w2c_l7;
+    w2c_i0 = w2c_i0 == w2c_i1;
+    if (w2c_i0) {goto w2c_B1;}
+    w2c_j0 = w2c_l6;
+    w2c_j1 = 40ull;
+    w2c_j0 += w2c_j1;
+    w2c_i0 = (u32)(w2c_j0);
+    w2c_i0 = i32_load8_u(&instance->w2c_memory, (u64)(w2c_i0));
+    w2c_i1 = 255u;
+    w2c_i0 &= w2c_i1;
+    w2c_i1 = w2c_p1;
+    w2c_i2 = 255u;
+    w2c_i1 &= w2c_i2;
+    w2c_l7 = w2c_i1;
+    w2c_i0 = w2c_i0 == w2c_i1;
+    if (w2c_i0) {goto w2c_B1;}
+    w2c_j0 = w2c_l6;
+    w2c_j1 = 41ull;
+    w2c_j0 += w2c_j1;
+    w2c_i0 = (u32)(w2c_j0);
+    w2c_i0 = i32_load8_u(&instance->w2c_memory, (u64)(w2c_i0));
+    w2c_i1 = 255u;
+    w2c_i0 &= w2c_i1;
+    w2c_i1 = w2c_l7;
+    w2c_i0 = w2c_i0 == w2c_i1;
+    if (w2c_i0) {goto w2c_B1;}
+    w2c_j0 = w2c_l6;
+    w2c_j1 = 42ull;
+    w2c_j0 += w2c_j1;
+    w2c_i0 = (u32)(w2c_j0);
+    w2c_i0 = i32_load8_u(&instance->w2c_memory, (u64)(w2c_i0));
+    w2c_i1 = 255u;
+    w2c_i0 &= w2c_i1;
+    w2c_i1 = w2c_p1;
+    w2c_i2 = 255u;
+    w2c_i1 &= w2c_i2;
+    w2c_l7 = w2c_i1;
+    w2c_i0 = w2c_i0 == w2c_i1;
+    if (w2c_i0) {goto w2c_B1;}
+    w2c_j0 = w2c_l6;
+    w2c_j1 = 43ull;
+    w2c_j0 += w2c_j1;
+    w2c_i0 = (u32)(w2c_j0);
+    w2c_i0 = i32_load8_u(&instance->w2c_memory, (u64)(w2c_i0));
+    w2c_i1 = 255u;
+    w2c_i0 &= w2c_i1;
+    w2c_i1 = w2c_l7;
+    w2c_i0 = w2c_i0 == w2c_i1;
+    if (w2c_i0) {goto w2c_B1;}
+    w2c_j0 = w2c_l6;
+    w2c_j1 = 44ull;
+    w2c_j0 += w2c_j1;
+    w2c_i0 = (u32)(w2c_j0);
+    w2c_i0 = i32_load8_u(&instance->w2c_memory, (u64)(w2c_i0));
+    w2c_i1 = 255u;
+    w2c_i0 &= w2c_i1;
+    w2c_i1 = w2c_p1;
+    w2c_i2 = 255u;
+    w2c_i1 &= w2c_i2;
+    w2c_l7 = w2c_i1;
+    w2c_i0 = w2c_i0 == w2c_i1;
+    if (w2c_i0) {goto w2c_B1;}
+    w2c_j0 = w2c_l6;
+    w2c_j1 = 45ull;
+    w2c_j0 += w2c_j1;
+    w2c_i0 = (u32)(w2c_j0);
+    w2c_i0 = i32_load8_u(&instance->w2c_memory, (u64)(w2c_i0));
+    w2c_i1 = 255u;
+    w2c_i0 &= w2c_i1;
+    w2c_i1 = w2c_l7;
+    w2c_i0 = w2c_i0 == w2c_i1;
+    if (w2c_i0) {goto w2c_B1;}
+    w2c_j0 = w2c_l6;
+    w2c_j1 = 46ull;
+    w2c_j0 += w2c_j1;
+    w2c_i0 = (u32)(w2c_j0);
+    w2c_i0 = i32_load8_u(&instance->w2c_memory, (u64)(w2c_i0));
+    w2c_i1 = 255u;
+    w2c_i0 &= w2c_i1;
+    w2c_i1 = w2c_p1;
+    w2c_i2 = 255u;
+    w2c_i1 &= w2c_i2;
+    w2c_l7 = w2c_i1;
+    w2c_i0 = w2c_i0 == w2c_i1;
+    if (w2c_i0) {goto w2c_B1;}
+    w2c_j0 = w2c_l6;
+    w2c_j1 = 47ull;
+    w2c_j0 += w2c_j1;
+    w2c_i0 = (u32)(w2c_j0);
+    w2c_i0 = i32_load8_u(&instance->w2c_memory, (u64)(w2c_i0));
+    w2c_i1 = 255u;
+    w2c_i0 &= w2c_i1;
+    w2c_i1 = w2c_l7;
+    w2c_i0 = w2c_i0 == w2c_i1;
+    if (w2c_i0) {goto w2c_B1;}
+    w2c_j0 = w2c_l6;
+    w2c_j1 = 48ull;
+    w2c_j0 += w2c_j1;
+    w2c_i0 = (u32)(w2c_j0);
+    w2c_i0 = i32_load8_u(&instance->w2c_memory, (u64)(w2c_i0));
+    w2c_i1 = 255u;
+    w2c_i0 &= w2c_i1;
+    w2c_i1 = w2c_p1;
+    w2c_i2 = 255u;
+    w2c_i1 &= w2c_i2;
+    w2c_l7 = w2c_i1;
+    w2c_i0 = w2c_i0 == w2c_i1;
+    if (w2c_i0) {goto w2c_B1;}
+    w2c_j0 = w2c_l6;
+    w2c_j1 = 49ull;
+    w2c_j0 += w2c_j1;
+    w2c_i0 = (u32)(w2c_j0);
+    w2c_i0 = i32_load8_u(&instance->w2c_memory, (u64)(w2c_i0));
+    w2c_i1 = 255u;
+    w2c_i0 &= w2c_i1;
+    w2c_i1 = w2c_l7;
+    w2c_i0 = w2c_i0 == w2c_i1;
+    if (w2c_i0) {goto w2c_B1;}
+    w2c_j0 = w2c_l6;
+    w2c_j1 = 50ull;
+    w2c_j0 += w2c_j1;
+    w2c_i0 = (u32)(w2c_j0);
+    w2c_i0 = i32_load8_u(&instance->w2c_memory, (u64)(w2c_i0));
+    w2c_i1 = 255u;
+    w2c_i0 &= w2c_i1;
+    w2c_i1 = w2c_p1;
+    w2c_i2 = 255u;
+    w2c_i1 &= w2c_i2;
+    w2c_l7 = w2c_i1;
+    w2c_i0 = w2c_i0 == w2c_i1;
+    if (w2c_i0) {goto w2c_B1;}
+    w2c_j0 = w2c_l6;
+    w2c_j1 = 51ull;
+    w2c_j0 += w2c_j1;
+    w2c_i0 = (u32)(w2c_j0);
+    w2c_i0 = i32_load8_u(&instance->w2c_memory, (u64)(w2c_i0));
+    w2c_i1 = 255u;
+    w2c_i0 &= w2c_i1;
+    w2c_i1 = w2c_l7;
+    w2c_i0 = w2c_i0 == w2c_i1;
+    if (w2c_i0) {goto w2c_B1;}
+    w2c_j0 = w2c_l6;
+    w2c_j1 = 52ull;
+    w2c_j0 += w2c_j1;
+    w2c_i0 = (u32)(w2c_j0);
+    w2c_i0 = i32_load8_u(&instance->w2c_memory, (u64)(w2c_i0));
+    w2c_i1 = 255u;
+    w2c_i0 &= w2c_i1;
+    w2c_i1 = w2c_p1;
+    w2c_i2 = 255u;
+    w2c_i1 &= w2c_i2;
+    w2c_l7 = w2c_i1;
+    w2c_i0 = w2c_i0 == w2c_i1;
+    if (w2c_i0) {goto w2c_B1;}
+    w2c_j0 = w2c_l6;
+    w2c_j1 = 53ull;
+    w2c_j0 += w2c_j1;
+    w2c_i0 = (u32)(w2c_j0);
+    w2c_i0 = i32_load8_u(&instance->w2c_memory, (u64)(w2c_i0));
+    w2c_i1 = 255u;
+    w2c_i0 &= w2c_i1;
+    w2c_i1 = w2c_l7;
+    w2c_i0 = w2c_i0 == w2c_i1;
+    if (w2c_i0) {goto w2c_B1;}
+    w2c_j0 = w2c_l6;
+    w2c_j1 = 54ull;
+    w2c_j0 += w2c_j1;
+    w2c_i0 = (u32)(w2c_j0);
+    w2c_i0 = i32_load8_u(&instance->w2c_memory, (u64)(w2c_i0));
+    w2c_i1 = 255u;
+    w2c_i0 &= w2c_i1;
+    w2c_i1 = w2c_p1;
+    w2c_i2 = 255u;
+    w2c_i1 &= w2c_i2;
+    w2c_l7 = w2c_i1;
+    w2c_i0 = w2c_i0 == w2c_i1;
+    if (w2c_i0) {goto w2c_B1;}
+    w2c_j0 = w2c_l6;
+    w2c_j1 = 55ull;
+    w2c_j0 += w2c_j1;
+    w2c_i0 = (u32)(w2c_j0);
+    w2c_i0 = i32_load8_u(&instance->w2c_memory, (u64)(w2c_i0));
+    w2c_i1 = 255u;
+    w2c_i0 &= w2c_i1;
+    w2c_i1 = w2c_l7;
+    w2c_i0 = w2c_i0 == w2c_i1;
+    if (w2c_i0) {goto w2c_B1;}
+    w2c_j0 = w2c_l6;
+    w2c_j1 = 56ull;
+    w2c_j0 += w2c_j1;
+    w2c_i0 = (u32)(w2c_j0);
+    w2c_i0 = i32_load8_u(&instance->w2c_memory, (u64)(w2c_i0));
+    w2c_i1 = 255u;
+    w2c_i0 &= w2c_i1;
+    w2c_i1 = w2c_p1;
+    w2c_i2 = 255u;
+    w2c_i1 &= w2c_i2;
+    w2c_l7 = w2c_i1;
+    w2c_i0 = w2c_i0 == w2c_i1;
+    if (w2c_i0) {goto w2c_B1;}
+    w2c_j0 = w2c_l6;
+    w2c_j1 = 57ull;
+    w2c_j0 += w2c_j1;
+    w2c_i0 = (u32)(w2c_j0);
+    w2c_i0 = i32_load8_u(&instance->w2c_memory, (u64)(w2c_i0));
+    w2c_i1 = 255u;
+    w2c_i0 &= w2c_i1;
+    w2c_i1 = w2c_l7;
+    w2c_i0 = w2c_i0 == w2c_i1;
+    if (w2c_i0) {goto w2c_B1;}
+    w2c_j0 = w2c_l6;
+    w2c_j1 = 58ull;
+    w2c_j0 += w2c_j1;
+    w2c_i0 = (u32)(w2c_j0);
+    w2c_i0 = i32_load8_u(&instance->w2c_memory, (u64)(w2c_i0));
+    w2c_i1 = 255u;
+    w2c_i0 &= w2c_i1;
+    w2c_i1 = w2c_p1;
+    w2c_i2 = 255u;
+    w2c_i1 &= w2c_i2;
+    w2c_l7 = w2c_i1;
+    w2c_i0 = w2c_i0 == w2c_i1;
+    if (w2c_i0) {goto w2c_B1;}
+    w2c_j0 = w2c_l6;
+    w2c_j1 = 59ull;
+    w2c_j0 += w2c_j1;
+    w2c_i0 = (u32)(w2c_j0);
+    w2c_i0 = i32_load8_u(&instance->w2c_memory, (u64)(w2c_i0));
+    w2c_i1 = 255u;
+    w2c_i0 &= w2c_i1;
+    w2c_i1 = w2c_l7;
+    w2c_i0 = w2c_i0 == w2c_i1;
+    if (w2c_i0) {goto w2c_B1;}
+    w2c_j0 = w2c_l6;
+    w2c_j1 = 60ull;
+    w2c_j0 += w2c_j1;
+    w2c_i0 = (u32)(w2c_j0);
+    w2c_i0 = i32_load8_u(&instance->w2c_memory, (u64)(w2c_i0));
+    w2c_i1 = 255u;
+    w2c_i0 &= w2c_i1;
+    w2c_i1 = w2c_p1;
+    w2c_i2 = 255u;
+    w2c_i1 &= w2c_i2;
+    w2c_l7 = w2c_i1;
+    w2c_i0 = w2c_i0 == w2c_i1;
+    if (w2c_i0) {goto w2c_B1;}
+    w2c_j0 = w2c_l6;
+    w2c_j1 = 61ull;
+    w2c_j0 += w2c_j1;
+    w2c_i0 = (u32)(w2c_j0);
+    w2c_i0 = i32_load8_u(&instance->w2c_memory, (u64)(w2c_i0));
+    w2c_i1 = 255u;
+    w2c_i0 &= w2c_i1;
+    w2c_i1 = w2c_l7;
+    w2c_i0 = w2c_i0 == w2c_i1;
+    if (w2c_i0) {goto w2c_B1;}
+    w2c_j0 = w2c_l6;
+    w2c_j1 = 62ull;
+    w2c_j0 += w2c_j1;
+    w2c_i0 = (u32)(w2c_j0);
+    w2c_i0 = i32_load8_u(&instance->w2c_memory, (u64)(w2c_i0));
+    w2c_i1 = 255u;
+    w2c_i0 &= w2c_i1;
+    w2c_i1 = w2c_p1;
+    w2c_i2 = 255u;
+    w2c_i1 &= w2c_i2;
+    w2c_l7 = w2c_i1;
+    w2c_i0 = w2c_i0 == w2c_i1;
+    if (w2c_i0) {goto w2c_B1;}
+    w2c_j0 = w2c_l6;
+    w2c_j1 = 63ull;
+    w2c_j0 += w2c_j1;
+    w2c_i0 = (u32)(w2c_j0);
+    w2c_i0 = i32_load8_u(&instance->w2c_memory, (u64)(w2c_i0));
+    w2c_i1 = 255u;
+    w2c_i0 &= w2c_i1;
+    w2c_i1 = w2c_l7;
+    w2c_i0 = w2c_i0 == w2c_i1;
+    if (w2c_i0) {goto w2c_B1;}
+    w2c_j0 = w2c_p4;
+    w2c_j1 = 64ull;
+    w2c_j0 += w2c_j1;
+    w2c_p4 = w2c_j0;
+    w2c_j0 = w2c_l5;
+    w2c_j1 = 18446744073709551552ull;
+    w2c_j0 += w2c_j1;
+    w2c_l5 = w2c_j0;
+    w2c_j1 = 63ull;
+    w2c_i0 = w2c_j0 > w2c_j1;
+    if (w2c_i0) {goto w2c_L2;}
+  w2c_B1:;
+  w2c_j0 = w2c_l5;
+  w2c_j1 = 16ull;
+  w2c_i0 = w2c_j0 < w2c_j1;
+  if (w2c_i0) {goto w2c_B3;}
+  w2c_j0 = w2c_p3;
+  w2c_j1 = w2c_p4;
+  w2c_j0 -= w2c_j1;
+  w2c_l5 = w2c_j0;
+  w2c_L4: 
+    w2c_j0 = w2c_p2;
+    w2c_j1 = w2c_p4;
+    w2c_j0 += w2c_j1;
+    w2c_l6 = w2c_j0;
+    w2c_i0 = (u32)(w2c_j0);
+    w2c_i0 = i32_load8_u(&instance->w2c_memory, (u64)(w2c_i0));
+    w2c_i1 = w2c_p1;
+    w2c_i2 = 255u;
+    w2c_i1 &= w2c_i2;
+    w2c_l7 = w2c_i1;
+    w2c_i0 = w2c_i0 == w2c_i1;
+    if (w2c_i0) {goto w2c_B3;}
+    w2c_j0 = w2c_l6;
+    w2c_j1 = 1ull;
+    w2c_j0 += w2c_j1;
+    w2c_i0 = (u32)(w2c_j0);
+    w2c_i0 = i32_load8_u(&instance->w2c_memory, (u64)(w2c_i0));
+    w2c_i1 = 255u;
+    w2c_i0 &= w2c_i1;
+    w2c_i1 = w2c_l7;
+    w2c_i0 = w2c_i0 == w2c_i1;
+    if (w2c_i0) {goto w2c_B3;}
+    w2c_j0 = w2c_l6;
+    w2c_j1 = 2ull;
+    w2c_j0 += w2c_j1;
+    w2c_i0 = (u32)(w2c_j0);
+    w2c_i0 = i32_load8_u(&instance->w2c_memory, (u64)(w2c_i0));
+    w2c_i1 = 255u;
+    w2c_i0 &= w2c_i1;
+    w2c_i1 = w2c_p1;
+    w2c_i2 = 255u;
+    w2c_i1 &= w2c_i2;
+    w2c_l7 = w2c_i1;
+    w2c_i0 = w2c_i0 == w2c_i1;
+    if (w2c_i0) {goto w2c_B3;}
+    w2c_j0 = w2c_l6;
+    w2c_j1 = 3ull;
+    w2c_j0 += w2c_j1;
+    w2c_i0 = (u32)(w2c_j0);
+    w2c_i0 = i32_load8_u(&instance->w2c_memory, (u64)(w2c_i0));
+    w2c_i1 = 255u;
+    w2c_i0 &= w2c_i1;
+    w2c_i1 = w2c_l7;
+    w2c_i0 = w2c_i0 == w2c_i1;
+    if (w2c_i0) {goto w2c_B3;}
+    w2c_j0 = w2c_l6;
+    w2c_j1 = 4ull;
+    w2c_j0 += w2c_j1;
+    w2c_i0 = (u32)(w2c_j0);
+    w2c_i0 = i32_load8_u(&instance->w2c_memory, (u64)(w2c_i0));
+    w2c_i1 = 255u;
+    w2c_i0 &= w2c_i1;
+    w2c_i1 = w2c_p1;
+    w2c_i2 = 255u;
+    w2c_i1 &= w2c_i2;
+    w2c_l7 = w2c_i1;
+    w2c_i0 = w2c_i0 == w2c_i1;
+    if (w2c_i0) {goto w2c_B3;}
+    w2c_j0 = w2c_l6;
+    w2c_j1 = 5ull;
+    w2c_j0 += w2c_j1;
+    w2c_i0 = (u32)(w2c_j0);
+    w2c_i0 = i32_load8_u(&instance->w2c_memory, (u64)(w2c_i0));
+    w2c_i1 = 255u;
+    w2c_i0 &= w2c_i1;
+    w2c_i1 = w2c_l7;
+    w2c_i0 = w2c_i0 == w2c_i1;
+    if (w2c_i0) {goto w2c_B3;}
+    w2c_j0 = w2c_l6;
+    w2c_j1 = 6ull;
+    w2c_j0 += w2c_j1;
+    w2c_i0 = (u32)(w2c_j0);
+    w2c_i0 = i32_load8_u(&instance->w2c_memory, (u64)(w2c_i0));
+    w2c_i1 = 255u;
+    w2c_i0 &= w2c_i1;
+    w2c_i1 = w2c_p1;
+    w2c_i2 = 255u;
+    w2c_i1 &= w2c_i2;
+    w2c_l7 = w2c_i1;
+    w2c_i0 = w2c_i0 == w2c_i1;
+    if (w2c_i0) {goto w2c_B3;}
+    w2c_j0 = w2c_l6;
+    w2c_j1 = 7ull;
+    w2c_j0 += w2c_j1;
+    w2c_i0 = (u32)(w2c_j0);
+    w2c_i0 = i32_load8_u(&instance->w2c_memory, (u64)(w2c_i0));
+    w2c_i1 = 255u;
+    w2c_i0 &= w2c_i1;
+    w2c_i1 = w2c_l7;
+    w2c_i0 = w2c_i0 == w2c_i1;
+    if (w2c_i0) {goto w2c_B3;}
+    w2c_j0 = w2c_l6;
+    w2c_j1 = 8ull;
+    w2c_j0 += w2c_j1;
+    w2c_i0 = (u32)(w2c_j0);
+    w2c_i0 = i32_load8_u(&instance->w2c_memory, (u64)(w2c_i0));
+    w2c_i1 = 255u;
+    w2c_i0 &= w2c_i1;
+    w2c_i1 = w2c_p1;
+    w2c_i2 = 255u;
+    w2c_i1 &= w2c_i2;
+    w2c_l7 = w2c_i1;
+    w2c_i0 = w2c_i0 == w2c_i1;
+    if (w2c_i0) {goto w2c_B3;}
+    w2c_j0 = w2c_l6;
+    w2c_j1 = 9ull;
+    w2c_j0 += w2c_j1;
+    w2c_i0 = (u32)(w2c_j0);
+    w2c_i0 = i32_load8_u(&instance->w2c_memory, (u64)(w2c_i0));
+    w2c_i1 = 255u;
+    w2c_i0 &= w2c_i1;
+    w2c_i1 = w2c_l7;
+    w2c_i0 = w2c_i0 == w2c_i1;
+    if (w2c_i0) {goto w2c_B3;}
+    w2c_j0 = w2c_l6;
+    w2c_j1 = 10ull;
+    w2c_j0 += w2c_j1;
+    w2c_i0 = (u32)(w2c_j0);
+    w2c_i0 = i32_load8_u(&instance->w2c_memory, (u64)(w2c_i0));
+    w2c_i1 = 255u;
+    w2c_i0 &= w2c_i1;
+    w2c_i1 = w2c_p1;
+    w2c_i2 = 255u;
+    w2c_i1 &= w2c_i2;
+    w2c_l7 = w2c_i1;
+    w2c_i0 = w2c_i0 == w2c_i1;
+    if (w2c_i0) {goto w2c_B3;}
+    w2c_j0 = w2c_l6;
+    w2c_j1 = 11ull;
+    w2c_j0 += w2c_j1;
+    w2c_i0 = (u32)(w2c_j0);
+    w2c_i0 = i32_load8_u(&instance->w2c_memory, (u64)(w2c_i0));
+    w2c_i1 = 255u;
+    w2c_i0 &= w2c_i1;
+    w2c_i1 = w2c_l7;
+    w2c_i0 = w2c_i0 == w2c_i1;
+    if (w2c_i0) {goto w2c_B3;}
+    w2c_j0 = w2c_l6;
+    w2c_j1 = 12ull;
+    w2c_j0 += w2c_j1;
+    w2c_i0 = (u32)(w2c_j0);
+    w2c_i0 = i32_load8_u(&instance->w2c_memory, (u64)(w2c_i0));
+    w2c_i1 = 255u;
+    w2c_i0 &= w2c_i1;
+    w2c_i1 = w2c_p1;
+    w2c_i2 = 255u;
+    w2c_i1 &= w2c_i2;
+    w2c_l7 = w2c_i1;
+    w2c_i0 = w2c_i0 == w2c_i1;
+    if (w2c_i0) {goto w2c_B3;}
+    w2c_j0 = w2c_l6;
+    w2c_j1 = 13ull;
+    w2c_j0 += w2c_j1;
+    w2c_i0 = (u32)(w2c_j0);
+    w2c_i0 = i32_load8_u(&instance->w2c_memory, (u64)(w2c_i0));
+    w2c_i1 = 255u;
+    w2c_i0 &= w2c_i1;
+    w2c_i1 = w2c_l7;
+    w2c_i0 = w2c_i0 == w2c_i1;
+    if (w2c_i0) {goto w2c_B3;}
+    w2c_j0 = w2c_l6;
+    w2c_j1 = 14ull;
+    w2c_j0 += w2c_j1;
+    w2c_i0 = (u32)(w2c_j0);
+    w2c_i0 = i32_load8_u(&instance->w2c_memory, (u64)(w2c_i0));
+    w2c_i1 = 255u;
+    w2c_i0 &= w2c_i1;
+    w2c_i1 = w2c_p1;
+    w2c_i2 = 255u;
+    w2c_i1 &= w2c_i2;
+    w2c_l7 = w2c_i1;
+    w2c_i0 = w2c_i0 == w2c_i1;
+    if (w2c_i0) {goto w2c_B3;}
+    w2c_j0 = w2c_l6;
+    w2c_j1 = 15ull;
+    w2c_j0 += w2c_j1;
+    w2c_i0 = (u32)(w2c_j0);
+    w2c_i0 = i32_load8_u(&instance->w2c_memory, (u64)(w2c_i0));
+    w2c_i1 = 255u;
+    w2c_i0 &= w2c_i1;
+    w2c_i1 = w2c_l7;
+    w2c_i0 = w2c_i0 == w2c_i1;
+    if (w2c_i0) {goto w2c_B3;}
+    w2c_j0 = w2c_p4;
+    w2c_j1 = 16ull;
+    w2c_j0 += w2c_j1;
+    w2c_p4 = w2c_j0;
+    w2c_j0 = w2c_l5;
+    w2c_j1 = 18446744073709551600ull;
+    w2c_j0 += w2c_j1;
+    w2c_l5 = w2c_j0;
+    w2c_j1 = 15ull;
+    w2c_i0 = w2c_j0 > w2c_j1;
+    if (w2c_i0) {goto w2c_L4;}
+  w2c_B3:;
+  w2c_i0 = 0u;
+  w2c_l7 = w2c_i0;
+  w2c_j0 = w2c_p4;
+  w2c_j1 = w2c_p3;
+  w2c_i0 = w2c_j0 >= w2c_j1;
+  if (w2c_i0) {goto w2c_B6;}
+  w2c_L7: 
+    w2c_j0 = w2c_p2;
+    w2c_j1 = w2c_p4;
+    w2c_j0 += w2c_j1;
+    w2c_i0 = (u32)(w2c_j0);
+    w2c_i0 = i32_load8_u(&instance->w2c_memory, (u64)(w2c_i0));
+    w2c_i1 = w2c_p1;
+    w2c_i2 = 255u;
+    w2c_i1 &= w2c_i2;
+    w2c_i0 = w2c_i0 != w2c_i1;
+    if (w2c_i0) {goto w2c_B8;}
+    w2c_i0 = 1u;
+    w2c_l7 = w2c_i0;
+    goto w2c_B5;
+    w2c_B8:;
+    w2c_j0 = w2c_p3;
+    w2c_j1 = w2c_p4;
+    w2c_j2 = 1ull;
+    w2c_j1 += w2c_j2;
+    w2c_p4 = w2c_j1;
+    w2c_i0 = w2c_j0 != w2c_j1;
+    if (w2c_i0) {goto w2c_L7;}
+  w2c_B6:;
+  w2c_j0 = 0ull;
+  w2c_p4 = w2c_j0;
+  w2c_B5:;
+  w2c_j0 = w2c_p0;
+  w2c_i0 = (u32)(w2c_j0);
+  w2c_j1 = w2c_p4;
+  i64_store(&instance->w2c_memory, (u64)(w2c_i0) + 8, w2c_j1);
+  w2c_j0 = w2c_p0;
+  w2c_i0 = (u32)(w2c_j0);
+  w2c_i1 = w2c_l7;
+  i32_store8(&instance->w2c_memory, (u64)(w2c_i0), w2c_i1);
+  goto w2c_Bfunc;
+  w2c_B0:;
+  UNREACHABLE;
+  w2c_Bfunc:;
+}
+
+static u32 w2c_core__slice__scan__any_in_quarters(Machine * instance, u64 w2c_p0, u64 w2c_p1, u64 w2c_p2) {
+  const u8 *near0;
+  const u8 *near1;
+  const u8 *near2;
+  const u8 *near3;
+  const u8 *near4;
+  const u8 *near5;
+  u64 w2c_l3 = 0, w2c_l4 = 0, w2c_l5 = 0, w2c_l6 = 0, w2c_l7 = 0;
+  u32 w2c_i0, w2c_i1, w2c_i2, w2c_i3, w2c_i4, w2c_i5;
+  u64 w2c_j0, w2c_j1, w2c_j2, w2c_j3, w2c_j4, w2c_j5;
+  w2c_j0 = instance->w2c___stack_pointer;
+  w2c_j1 = 16ull;
+  w2c_i0 = (u64)((s64)w2c_j0 < (s64)w2c_j1);
+  if (w2c_i0) {goto w2c_B0;}
+  w2c_j0 = w2c_p0;
+  w2c_j1 = w2c_p2;
+  w2c_j2 = 18446744073709551608ull;
+  w2c_j1 += w2c_j2;
+  w2c_l3 = w2c_j1;
+  w2c_j2 = 8ull;
+  w2c_j3 = w2c_l3;
+  w2c_j4 = 8ull;
+  w2c_i3 = w2c_j3 < w2c_j4;
+  w2c_j1 = w2c_i3 ? w2c_j1 : w2c_j2;
+  w2c_l4 = w2c_j1;
+  w2c_j0 += w2c_j1;
+  w2c_p2 = w2c_j0;
+  w2c_i0 = (u32)(w2c_j0);
+  w2c_i0 = i32_load8_u(&instance->w2c_memory, (u64)(w2c_i0));
+  w2c_j1 = w2c_p1;
+  w2c_j2 = w2c_l4;
+  w2c_j1 += w2c_j2;
+  w2c_l4 = w2c_j1;
+  w2c_i1 = (u32)(w2c_j1);
+  w2c_i1 = i32_load8_u(&instance->w2c_memory, (u64)(w2c_i1));
+  w2c_i0 = w2c_i0 != w2c_i1;
+  w2c_j1 = w2c_p0;
+  w2c_j2 = w2c_l3;
+  w2c_j3 = 16ull;
+  w2c_j4 = w2c_l3;
+  w2c_j5 = 16ull;
+  w2c_i4 = w2c_j4 < w2c_j5;
+  w2c_j2 = w2c_i4 ? w2c_j2 : w2c_j3;
+  w2c_l5 = w2c_j2;
+  w2c_j1 += w2c_j2;
+  w2c_l6 = w2c_j1;
+  w2c_i1 = (u32)(w2c_j1);
+  w2c_i1 = i32_load8_u(&instance->w2c_memory, (u64)(w2c_i1));
+  w2c_j2 = w2c_p1;
+  w2c_j3 = w2c_l5;
+  w2c_j2 += w2c_j3;
+  w2c_l5 = w2c_j2;
+  w2c_i2 = (u32)(w2c_j2);
+  w2c_i2 = i32_load8_u(&instance->w2c_memory, (u64)(w2c_i2));
+  w2c_i1 = w2c_i1 != w2c_i2;
+  w2c_i0 |= w2c_i1;
+  w2c_j1 = w2c_p0;
+  w2c_j2 = w2c_l3;
+  w2c_j1 += w2c_j2;
+  w2c_l7 = w2c_j1;
+  w2c_i1 = (u32)(w2c_j1);
+  w2c_i1 = i32_load8_u(&instance->w2c_memory, (u64)(w2c_i1));
+  w2c_j2 = w2c_p1;
+  w2c_j3 = w2c_l3;
+  w2c_j2 += w2c_j3;
+  w2c_l3 = w2c_j2;
+  w2c_i2 = (u32)(w2c_j2);
+  w2c_i2 = i32_load8_u(&instance->w2c_memory, (u64)(w2c_i2));
+  w2c_i1 = w2c_i1 != w2c_i2;
+  w2c_i0 |= w2c_i1;
+  w2c_j1 = w2c_p2;
+  w2c_i1 = (u32)(w2c_j1);
+  near5 = read_place(&instance->w2c_memory, (u32)w2c_p2 + 1u, 7);
+  w2c_i1 = get8(near5 + 0);
+  w2c_j2 = w2c_l4;
+  w2c_i2 = (u32)(w2c_j2);
+  near1 = read_place(&instance->w2c_memory, (u32)w2c_l4 + 1u, 7);
+  w2c_i2 = get8(near1 + 0);
+  w2c_i1 = w2c_i1 != w2c_i2;
+  w2c_j2 = w2c_l6;
+  w2c_i2 = (u32)(w2c_j2);
+  near3 = read_place(&instance->w2c_memory, (u32)w2c_l6 + 1u, 7);
+  w2c_i2 = get8(near3 + 0);
+  w2c_j3 = w2c_l5;
+  w2c_i3 = (u32)(w2c_j3);
+  near2 = read_place(&instance->w2c_memory, (u32)w2c_l5 + 1u, 7);
+  w2c_i3 = get8(near2 + 0);
+  w2c_i2 = w2c_i2 != w2c_i3;
+  w2c_i1 |= w2c_i2;
+  w2c_j2 = w2c_l7;
+  w2c_i2 = (u32)(w2c_j2);
+  near4 = read_place(&instance->w2c_memory, (u32)w2c_l7 + 1u, 7);
+  w2c_i2 = get8(near4 + 0);
+  w2c_j3 = w2c_l3;
+  w2c_i3 = (u32)(w2c_j3);
+  near0 = read_place(&instance->w2c_memory, (u32)w2c_l3 + 1u, 7);
+  w2c_i3 = get8(near0 + 0);
+  w2c_i2 = w2c_i2 != w2c_i3;
+  w2c_i1 |= w2c_i2;
+  w2c_i2 = 1u;
+  w2c_i1 <<= (w2c_i2 & 31);
+  w2c_i0 |= w2c_i1;
+  w2c_j1 = w2c_p2;
+  w2c_i1 = (u32)(w2c_j1);
+  w2c_i1 = get8(near5 + 2);
+  w2c_j2 = w2c_l4;
+  w2c_i2 = (u32)(w2c_j2);
+  w2c_i2 = get8(near1 + 2);
+  w2c_i1 = w2c_i1 != w2c_i2;
+  w2c_j2 = w2c_l6;
+  w2c_i2 = (u32)(w2c_j2);
+  w2c_i2 = get8(near3 + 2);
+  w2c_j3 = w2c_l5;
+  w2c_i3 = (u32)(w2c_j3);
+  w2c_i3 = get8(near2 + 2);
+  w2c_i2 = w2c_i2 != w2c_i3;
+  w2c_i1 |= w2c_i2;
+  w2c_j2 = w2c_l7;
+  w2c_i2 = (u32)(w2c_j2);
+  w2c_i2 = get8(near4 + 2);
+  w2c_j3 = w2c_l3;
+  w2c_i3 = (u32)(w2c_j3);
+  w2c_i3 = get8(near0 + 2);
+  w2c_i2 = w2c_i2 != w2c_i3;
+  w2c_i1 |= w2c_i2;
+  w2c_i2 = 3u;
+  w2c_i1 <<= (w2c_i2 & 31);
+  w2c_j2 = w2c_p2;
+  w2c_i2 = (u32)(w2c_j2);
+  w2c_i2 = get8(near5 + 1);
+  w2c_j3 = w2c_l4;
+  w2c_i3 = (u32)(w2c_j3);
+  w2c_i3 = get8(near1 + 1);
+  w2c_i2 = w2c_i2 != w2c_i3;
+  w2c_j3 = w2c_l6;
+  w2c_i3 = (u32)(w2c_j3);
+  w2c_i3 = get8(near3 + 1);
+  w2c_j4 = w2c_l5;
+  w2c_i4 = (u32)(w2c_j4);
+  w2c_i4 = get8(near2 + 1);
+  w2c_i3 = w2c_i3 != w2c_i4;
+  w2c_i2 |= w2c_i3;
+  w2c_j3 = w2c_l7;
+  w2c_i3 = (u32)(w2c_j3);
+  w2c_i3 = get8(near4 + 1);
+  w2c_j4 = w2c_l3;
+  w2c_i4 = (u32)(w2c_j4);
+  w2c_i4 = get8(near0 + 1);
+  w2c_i3 = w2c_i3 != w2c_i4;
+  w2c_i2 |= w2c_i3;
+  w2c_i3 = 2u;
+  w2c_i2 <<= (w2c_i3 & 31);
+  w2c_i1 |= w2c_i2;
+  w2c_i0 |= w2c_i1;
+  w2c_j1 = w2c_p2;
+  w2c_i1 = (u32)(w2c_j1);
+  w2c_i1 = get8(near5 + 3);
+  w2c_j2 = w2c_l4;
+  w2c_i2 = (u32)(w2c_j2);
+  w2c_i2 = get8(near1 + 3);
+  w2c_i1 = w2c_i1 != w2c_i2;
+  w2c_j2 = w2c_l6;
+  w2c_i2 = (u32)(w2c_j2);
+  w2c_i2 = get8(near3 + 3);
+  w2c_j3 = w2c_l5;
+  w2c_i3 = (u32)(w2c_j3);
+  w2c_i3 = get8(near2 + 3);
+  w2c_i2 = w2c_i2 != w2c_i3;
+  w2c_i1 |= w2c_i2;
+  w2c_j2 = w2c_l7;
+  w2c_i2 = (u32)(w2c_j2);
+  w2c_i2 = get8(near4 + 3);
+  w2c_j3 = w2c_l3;
+  w2c_i3 = (u32)(w2c_j3);
+  w2c_i3 = get8(near0 + 3);
+  w2c_i2 = w2c_i2 != w2c_i3;
+  w2c_i1 |= w2c_i2;
+  w2c_j2 = w2c_p2;
+  w2c_i2 = (u32)(w2c_j2);
+  w2c_i2 = get8(near5 + 4);
+  w2c_j3 = w2c_l4;
+  w2c_i3 = (u32)(w2c_j3);
+  w2c_i3 = get8(near1 + 4);
+  w2c_i2 = w2c_i2 != w2c_i3;
+  w2c_j3 = w2c_l6;
+  w2c_i3 = (u32)(w2c_j3);
+  w2c_i3 = get8(near3 + 4);
+  w2c_j4 = w2c_l5;
+  w2c_i4 = (u32)(w2c_j4);
+  w2c_i4 = get8(near2 + 4);
+  w2c_i3 = w2c_i3 != w2c_i4;
+  w2c_i2 |= w2c_i3;
+  w2c_j3 = w2c_l7;
+  w2c_i3 = (u32)(w2c_j3);
+  w2c_i3 = get8(near4 + 4);
+  w2c_j4 = w2c_l3;
+  w2c_i4 = (u32)(w2c_j4);
+  w2c_i4 = get8(near0 + 4);
+  w2c_i3 = w2c_i3 != w2c_i4;
+  w2c_i2 |= w2c_i3;
+  w2c_i3 = 1u;
+  w2c_i2 <<= (w2c_i3 & 31);
+  w2c_i1 |= w2c_i2;
+  w2c_j2 = w2c_p2;
+  w2c_i2 = (u32)(w2c_j2);
+  w2c_i2 = get8(near5 + 6);
+  w2c_j3 = w2c_l4;
+  w2c_i3 = (u32)(w2c_j3);
+  w2c_i3 = get8(near1 + 6);
+  w2c_i2 = w2c_i2 != w2c_i3;
+  w2c_j3 = w2c_l6;
+  w2c_i3 = (u32)(w2c_j3);
+  w2c_i3 = get8(near3 + 6);
+  w2c_j4 = w2c_l5;
+  w2c_i4 = (u32)(w2c_j4);
+  w2c_i4 = get8(near2 + 6);
+  w2c_i3 = w2c_i3 != w2c_i4;
+  w2c_i2 |= w2c_i3;
+  w2c_j3 = w2c_l7;
+  w2c_i3 = (u32)(w2c_j3);
+  w2c_i3 = get8(near4 + 6);
+  w2c_j4 = w2c_l3;
+  w2c_i4 = (u32)(w2c_j4);
+  w2c_i4 = get8(near0 + 6);
+  w2c_i3 = w2c_i3 != w2c_i4;
+  w2c_i2 |= w2c_i3;
+  w2c_i3 = 3u;
+  w2c_i2 <<= (w2c_i3 & 31);
+  w2c_j3 = w2c_p2;
+  w2c_i3 = (u32)(w2c_j3);
+  w2c_i3 = get8(near5 + 5);
+  w2c_j4 = w2c_l4;
+  w2c_i4 = (u32)(w2c_j4);
+  w2c_i4 = get8(near1 + 5);
+  w2c_i3 = w2c_i3 != w2c_i4;
+  w2c_j4 = w2c_l6;
+  w2c_i4 = (u32)(w2c_j4);
+  w2c_i4 = get8(near3 + 5);
+  w2c_j5 = w2c_l5;
+  w2c_i5 = (u32)(w2c_j5);
+  w2c_i5 = get8(near2 + 5);
+  w2c_i4 = w2c_i4 != w2c_i5;
+  w2c_i3 |= w2c_i4;
+  w2c_j4 = w2c_l7;
+  w2c_i4 = (u32)(w2c_j4);
+  w2c_i4 = get8(near4 + 5);
+  w2c_j5 = w2c_l3;
+  w2c_i5 = (u32)(w2c_j5);
+  w2c_i5 = get8(near0 + 5);
+  w2c_i4 = w2c_i4 != w2c_i5;
+  w2c_i3 |= w2c_i4;
+  w2c_i4 = 2u;
+  w2c_i3 <<= (w2c_i4 & 31);
+  w2c_i2 |= w2c_i3;
+  w2c_i1 |= w2c_i2;
+  w2c_i2 = 4u;
+  w2c_i1 <<= (w2c_i2 & 31);
+  w2c_i0 |= w2c_i1;
+  w2c_i1 = 255u;
+  w2c_i0 &= w2c_i1;
+  w2c_i1 = 0u;
+  w2c_i0 = w2c_i0 != w2c_i1;
+  w2c_j1 = w2c_p0;
+  w2c_i1 = (u32)(w2c_j1);
+  w2c_i1 = i32_load8_u(&instance->w2c_memory, (u64)(w2c_i1));
+  w2c_j2 = w2c_p1;
+  w2c_i2 = (u32)(w2c_j2);
+  w2c_i2 = i32_load8_u(&instance->w2c_memory, (u64)(w2c_i2));
+  w2c_i1 = w2c_i1 != w2c_i2;
+  w2c_i0 |= w2c_i1;
+  w2c_j1 = w2c_p0;
+  w2c_j2 = 1ull;
+  w2c_j1 += w2c_j2;
+  w2c_i1 = (u32)(w2c_j1);
+  w2c_i1 = i32_load8_u(&instance->w2c_memory, (u64)(w2c_i1));
+  w2c_j2 = w2c_p1;
+  w2c_j3 = 1ull;
+  w2c_j2 += w2c_j3;
+  w2c_i2 = (u32)(w2c_j2);
+  w2c_i2 = i32_load8_u(&instance->w2c_memory, (u64)(w2c_i2));
+  w2c_i1 = w2c_i1 != w2c_i2;
+  w2c_j2 = w2c_p0;
+  w2c_j3 = 2ull;
+  w2c_j2 += w2c_j3;
+  w2c_i2 = (u32)(w2c_j2);
+  w2c_i2 = i32_load8_u(&instance->w2c_memory, (u64)(w2c_i2));
+  w2c_j3 = w2c_p1;
+  w2c_j4 = 2ull;
+  w2c_j3 += w2c_j4;
+  w2c_i3 = (u32)(w2c_j3);
+  w2c_i3 = i32_load8_u(&instance->w2c_memory, (u64)(w2c_i3));
+  w2c_i2 = w2c_i2 != w2c_i3;
+  w2c_i1 |= w2c_i2;
+  w2c_i0 |= w2c_i1;
+  w2c_j1 = w2c_p0;
+  w2c_j2 = 3ull;
+  w2c_j1 += w2c_j2;
+  w2c_i1 = (u32)(w2c_j1);
+  w2c_i1 = i32_load8_u(&instance->w2c_memory, (u64)(w2c_i1));
+  w2c_j2 = w2c_p1;
+  w2c_j3 = 3ull;
+  w2c_j2 += w2c_j3;
+  w2c_i2 = (u32)(w2c_j2);
+  w2c_i2 = i32_load8_u(&instance->w2c_memory, (u64)(w2c_i2));
+  w2c_i1 = w2c_i1 != w2c_i2;
+  w2c_j2 = w2c_p0;
+  w2c_j3 = 4ull;
+  w2c_j2 += w2c_j3;
+  w2c_i2 = (u32)(w2c_j2);
+  w2c_i2 = i32_load8_u(&instance->w2c_memory, (u64)(w2c_i2));
+  w2c_j3 = w2c_p1;
+  w2c_j4 = 4ull;
+  w2c_j3 += w2c_j4;
+  w2c_i3 = (u32)(w2c_j3);
+  w2c_i3 = i32_load8_u(&instance->w2c_memory, (u64)(w2c_i3));
+  w2c_i2 = w2c_i2 != w2c_i3;
+  w2c_i1 |= w2c_i2;
+  w2c_j2 = w2c_p0;
+  w2c_j3 = 5ull;
+  w2c_j2 += w2c_j3;
+  w2c_i2 = (u32)(w2c_j2);
+  w2c_i2 = i32_load8_u(&instance->w2c_memory, (u64)(w2c_i2));
+  w2c_j3 = w2c_p1;
+  w2c_j4 = 5ull;
+  w2c_j3 += w2c_j4;
+  w2c_i3 = (u32)(w2c_j3);
+  w2c_i3 = i32_load8_u(&instance->w2c_memory, (u64)(w2c_i3));
+  w2c_i2 = w2c_i2 != w2c_i3;
+  w2c_j3 = w2c_p0;
+  w2c_j4 = 6ull;
+  w2c_j3 += w2c_j4;
+  w2c_i3 = (u32)(w2c_j3);
+  w2c_i3 = i32_load8_u(&instance->w2c_memory, (u64)(w2c_i3));
+  w2c_j4 = w2c_p1;
+  w2c_j5 = 6ull;
+  w2c_j4 += w2c_j5;
+  w2c_i4 = (u32)(w2c_j4);
+  w2c_i4 = i32_load8_u(&instance->w2c_memory, (u64)(w2c_i4));
+  w2c_i3 = w2c_i3 != w2c_i4;
+  w2c_i2 |= w2c_i3;
+  w2c_i1 |= w2c_i2;
+  w2c_i0 |= w2c_i1;
+  w2c_j1 = w2c_p0;
+  w2c_j2 = 7ull;
+  w2c_j1 += w2c_j2;
+  w2c_i1 = (u32)(w2c_j1);
+  w2c_i1 = i32_load8_u(&instance->w2c_memory, (u64)(w2c_i1));
+  w2c_j2 = w2c_p1;
+  w2c_j3 = 7ull;
+  w2c_j2 += w2c_j3;
+  w2c_i2 = (u32)(w2c_j2);
+  w2c_i2 = i32_load8_u(&instance->w2c_memory, (u64)(w2c_i2));
+  w2c_i1 = w2c_i1 != w2c_i2;
+  w2c_i0 |= w2c_i1;
+  goto w2c_Bfunc;
+  w2c_B0:;
+  UNREACHABLE;
+  w2c_Bfunc:;
+  return w2c_i0;
+}
+
+static void w2c_kit_text__addresses__read_octet(Machine * instance, u64 w2c_p0, u64 w2c_p1, u64 w2c_p2) {
+  u32 w2c_l3 = 0, w2c_l4 = 0, w2c_l5 = 0;
+  u64 w2c_l6 = 0, w2c_l7 = 0;
+  u32 w2c_i0, w2c_i1, w2c_i2;
+  u64 w2c_j0, w2c_j1, w2c_j2, w2c_j3;
+  w2c_j0 = instance->w2c___stack_pointer;
+  w2c_j1 = 16ull;
+  w2c_i0 = (u64)((s64)w2c_j0 < (s64)w2c_j1);
+  if (w2c_i0) {goto w2c_B0;}
+  w2c_j0 = w2c_p2;
+  w2c_j1 = 1ull;
+  w2c_i0 = w2c_j0 > w2c_j1;
+  if (w2c_i0) {goto w2c_B3;}
+  w2c_i0 = 0u;
+  w2c_l3 = w2c_i0;
+  w2c_i0 = 0u;
+  w2c_l4 = w2c_i0;
+  w2c_j0 = w2c_p2;
+  w2c_i0 = (u32)(w2c_j0);
+  switch (w2c_i0) {
+    case 0: goto w2c_B1;
+    case 1: goto w2c_B2;
+    default: goto w2c_B1;
+  }
+  w2c_B3:;
+  w2c_i0 = 0u;
+  w2c_l3 = w2c_i0;
+  w2c_i0 = 0u;
+  w2c_l4 = w2c_i0;
+  w2c_j0 = w2c_p1;
+  w2c_i0 = (u32)(w2c_j0);
+  w2c_i0 = i32_load8_u(&instance->w2c_memory, (u64)(w2c_i0));
+  w2c_i1 = 48u;
+  w2c_i0 = w2c_i0 == w2c_i1;
+  if (w2c_i0) {goto w2c_B1;}
+  w2c_B2:;
+  w2c_j0 = 0ull;
+  w2c_l6 = w2c_j0;
+  w2c_L5: 
+    w2c_i0 = 0u;
+    w2c_l3 = w2c_i0;
+    w2c_j0 = w2c_l6;
+    w2c_j1 = 1844674407370955161ull;
+    w2c_i0 = w2c_j0 <= w2c_j1;
+    if (w2c_i0) {goto w2c_B6;}
+    w2c_i0 = 0u;
+    w2c_l4 = w2c_i0;
+    goto w2c_B1;
+    w2c_B6:;
+    w2c_i0 = 0u;
+    w2c_l4 = w2c_i0;
+    w2c_j0 = w2c_p1;
+    w2c_i0 = (u32)(w2c_j0);
+    w2c_i0 = i32_load8_u(&instance->w2c_memory, (u64)(w2c_i0));
+    w2c_i1 = 4294967248u;
+    w2c_i0 += w2c_i1;
+    w2c_l5 = w2c_i0;
+    w2c_i1 = 255u;
+    w2c_i0 &= w2c_i1;
+    w2c_i1 = 9u;
+    w2c_i0 = w2c_i0 > w2c_i1;
+    if (w2c_i0) {goto w2c_B1;}
+    w2c_j0 = w2c_l6;
+    w2c_j1 = 10ull;
+    w2c_j0 *= w2c_j1;
+    w2c_l6 = w2c_j0;
+    w2c_i1 = w2c_l5;
+    w2c_j1 = (u64)(w2c_i1);
+    w2c_j2 = 255ull;
+    w2c_j1 &= w2c_j2;
+    w2c_l7 = w2c_j1;
+    w2c_j2 = 18446744073709551615ull;
+    w2c_j1 ^= w2c_j2;
+    w2c_i0 = w2c_j0 > w2c_j1;
+    if (w2c_i0) {goto w2c_B7;}
+    w2c_j0 = w2c_p1;
+    w2c_j1 = 1ull;
+    w2c_j0 += w2c_j1;
+    w2c_p1 = w2c_j0;
+    w2c_j0 = w2c_l6;
+    w2c_j1 = w2c_l7;
+    w2c_j0 += w2c_j1;
+    w2c_l6 = w2c_j0;
+    w2c_j0 = w2c_p2;
+    w2c_j1 = 18446744073709551615ull;
+    w2c_j0 += w2c_j1;
+    w2c_p2 = w2c_j0;
+    w2c_i0 = !(w2c_j0);
+    if (w2c_i0) {goto w2c_B4;}
+    goto w2c_L5;
+    w2c_B7:;
+  w2c_i0 = 0u;
+  w2c_l3 = w2c_i0;
+  w2c_i0 = 0u;
+  w2c_l4 = w2c_i0;
+  goto w2c_B1;
+  w2c_B4:;
+  w2c_j0 = w2c_l6;
+  w2c_j1 = 256ull;
+  w2c_j2 = w2c_l6;
+  w2c_j3 = 256ull;
+  w2c_i2 = w2c_j2 < w2c_j3;
+  w2c_l3 = w2c_i2;
+  w2c_j0 = w2c_i2 ? w2c_j0 : w2c_j1;
+  w2c_i0 = (u32)(w2c_j0);
+  w2c_i1 = 0u;
+  w2c_i2 = w2c_l3;
+  w2c_i0 = w2c_i2 ? w2c_i0 : w2c_i1;
+  w2c_l4 = w2c_i0;
+  w2c_B1:;
+  w2c_j0 = w2c_p0;
+  w2c_i0 = (u32)(w2c_j0);
+  w2c_i1 = w2c_l4;
+  i32_store8(&instance->w2c_memory, (u64)(w2c_i0) + 1, w2c_i1);
+  w2c_j0 = w2c_p0;
+  w2c_i0 = (u32)(w2c_j0);
+  w2c_i1 = w2c_l3;
+  i32_store8(&instance->w2c_memory, (u64)(w2c_i0), w2c_i1);
+  goto w2c_Bfunc;
+  w2c_B0:;
+  UNREACHABLE;
+  w2c_Bfunc:;
+}
+
+static u32 w2c_std_alloc__vec__Vec__move_to____8c6c02ecfde2865e_(Machine * instance, u64 w2c_p0, u64 w2c_p1) {
+  u32 w2c_l2 = 0, w2c_l3 = 0, w2c_l4 = 0;
+  u64 w2c_l5 = 0, w2c_l6 = 0, w2c_l7 = 0, w2c_l8 = 0, w2c_l9 = 0, w2c_l10 = 0, w2c_l11 = 0;
+  u32 w2c_i0, w2c_i1, w2c_i2, w2c_i4;
+  u64 w2c_j0, w2c_j1, w2c_j2, w2c_j3, w2c_j4, w2c_j5;
+  w2c_j0 = instance->w2c___stack_pointer;
+  w2c_j1 = 16ull;
+  w2c_i0 = (u64)((s64)w2c_j0 < (s64)w2c_j1);
+  if (w2c_i0) {goto w2c_B0;}
+  w2c_i0 = 0u;
+  w2c_l2 = w2c_i0;
+  w2c_j0 = w2c_p1;
+  w2c_j1 = 18446744073709551615ull;
+  w2c_i0 = (u64)((s64)w2c_j0 <= (s64)w2c_j1);
+  if (w2c_i0) {goto w2c_B1;}
+  w2c_j0 = w2c_p0;
+  w2c_j1 = 8ull;
+  w2c_j0 += w2c_j1;
+  w2c_i0 = (u32)(w2c_j0);
+  w2c_j0 = i64_load(&instance->w2c_memory, (u64)(w2c_i0));
+  w2c_l5 = w2c_j0;
+  w2c_j0 = w2c_p0;
+  w2c_j1 = 24ull;
+  w2c_j0 += w2c_j1;
+  w2c_i0 = (u32)(w2c_j0);
+  w2c_j0 = i64_load(&instance->w2c_memory, (u64)(w2c_i0));
+  w2c_l6 = w2c_j0;
+  w2c_i0 = (u32)(w2c_j0);
+  w2c_i0 = i32_load8_u(&instance->w2c_memory, (u64)(w2c_i0));
+  w2c_l3 = w2c_i0;
+  w2c_j0 = w2c_p0;
+  w2c_j1 = 16ull;
+  w2c_j0 += w2c_j1;
+  w2c_i0 = (u32)(w2c_j0);
+  w2c_j0 = i64_load(&instance->w2c_memory, (u64)(w2c_i0));
+  w2c_l7 = w2c_j0;
+  w2c_j0 = w2c_p0;
+  w2c_i0 = (u32)(w2c_j0);
+  w2c_j0 = i64_load(&instance->w2c_memory, (u64)(w2c_i0));
+  w2c_l8 = w2c_j0;
+  w2c_j0 = w2c_l6;
+  w2c_i0 = (u32)(w2c_j0);
+  w2c_j1 = 0ull;
+  i64_store(&instance->w2c_memory, (u64)(w2c_i0), w2c_j1);
+  w2c_j0 = w2c_l6;
+  w2c_j1 = 8ull;
+  w2c_j0 += w2c_j1;
+  w2c_l9 = w2c_j0;
+  w2c_i0 = (u32)(w2c_j0);
+  w2c_j0 = i64_load(&instance->w2c_memory, (u64)(w2c_i0));
+  w2c_l10 = w2c_j0;
+  w2c_j0 = w2c_l9;
+  w2c_i0 = (u32)(w2c_j0);
+  w2c_j1 = 0ull;
+  i64_store(&instance->w2c_memory, (u64)(w2c_i0), w2c_j1);
+  w2c_j0 = w2c_l6;
+  w2c_j1 = 16ull;
+  w2c_j0 += w2c_j1;
+  w2c_l11 = w2c_j0;
+  w2c_i0 = (u32)(w2c_j0);
+  w2c_j0 = i64_load(&instance->w2c_memory, (u64)(w2c_i0));
+  w2c_l9 = w2c_j0;
+  w2c_j0 = w2c_l11;
+  w2c_i0 = (u32)(w2c_j0);
+  w2c_j1 = 0ull;
+  i64_store(&instance->w2c_memory, (u64)(w2c_i0), w2c_j1);
+  w2c_j0 = w2c_l7;
+  w2c_i0 = !(w2c_j0);
+  if (w2c_i0) {goto w2c_B3;}
+  w2c_i0 = 1u;
+  w2c_l4 = w2c_i0;
+  w2c_i0 = w2c_l3;
+  w2c_i1 = 255u;
+  w2c_i0 &= w2c_i1;
+  w2c_i1 = 1u;
+  w2c_i0 = w2c_i0 == w2c_i1;
+  if (w2c_i0) {goto w2c_B4;}
+  w2c_j0 = 0ull;
+  w2c_l10 = w2c_j0;
+  goto w2c_B2;
+  w2c_B4:;
+  w2c_j0 = w2c_l9;
+  w2c_j1 = w2c_p1;
+  w2c_i0 = w2c_j0 >= w2c_j1;
+  if (w2c_i0) {goto w2c_B5;}
+  w2c_j0 = w2c_l6;
+  w2c_i0 = (u32)(w2c_j0);
+  w2c_j1 = 1ull;
+  i64_store(&instance->w2c_memory, (u64)(w2c_i0), w2c_j1);
+  w2c_j0 = w2c_l6;
+  w2c_j1 = 16ull;
+  w2c_j0 += w2c_j1;
+  w2c_i0 = (u32)(w2c_j0);
+  w2c_j1 = w2c_l9;
+  i64_store(&instance->w2c_memory, (u64)(w2c_i0), w2c_j1);
+  w2c_j0 = w2c_l6;
+  w2c_j1 = 8ull;
+  w2c_j0 += w2c_j1;
+  w2c_i0 = (u32)(w2c_j0);
+  w2c_j1 = w2c_l10;
+  i64_store(&instance->w2c_memory, (u64)(w2c_i0), w2c_j1);
+  w2c_j0 = 0ull;
+  w2c_l10 = w2c_j0;
+  goto w2c_B2;
+  w2c_B5:;
+  w2c_j0 = w2c_l6;
+  w2c_i0 = (u32)(w2c_j0);
+  w2c_j1 = 1ull;
+  i64_store(&instance->w2c_memory, (u64)(w2c_i0), w2c_j1);
+  w2c_j0 = w2c_l6;
+  w2c_j1 = 16ull;
+  w2c_j0 += w2c_j1;
+  w2c_i0 = (u32)(w2c_j0);
+  w2c_j1 = w2c_l9;
+  w2c_j2 = w2c_p1;
+  w2c_j3 = w2c_p1;
+  w2c_j4 = 9223372036854775792ull;
+  w2c_j3 &= w2c_j4;
+  w2c_j4 = 16ull;
+  w2c_j3 += w2c_j4;
+  w2c_j4 = w2c_p1;
+  w2c_j5 = 15ull;
+  w2c_j4 &= w2c_j5;
+  w2c_i4 = !(w2c_j4);
+  w2c_j2 = w2c_i4 ? w2c_j2 : w2c_j3;
+  w2c_l7 = w2c_j2;
+  w2c_j1 -= w2c_j2;
+  i64_store(&instance->w2c_memory, (u64)(w2c_i0), w2c_j1);
+  w2c_j0 = w2c_l6;
+  w2c_j1 = 8ull;
+  w2c_j0 += w2c_j1;
+  w2c_i0 = (u32)(w2c_j0);
+  w2c_j1 = w2c_l10;
+  w2c_j2 = w2c_l7;
+  w2c_j1 += w2c_j2;
+  i64_store(&instance->w2c_memory, (u64)(w2c_i0), w2c_j1);
+  w2c_i0 = 0u;
+  w2c_l4 = w2c_i0;
+  w2c_j0 = w2c_l10;
+  w2c_j1 = w2c_l8;
+  w2c_j0 -= w2c_j1;
+  w2c_j1 = w2c_l5;
+  w2c_i0 = w2c_j0 >= w2c_j1;
+  if (w2c_i0) {goto w2c_B6;}
+  w2c_j0 = w2c_l5;
+  w2c_j1 = 3ull;
+  w2c_j0 &= w2c_j1;
+  w2c_l11 = w2c_j0;
+  w2c_j0 = 0ull;
+  w2c_l6 = w2c_j0;
+  w2c_j0 = w2c_l5;
+  w2c_j1 = 4ull;
+  w2c_i0 = w2c_j0 < w2c_j1;
+  if (w2c_i0) {goto w2c_B7;}
+  w2c_j0 = w2c_l5;
+  w2c_j1 = 18446744073709551612ull;
+  w2c_j0 &= w2c_j1;
+  w2c_l5 = w2c_j0;
+  w2c_j0 = 0ull;
+  w2c_l6 = w2c_j0;
+  w2c_l6 += copied_ahead(&instance->w2c_memory, w2c_l10 + w2c_l6, w2c_l8 + w2c_l6, w2c_l5 - w2c_l6);
+  w2c_L8: 
+    w2c_j0 = w2c_l10;
+    w2c_j1 = w2c_l6;
+    w2c_j0 += w2c_j1;
+    w2c_l9 = w2c_j0;
+    w2c_i0 = (u32)(w2c_j0);
+    w2c_j1 = w2c_l8;
+    w2c_j2 = w2c_l6;
+    w2c_j1 += w2c_j2;
+    w2c_l7 = w2c_j1;
+    w2c_i1 = (u32)(w2c_j1);
+    w2c_i1 = i32_load8_u(&instance->w2c_memory, (u64)(w2c_i1));
+    i32_store8(&instance->w2c_memory, (u64)(w2c_i0), w2c_i1);
+    w2c_j0 = w2c_l9;
+    w2c_j1 = 1ull;
+    w2c_j0 += w2c_j1;
+    w2c_i0 = (u32)(w2c_j0);
+    w2c_j1 = w2c_l7;
+    w2c_j2 = 1ull;
+    w2c_j1 += w2c_j2;
+    w2c_i1 = (u32)(w2c_j1);
+    w2c_i1 = i32_load8_u(&instance->w2c_memory, (u64)(w2c_i1));
+    i32_store8(&instance->w2c_memory, (u64)(w2c_i0), w2c_i1);
+    w2c_j0 = w2c_l9;
+    w2c_j1 = 2ull;
+    w2c_j0 += w2c_j1;
+    w2c_i0 = (u32)(w2c_j0);
+    w2c_j1 = w2c_l7;
+    w2c_j2 = 2ull;
+    w2c_j1 += w2c_j2;
+    w2c_i1 = (u32)(w2c_j1);
+    w2c_i1 = i32_load8_u(&instance->w2c_memory, (u64)(w2c_i1));
+    i32_store8(&instance->w2c_memory, (u64)(w2c_i0), w2c_i1);
+    w2c_j0 = w2c_l9;
+    w2c_j1 = 3ull;
+    w2c_j0 += w2c_j1;
+    w2c_i0 = (u32)(w2c_j0);
+    w2c_j1 = w2c_l7;
+    w2c_j2 = 3ull;
+    w2c_j1 += w2c_j2;
+    w2c_i1 = (u32)(w2c_j1);
+    w2c_i1 = i32_load8_u(&instance->w2c_memory, (u64)(w2c_i1));
+    i32_store8(&instance->w2c_memory, (u64)(w2c_i0), w2c_i1);
+    w2c_j0 = w2c_l5;
+    w2c_j1 = w2c_l6;
+    w2c_j2 = 4ull;
+    w2c_j1 += w2c_j2;
+    w2c_l6 = w2c_j1;
+    w2c_i0 = w2c_j0 != w2c_j1;
+    if (w2c_i0) {goto w2c_L8;}
+  w2c_j0 = w2c_l11;
+  w2c_i0 = !(w2c_j0);
+  if (w2c_i0) {goto w2c_B2;}
+  w2c_B7:;
+  w2c_L9: 
+    w2c_j0 = w2c_l10;
+    w2c_j1 = w2c_l6;
+    w2c_j0 += w2c_j1;
+    w2c_i0 = (u32)(w2c_j0);
+    w2c_j1 = w2c_l8;
+    w2c_j2 = w2c_l6;
+    w2c_j1 += w2c_j2;
+    w2c_i1 = (u32)(w2c_j1);
+    w2c_i1 = i32_load8_u(&instance->w2c_memory, (u64)(w2c_i1));
+    i32_store8(&instance->w2c_memory, (u64)(w2c_i0), w2c_i1);
+    w2c_j0 = w2c_l6;
+    w2c_j1 = 1ull;
+    w2c_j0 += w2c_j1;
+    w2c_l6 = w2c_j0;
+    w2c_j0 = w2c_l11;
+    w2c_j1 = 18446744073709551615ull;
+    w2c_j0 += w2c_j1;
+    w2c_l11 = w2c_j0;
+    w2c_j1 = 0ull;
+    w2c_i0 = w2c_j0 != w2c_j1;
+    if (w2c_i0) {goto w2c_L9;}
+    goto w2c_B2;
+  UNREACHABLE;
+  w2c_B6:;
+  w2c_j0 = w2c_l5;
+  w2c_i0 = !(w2c_j0);
+  if (w2c_i0) {goto w2c_B2;}
+  w2c_j0 = w2c_l10;
+  w2c_i0 = (u32)(w2c_j0);
+  w2c_j1 = w2c_l8;
+  w2c_i1 = (u32)(w2c_j1);
+  w2c_j2 = w2c_l5;
+  w2c_i2 = (u32)(w2c_j2);
+  memory_copy(&instance->w2c_memory, &instance->w2c_memory, w2c_i0, w2c_i1, w2c_i2);
+  goto w2c_B2;
+  w2c_B3:;
+  w2c_i0 = 1u;
+  w2c_l4 = w2c_i0;
+  w2c_i0 = w2c_l3;
+  w2c_i1 = 255u;
+  w2c_i0 &= w2c_i1;
+  w2c_i1 = 1u;
+  w2c_i0 = w2c_i0 == w2c_i1;
+  if (w2c_i0) {goto w2c_B10;}
+  w2c_j0 = 0ull;
+  w2c_l10 = w2c_j0;
+  goto w2c_B2;
+  w2c_B10:;
+  w2c_j0 = w2c_l9;
+  w2c_j1 = w2c_p1;
+  w2c_i0 = w2c_j0 >= w2c_j1;
+  if (w2c_i0) {goto w2c_B11;}
+  w2c_j0 = w2c_l6;
+  w2c_i0 = (u32)(w2c_j0);
+  w2c_j1 = 1ull;
+  i64_store(&instance->w2c_memory, (u64)(w2c_i0), w2c_j1);
+  w2c_j0 = w2c_l6;
+  w2c_j1 = 16ull;
+  w2c_j0 += w2c_j1;
+  w2c_i0 = (u32)(w2c_j0);
+  w2c_j1 = w2c_l9;
+  i64_store(&instance->w2c_memory, (u64)(w2c_i0), w2c_j1);
+  w2c_j0 = w2c_l6;
+  w2c_j1 = 8ull;
+  w2c_j0 += w2c_j1;
+  w2c_i0 = (u32)(w2c_j0);
+  w2c_j1 = w2c_l10;
+  i64_store(&instance->w2c_memory, (u64)(w2c_i0), w2c_j1);
+  w2c_j0 = 0ull;
+  w2c_l10 = w2c_j0;
+  goto w2c_B2;
+  w2c_B11:;
+  w2c_j0 = w2c_l6;
+  w2c_i0 = (u32)(w2c_j0);
+  w2c_j1 = 1ull;
+  i64_store(&instance->w2c_memory, (u64)(w2c_i0), w2c_j1);
+  w2c_j0 = w2c_l6;
+  w2c_j1 = 16ull;
+  w2c_j0 += w2c_j1;
+  w2c_i0 = (u32)(w2c_j0);
+  w2c_j1 = w2c_l9;
+  w2c_j2 = w2c_p1;
+  w2c_j3 = w2c_p1;
+  w2c_j4 = 9223372036854775792ull;
+  w2c_j3 &= w2c_j4;
+  w2c_j4 = 16ull;
+  w2c_j3 += w2c_j4;
+  w2c_j4 = w2c_p1;
+  w2c_j5 = 15ull;
+  w2c_j4 &= w2c_j5;
+  w2c_i4 = !(w2c_j4);
+  w2c_j2 = w2c_i4 ? w2c_j2 : w2c_j3;
+  w2c_l7 = w2c_j2;
+  w2c_j1 -= w2c_j2;
+  i64_store(&instance->w2c_memory, (u64)(w2c_i0), w2c_j1);
+  w2c_j0 = w2c_l6;
+  w2c_j1 = 8ull;
+  w2c_j0 += w2c_j1;
+  w2c_i0 = (u32)(w2c_j0);
+  w2c_j1 = w2c_l10;
+  w2c_j2 = w2c_l7;
+  w2c_j1 += w2c_j2;
+  i64_store(&instance->w2c_memory, (u64)(w2c_i0), w2c_j1);
+  w2c_i0 = 0u;
+  w2c_l4 = w2c_i0;
+  w2c_B2:;
+  w2c_i0 = w2c_l4;
+  w2c_i1 = 255u;
+  w2c_i0 &= w2c_i1;
+  if (w2c_i0) {goto w2c_B1;}
+  w2c_j0 = w2c_p0;
+  w2c_i0 = (u32)(w2c_j0);
+  w2c_j1 = w2c_l10;
+  i64_store(&instance->w2c_memory, (u64)(w2c_i0), w2c_j1);
+  w2c_j0 = w2c_p0;
+  w2c_j1 = 16ull;
+  w2c_j0 += w2c_j1;
+  w2c_i0 = (u32)(w2c_j0);
+  w2c_j1 = w2c_p1;
+  i64_store(&instance->w2c_memory, (u64)(w2c_i0), w2c_j1);
+  w2c_i0 = 1u;
+  w2c_l2 = w2c_i0;
+  w2c_B1:;
+  w2c_i0 = w2c_l2;
+  goto w2c_Bfunc;
+  w2c_B0:;
+  UNREACHABLE;
+  w2c_Bfunc:;
+  return w2c_i0;
+}
+
 static u32 w2c_tcp_numbers__sums__long_sum(Machine * instance, u64 w2c_p0, u64 w2c_p1) {
   const u8 *near0;
   const u8 *near1;
@@ -20629,9 +22551,9 @@ static u32 w2c_tcp_numbers__sums__long_sum(Machine * instance, u64 w2c_p0, u64 w
 }
 
 static void w2c_tcp_wire__options_left__OptionsLeft__next(Machine * instance, u64 w2c_p0, u64 w2c_p1) {
-  u32 w2c_l14 = 0, w2c_l15 = 0, w2c_l16 = 0, w2c_l17 = 0, w2c_l18 = 0;
+  u32 w2c_l13 = 0, w2c_l14 = 0, w2c_l15 = 0, w2c_l16 = 0, w2c_l17 = 0;
   u64 w2c_l2 = 0, w2c_l3 = 0, w2c_l4 = 0, w2c_l5 = 0, w2c_l6 = 0, w2c_l7 = 0, w2c_l8 = 0, w2c_l9 = 0, 
-      w2c_l10 = 0, w2c_l11 = 0, w2c_l12 = 0, w2c_l13 = 0;
+      w2c_l10 = 0, w2c_l11 = 0, w2c_l12 = 0;
   u32 w2c_i0, w2c_i1, w2c_i2;
   u64 w2c_j0, w2c_j1, w2c_j2, w2c_j3, w2c_j4, w2c_j5;
   w2c_j0 = instance->w2c___stack_pointer;
@@ -20663,11 +22585,11 @@ static void w2c_tcp_wire__options_left__OptionsLeft__next(Machine * instance, u6
   w2c_i0 = !(w2c_i0);
   if (w2c_i0) {goto w2c_B6;}
   w2c_i0 = 0u;
-  w2c_l14 = w2c_i0;
+  w2c_l13 = w2c_i0;
   goto w2c_B5;
   w2c_B6:;
   w2c_i0 = 0u;
-  w2c_l14 = w2c_i0;
+  w2c_l13 = w2c_i0;
   w2c_j0 = 0ull;
   w2c_l3 = w2c_j0;
   w2c_j0 = 0ull;
@@ -20680,11 +22602,11 @@ static void w2c_tcp_wire__options_left__OptionsLeft__next(Machine * instance, u6
   w2c_l7 = w2c_j0;
   w2c_i0 = (u32)(w2c_j0);
   w2c_i0 = i32_load8_u(&instance->w2c_memory, (u64)(w2c_i0));
+  w2c_l14 = w2c_i0;
   w2c_l15 = w2c_i0;
+  w2c_i0 = w2c_l14;
   w2c_l16 = w2c_i0;
-  w2c_i0 = w2c_l15;
-  w2c_l17 = w2c_i0;
-  w2c_i0 = w2c_l15;
+  w2c_i0 = w2c_l14;
   switch (w2c_i0) {
     case 0: goto w2c_B0;
     case 1: goto w2c_B8;
@@ -20706,13 +22628,13 @@ static void w2c_tcp_wire__options_left__OptionsLeft__next(Machine * instance, u6
   w2c_j1 = 0ull;
   i64_store(&instance->w2c_memory, (u64)(w2c_i0) + 24, w2c_j1);
   w2c_i0 = 0u;
-  w2c_l16 = w2c_i0;
+  w2c_l15 = w2c_i0;
   w2c_j0 = 1ull;
   w2c_l8 = w2c_j0;
   w2c_i0 = 0u;
-  w2c_l15 = w2c_i0;
-  w2c_i0 = 0u;
   w2c_l14 = w2c_i0;
+  w2c_i0 = 0u;
+  w2c_l13 = w2c_i0;
   w2c_j0 = 0ull;
   w2c_l6 = w2c_j0;
   goto w2c_B1;
@@ -20722,19 +22644,19 @@ static void w2c_tcp_wire__options_left__OptionsLeft__next(Machine * instance, u6
   w2c_i0 = w2c_j0 != w2c_j1;
   if (w2c_i0) {goto w2c_B9;}
   w2c_i0 = 0u;
-  w2c_l14 = w2c_i0;
+  w2c_l13 = w2c_i0;
   w2c_j0 = 0ull;
   w2c_l3 = w2c_j0;
   goto w2c_B5;
   w2c_B9:;
   w2c_i0 = 0u;
-  w2c_l14 = w2c_i0;
+  w2c_l13 = w2c_i0;
   w2c_j0 = 0ull;
   w2c_l3 = w2c_j0;
   w2c_j0 = w2c_l7;
   w2c_i0 = (u32)(w2c_j0);
   w2c_i0 = i32_load8_u(&instance->w2c_memory, (u64)(w2c_i0) + 1u);
-  w2c_l18 = w2c_i0;
+  w2c_l17 = w2c_i0;
   w2c_i1 = 2u;
   w2c_i0 = w2c_i0 >= w2c_i1;
   if (w2c_i0) {goto w2c_B4;}
@@ -20744,9 +22666,9 @@ static void w2c_tcp_wire__options_left__OptionsLeft__next(Machine * instance, u6
   w2c_j0 = 0ull;
   w2c_l6 = w2c_j0;
   w2c_i0 = 0u;
-  w2c_l16 = w2c_i0;
+  w2c_l15 = w2c_i0;
   w2c_i0 = 0u;
-  w2c_l17 = w2c_i0;
+  w2c_l16 = w2c_i0;
   goto w2c_B0;
   w2c_B4:;
   w2c_j0 = 0ull;
@@ -20754,11 +22676,11 @@ static void w2c_tcp_wire__options_left__OptionsLeft__next(Machine * instance, u6
   w2c_j0 = 0ull;
   w2c_l6 = w2c_j0;
   w2c_i0 = 0u;
-  w2c_l16 = w2c_i0;
+  w2c_l15 = w2c_i0;
   w2c_i0 = 0u;
-  w2c_l17 = w2c_i0;
+  w2c_l16 = w2c_i0;
   w2c_j0 = w2c_l4;
-  w2c_i1 = w2c_l18;
+  w2c_i1 = w2c_l17;
   w2c_j1 = (u64)(w2c_i1);
   w2c_l8 = w2c_j1;
   w2c_i0 = w2c_j0 < w2c_j1;
@@ -20783,32 +22705,62 @@ static void w2c_tcp_wire__options_left__OptionsLeft__next(Machine * instance, u6
   w2c_j1 = 2ull;
   w2c_j0 += w2c_j1;
   w2c_l5 = w2c_j0;
-  w2c_i0 = w2c_l15;
+  w2c_i0 = w2c_l14;
   w2c_i1 = 4294967294u;
   w2c_i0 += w2c_i1;
   switch (w2c_i0) {
-    case 0: goto w2c_B15;
-    case 1: goto w2c_B14;
-    case 2: goto w2c_B16;
-    case 3: goto w2c_B12;
+    case 0: goto w2c_B18;
+    case 1: goto w2c_B17;
+    case 2: goto w2c_B20;
+    case 3: goto w2c_B19;
     default: goto w2c_B2;
   }
-  w2c_B16:;
+  w2c_B20:;
   w2c_j0 = w2c_l6;
   w2c_i0 = !(w2c_j0);
   w2c_i0 = !(w2c_i0);
   if (w2c_i0) {goto w2c_B2;}
   w2c_i0 = 0u;
-  w2c_l15 = w2c_i0;
+  w2c_l14 = w2c_i0;
   w2c_i0 = 3u;
-  w2c_l16 = w2c_i0;
+  w2c_l15 = w2c_i0;
   w2c_j0 = 0ull;
   w2c_l6 = w2c_j0;
   w2c_j0 = 0ull;
   w2c_l5 = w2c_j0;
   goto w2c_B11;
-  w2c_B15:;
-  w2c_i0 = w2c_l18;
+  w2c_B19:;
+  w2c_j0 = w2c_l8;
+  w2c_j1 = 239ull;
+  w2c_j0 &= w2c_j1;
+  w2c_j1 = 10ull;
+  w2c_i0 = w2c_j0 == w2c_j1;
+  if (w2c_i0) {goto w2c_B14;}
+  w2c_i0 = w2c_l17;
+  w2c_i1 = 4294967278u;
+  w2c_i0 += w2c_i1;
+  switch (w2c_i0) {
+    case 0: goto w2c_B15;
+    case 1: goto w2c_B2;
+    case 2: goto w2c_B2;
+    case 3: goto w2c_B2;
+    case 4: goto w2c_B2;
+    case 5: goto w2c_B2;
+    case 6: goto w2c_B2;
+    case 7: goto w2c_B2;
+    case 8: goto w2c_B2;
+    case 9: goto w2c_B2;
+    case 10: goto w2c_B2;
+    case 11: goto w2c_B2;
+    case 12: goto w2c_B2;
+    case 13: goto w2c_B2;
+    case 14: goto w2c_B2;
+    case 15: goto w2c_B2;
+    case 16: goto w2c_B15;
+    default: goto w2c_B2;
+  }
+  w2c_B18:;
+  w2c_i0 = w2c_l17;
   w2c_i1 = 4u;
   w2c_i0 = w2c_i0 != w2c_i1;
   if (w2c_i0) {goto w2c_B2;}
@@ -20817,50 +22769,59 @@ static void w2c_tcp_wire__options_left__OptionsLeft__next(Machine * instance, u6
   w2c_j0 += w2c_j1;
   w2c_i0 = (u32)(w2c_j0);
   w2c_i0 = i32_load16_u(&instance->w2c_memory, (u64)(w2c_i0));
-  w2c_l15 = w2c_i0;
+  w2c_l14 = w2c_i0;
   w2c_i1 = 8u;
   w2c_i0 <<= (w2c_i1 & 31);
-  w2c_i1 = w2c_l15;
+  w2c_i1 = w2c_l14;
   w2c_i2 = 8u;
   w2c_i1 >>= (w2c_i2 & 31);
   w2c_i0 |= w2c_i1;
-  w2c_l14 = w2c_i0;
+  w2c_l13 = w2c_i0;
   w2c_i0 = 0u;
-  w2c_l15 = w2c_i0;
+  w2c_l14 = w2c_i0;
   w2c_i0 = 1u;
-  w2c_l16 = w2c_i0;
-  goto w2c_B13;
-  w2c_B14:;
-  w2c_i0 = w2c_l18;
+  w2c_l15 = w2c_i0;
+  goto w2c_B16;
+  w2c_B17:;
+  w2c_i0 = w2c_l17;
   w2c_i1 = 3u;
   w2c_i0 = w2c_i0 != w2c_i1;
   if (w2c_i0) {goto w2c_B2;}
   w2c_j0 = w2c_l5;
   w2c_i0 = (u32)(w2c_j0);
   w2c_i0 = i32_load8_u(&instance->w2c_memory, (u64)(w2c_i0));
-  w2c_l15 = w2c_i0;
-  w2c_i0 = 0u;
   w2c_l14 = w2c_i0;
+  w2c_i0 = 0u;
+  w2c_l13 = w2c_i0;
   w2c_i0 = 2u;
-  w2c_l16 = w2c_i0;
-  w2c_B13:;
+  w2c_l15 = w2c_i0;
+  w2c_B16:;
   w2c_j0 = 0ull;
   w2c_l6 = w2c_j0;
   w2c_j0 = 0ull;
   w2c_l5 = w2c_j0;
   goto w2c_B10;
-  w2c_B12:;
-  w2c_j0 = w2c_l8;
-  w2c_j1 = 18446744073709551606ull;
-  w2c_j0 += w2c_j1;
-  w2c_l3 = w2c_j0;
-  w2c_j1 = 61ull;
-  w2c_j0 = I64_ROTL(w2c_j0, w2c_j1);
-  w2c_j1 = 4ull;
-  w2c_i0 = w2c_j0 >= w2c_j1;
-  if (w2c_i0) {goto w2c_B2;}
+  w2c_B15:;
+  w2c_j0 = w2c_l2;
+  w2c_i0 = (u32)(w2c_j0);
+  w2c_j1 = 0ull;
+  i64_store(&instance->w2c_memory, (u64)(w2c_i0) + 96, w2c_j1);
+  w2c_j0 = w2c_l2;
+  w2c_i0 = (u32)(w2c_j0);
+  w2c_j1 = 0ull;
+  i64_store(&instance->w2c_memory, (u64)(w2c_i0) + 88, w2c_j1);
+  w2c_j0 = w2c_l2;
+  w2c_i0 = (u32)(w2c_j0);
+  w2c_j1 = 0ull;
+  i64_store(&instance->w2c_memory, (u64)(w2c_i0) + 80, w2c_j1);
+  w2c_j0 = w2c_l2;
+  w2c_i0 = (u32)(w2c_j0);
+  w2c_j1 = 0ull;
+  i64_store(&instance->w2c_memory, (u64)(w2c_i0) + 72, w2c_j1);
+  goto w2c_B13;
+  w2c_B14:;
   w2c_j0 = 0ull;
-  w2c_l6 = w2c_j0;
+  w2c_l3 = w2c_j0;
   w2c_j0 = w2c_l2;
   w2c_i0 = (u32)(w2c_j0);
   w2c_j1 = 0ull;
@@ -20883,284 +22844,111 @@ static void w2c_tcp_wire__options_left__OptionsLeft__next(Machine * instance, u6
   i64_store(&instance->w2c_memory, (u64)(w2c_i0) + 72, w2c_j1);
   w2c_j0 = 0ull;
   w2c_l9 = w2c_j0;
-  w2c_i0 = w2c_l18;
+  w2c_i0 = w2c_l17;
   w2c_i1 = 10u;
   w2c_i0 = w2c_i0 < w2c_i1;
-  if (w2c_i0) {goto w2c_B17;}
-  w2c_j0 = w2c_l3;
-  w2c_j1 = 3ull;
-  w2c_j0 >>= (w2c_j1 & 63);
-  w2c_l3 = w2c_j0;
-  w2c_i0 = !(w2c_j0);
-  w2c_i0 = !(w2c_i0);
-  if (w2c_i0) {goto w2c_B20;}
+  if (w2c_i0) {goto w2c_B12;}
+  w2c_B13:;
   w2c_j0 = 0ull;
-  w2c_l6 = w2c_j0;
-  goto w2c_B19;
-  w2c_B20:;
+  w2c_l3 = w2c_j0;
   w2c_j0 = 1ull;
-  w2c_l6 = w2c_j0;
-  w2c_j0 = w2c_l3;
-  w2c_j1 = 1ull;
-  w2c_j0 += w2c_j1;
-  w2c_l3 = w2c_j0;
-  w2c_j1 = 1ull;
-  w2c_j0 &= w2c_j1;
   w2c_l10 = w2c_j0;
-  w2c_j0 = 0ull;
-  w2c_j1 = w2c_l3;
-  w2c_j2 = 4611686018427387902ull;
-  w2c_j1 &= w2c_j2;
-  w2c_j0 -= w2c_j1;
-  w2c_l11 = w2c_j0;
-  w2c_j0 = w2c_l2;
-  w2c_j1 = 72ull;
-  w2c_j0 += w2c_j1;
-  w2c_l9 = w2c_j0;
   w2c_L21: 
-    w2c_j0 = w2c_l9;
+    w2c_j0 = w2c_l2;
+    w2c_j1 = 72ull;
+    w2c_j0 += w2c_j1;
+    w2c_j1 = w2c_l3;
+    w2c_j0 += w2c_j1;
     w2c_i0 = (u32)(w2c_j0);
     w2c_j1 = w2c_l5;
+    w2c_j2 = w2c_l3;
+    w2c_j1 += w2c_j2;
+    w2c_l9 = w2c_j1;
     w2c_j2 = 4ull;
     w2c_j1 += w2c_j2;
     w2c_i1 = (u32)(w2c_j1);
     w2c_j1 = i64_load32_u(&instance->w2c_memory, (u64)(w2c_i1));
-    w2c_l12 = w2c_j1;
+    w2c_l11 = w2c_j1;
     w2c_j2 = 56ull;
     w2c_j1 <<= (w2c_j2 & 63);
-    w2c_j2 = w2c_l12;
+    w2c_j2 = w2c_l11;
     w2c_j3 = 65280ull;
     w2c_j2 &= w2c_j3;
     w2c_j3 = 40ull;
     w2c_j2 <<= (w2c_j3 & 63);
     w2c_j1 |= w2c_j2;
-    w2c_j2 = w2c_l5;
+    w2c_j2 = w2c_l9;
     w2c_i2 = (u32)(w2c_j2);
     w2c_j2 = i64_load32_u(&instance->w2c_memory, (u64)(w2c_i2));
-    w2c_l3 = w2c_j2;
+    w2c_l9 = w2c_j2;
     w2c_j3 = 32ull;
     w2c_j2 <<= (w2c_j3 & 63);
-    w2c_l13 = w2c_j2;
-    w2c_j3 = w2c_l12;
-    w2c_j2 |= w2c_j3;
     w2c_l12 = w2c_j2;
+    w2c_j3 = w2c_l11;
+    w2c_j2 |= w2c_j3;
+    w2c_l11 = w2c_j2;
     w2c_j3 = 16711680ull;
     w2c_j2 &= w2c_j3;
     w2c_j3 = 24ull;
     w2c_j2 <<= (w2c_j3 & 63);
-    w2c_j3 = w2c_l12;
+    w2c_j3 = w2c_l11;
     w2c_j4 = 4278190080ull;
     w2c_j3 &= w2c_j4;
     w2c_j4 = 8ull;
     w2c_j3 <<= (w2c_j4 & 63);
     w2c_j2 |= w2c_j3;
     w2c_j1 |= w2c_j2;
-    w2c_j2 = w2c_l3;
+    w2c_j2 = w2c_l9;
     w2c_j3 = 24ull;
     w2c_j2 <<= (w2c_j3 & 63);
     w2c_j3 = 4278190080ull;
     w2c_j2 &= w2c_j3;
-    w2c_j3 = w2c_l3;
+    w2c_j3 = w2c_l9;
     w2c_j4 = 8ull;
     w2c_j3 <<= (w2c_j4 & 63);
     w2c_j4 = 16711680ull;
     w2c_j3 &= w2c_j4;
     w2c_j2 |= w2c_j3;
-    w2c_j3 = w2c_l3;
+    w2c_j3 = w2c_l9;
     w2c_j4 = 8ull;
     w2c_j3 >>= (w2c_j4 & 63);
     w2c_j4 = 65280ull;
     w2c_j3 &= w2c_j4;
-    w2c_j4 = w2c_l13;
+    w2c_j4 = w2c_l12;
     w2c_j5 = 56ull;
     w2c_j4 >>= (w2c_j5 & 63);
     w2c_j3 |= w2c_j4;
     w2c_j2 |= w2c_j3;
     w2c_j1 |= w2c_j2;
     i64_store(&instance->w2c_memory, (u64)(w2c_i0), w2c_j1);
-    w2c_j0 = w2c_l5;
+    w2c_j0 = w2c_l3;
     w2c_j1 = 8ull;
     w2c_j0 += w2c_j1;
-    w2c_i0 = (u32)(w2c_j0);
-    w2c_j0 = i64_load32_u(&instance->w2c_memory, (u64)(w2c_i0));
     w2c_l3 = w2c_j0;
-    w2c_j0 = w2c_l5;
-    w2c_j1 = 12ull;
-    w2c_j0 += w2c_j1;
-    w2c_i0 = (u32)(w2c_j0);
-    w2c_j0 = i64_load32_u(&instance->w2c_memory, (u64)(w2c_i0));
-    w2c_l12 = w2c_j0;
     w2c_j0 = w2c_l2;
     w2c_i0 = (u32)(w2c_j0);
-    w2c_j1 = w2c_l6;
+    w2c_j1 = w2c_l10;
     i64_store(&instance->w2c_memory, (u64)(w2c_i0) + 104, w2c_j1);
-    w2c_j0 = w2c_l9;
-    w2c_j1 = 8ull;
-    w2c_j0 += w2c_j1;
-    w2c_i0 = (u32)(w2c_j0);
-    w2c_j1 = w2c_l12;
-    w2c_j2 = 56ull;
-    w2c_j1 <<= (w2c_j2 & 63);
-    w2c_j2 = w2c_l12;
-    w2c_j3 = 65280ull;
-    w2c_j2 &= w2c_j3;
-    w2c_j3 = 40ull;
-    w2c_j2 <<= (w2c_j3 & 63);
-    w2c_j1 |= w2c_j2;
-    w2c_j2 = w2c_l12;
-    w2c_j3 = w2c_l3;
-    w2c_j4 = 32ull;
-    w2c_j3 <<= (w2c_j4 & 63);
-    w2c_l13 = w2c_j3;
-    w2c_j2 |= w2c_j3;
-    w2c_l12 = w2c_j2;
-    w2c_j3 = 16711680ull;
-    w2c_j2 &= w2c_j3;
-    w2c_j3 = 24ull;
-    w2c_j2 <<= (w2c_j3 & 63);
-    w2c_j3 = w2c_l12;
-    w2c_j4 = 4278190080ull;
-    w2c_j3 &= w2c_j4;
-    w2c_j4 = 8ull;
-    w2c_j3 <<= (w2c_j4 & 63);
-    w2c_j2 |= w2c_j3;
-    w2c_j1 |= w2c_j2;
-    w2c_j2 = w2c_l3;
-    w2c_j3 = 24ull;
-    w2c_j2 <<= (w2c_j3 & 63);
-    w2c_j3 = 4278190080ull;
-    w2c_j2 &= w2c_j3;
-    w2c_j3 = w2c_l3;
-    w2c_j4 = 8ull;
-    w2c_j3 <<= (w2c_j4 & 63);
-    w2c_j4 = 16711680ull;
-    w2c_j3 &= w2c_j4;
-    w2c_j2 |= w2c_j3;
-    w2c_j3 = w2c_l3;
-    w2c_j4 = 8ull;
-    w2c_j3 >>= (w2c_j4 & 63);
-    w2c_j4 = 65280ull;
-    w2c_j3 &= w2c_j4;
-    w2c_j4 = w2c_l13;
-    w2c_j5 = 56ull;
-    w2c_j4 >>= (w2c_j5 & 63);
-    w2c_j3 |= w2c_j4;
-    w2c_j2 |= w2c_j3;
-    w2c_j1 |= w2c_j2;
-    i64_store(&instance->w2c_memory, (u64)(w2c_i0), w2c_j1);
-    w2c_j0 = w2c_l2;
-    w2c_i0 = (u32)(w2c_j0);
-    w2c_j1 = w2c_l6;
-    w2c_j2 = 1ull;
-    w2c_j1 += w2c_j2;
-    i64_store(&instance->w2c_memory, (u64)(w2c_i0) + 104, w2c_j1);
-    w2c_j0 = w2c_l9;
-    w2c_j1 = 16ull;
-    w2c_j0 += w2c_j1;
-    w2c_l9 = w2c_j0;
-    w2c_j0 = w2c_l5;
-    w2c_j1 = 16ull;
-    w2c_j0 += w2c_j1;
-    w2c_l5 = w2c_j0;
-    w2c_j0 = w2c_l11;
-    w2c_j1 = w2c_l6;
-    w2c_j2 = 2ull;
-    w2c_j1 += w2c_j2;
-    w2c_l6 = w2c_j1;
-    w2c_j0 += w2c_j1;
+    w2c_j0 = w2c_l10;
     w2c_j1 = 1ull;
-    w2c_i0 = w2c_j0 != w2c_j1;
+    w2c_j0 += w2c_j1;
+    w2c_l10 = w2c_j0;
+    w2c_j0 = w2c_l6;
+    w2c_j1 = 18446744073709551608ull;
+    w2c_j0 += w2c_j1;
+    w2c_l6 = w2c_j0;
+    w2c_j1 = 7ull;
+    w2c_i0 = w2c_j0 > w2c_j1;
     if (w2c_i0) {goto w2c_L21;}
-  w2c_j0 = w2c_l10;
-  w2c_i0 = !(w2c_j0);
-  if (w2c_i0) {goto w2c_B18;}
-  w2c_j0 = w2c_l6;
-  w2c_j1 = 18446744073709551615ull;
-  w2c_j0 += w2c_j1;
-  w2c_l6 = w2c_j0;
-  w2c_B19:;
-  w2c_j0 = w2c_l2;
-  w2c_j1 = 72ull;
-  w2c_j0 += w2c_j1;
-  w2c_j1 = w2c_l6;
-  w2c_j2 = 3ull;
-  w2c_j1 <<= (w2c_j2 & 63);
-  w2c_j0 += w2c_j1;
-  w2c_i0 = (u32)(w2c_j0);
-  w2c_j1 = w2c_l5;
-  w2c_j2 = 4ull;
-  w2c_j1 += w2c_j2;
-  w2c_i1 = (u32)(w2c_j1);
-  w2c_j1 = i64_load32_u(&instance->w2c_memory, (u64)(w2c_i1));
-  w2c_l9 = w2c_j1;
-  w2c_j2 = 56ull;
-  w2c_j1 <<= (w2c_j2 & 63);
-  w2c_j2 = w2c_l9;
-  w2c_j3 = 65280ull;
-  w2c_j2 &= w2c_j3;
-  w2c_j3 = 40ull;
-  w2c_j2 <<= (w2c_j3 & 63);
-  w2c_j1 |= w2c_j2;
-  w2c_j2 = w2c_l5;
-  w2c_i2 = (u32)(w2c_j2);
-  w2c_j2 = i64_load32_u(&instance->w2c_memory, (u64)(w2c_i2));
-  w2c_l3 = w2c_j2;
-  w2c_j3 = 32ull;
-  w2c_j2 <<= (w2c_j3 & 63);
-  w2c_l5 = w2c_j2;
-  w2c_j3 = w2c_l9;
-  w2c_j2 |= w2c_j3;
-  w2c_l9 = w2c_j2;
-  w2c_j3 = 16711680ull;
-  w2c_j2 &= w2c_j3;
-  w2c_j3 = 24ull;
-  w2c_j2 <<= (w2c_j3 & 63);
-  w2c_j3 = w2c_l9;
-  w2c_j4 = 4278190080ull;
-  w2c_j3 &= w2c_j4;
-  w2c_j4 = 8ull;
-  w2c_j3 <<= (w2c_j4 & 63);
-  w2c_j2 |= w2c_j3;
-  w2c_j1 |= w2c_j2;
-  w2c_j2 = w2c_l3;
-  w2c_j3 = 24ull;
-  w2c_j2 <<= (w2c_j3 & 63);
-  w2c_j3 = 4278190080ull;
-  w2c_j2 &= w2c_j3;
-  w2c_j3 = w2c_l3;
-  w2c_j4 = 8ull;
-  w2c_j3 <<= (w2c_j4 & 63);
-  w2c_j4 = 16711680ull;
-  w2c_j3 &= w2c_j4;
-  w2c_j2 |= w2c_j3;
-  w2c_j3 = w2c_l3;
-  w2c_j4 = 8ull;
-  w2c_j3 >>= (w2c_j4 & 63);
-  w2c_j4 = 65280ull;
-  w2c_j3 &= w2c_j4;
-  w2c_j4 = w2c_l5;
-  w2c_j5 = 56ull;
-  w2c_j4 >>= (w2c_j5 & 63);
-  w2c_j3 |= w2c_j4;
-  w2c_j2 |= w2c_j3;
-  w2c_j1 |= w2c_j2;
-  i64_store(&instance->w2c_memory, (u64)(w2c_i0), w2c_j1);
-  w2c_j0 = w2c_l2;
-  w2c_i0 = (u32)(w2c_j0);
-  w2c_j1 = w2c_l6;
-  w2c_j2 = 1ull;
-  w2c_j1 += w2c_j2;
-  i64_store(&instance->w2c_memory, (u64)(w2c_i0) + 104, w2c_j1);
-  w2c_B18:;
   w2c_j0 = w2c_l2;
   w2c_i0 = (u32)(w2c_j0);
   w2c_j0 = i64_load(&instance->w2c_memory, (u64)(w2c_i0) + 80u);
-  w2c_l6 = w2c_j0;
+  w2c_l3 = w2c_j0;
   w2c_j0 = w2c_l2;
   w2c_i0 = (u32)(w2c_j0);
   w2c_j0 = i64_load(&instance->w2c_memory, (u64)(w2c_i0) + 72u);
   w2c_l9 = w2c_j0;
-  w2c_B17:;
+  w2c_B12:;
   w2c_j0 = w2c_l2;
   w2c_i0 = (u32)(w2c_j0);
   w2c_j1 = w2c_l2;
@@ -21180,14 +22968,16 @@ static void w2c_tcp_wire__options_left__OptionsLeft__next(Machine * instance, u6
   w2c_j1 = i64_load(&instance->w2c_memory, (u64)(w2c_i1) + 88u);
   i64_store(&instance->w2c_memory, (u64)(w2c_i0) + 48, w2c_j1);
   w2c_i0 = 0u;
-  w2c_l15 = w2c_i0;
+  w2c_l14 = w2c_i0;
   w2c_i0 = 4u;
-  w2c_l16 = w2c_i0;
+  w2c_l15 = w2c_i0;
+  w2c_j0 = w2c_l3;
+  w2c_l6 = w2c_j0;
   w2c_j0 = w2c_l9;
   w2c_l5 = w2c_j0;
   w2c_B11:;
   w2c_i0 = 0u;
-  w2c_l14 = w2c_i0;
+  w2c_l13 = w2c_i0;
   w2c_B10:;
   w2c_j0 = w2c_l2;
   w2c_i0 = (u32)(w2c_j0);
@@ -21224,9 +23014,9 @@ static void w2c_tcp_wire__options_left__OptionsLeft__next(Machine * instance, u6
   w2c_j1 = 0ull;
   i64_store(&instance->w2c_memory, (u64)(w2c_i0) + 24, w2c_j1);
   w2c_i0 = 0u;
-  w2c_l14 = w2c_i0;
+  w2c_l13 = w2c_i0;
   w2c_i0 = 5u;
-  w2c_l16 = w2c_i0;
+  w2c_l15 = w2c_i0;
   w2c_B1:;
   w2c_j0 = w2c_p1;
   w2c_i0 = (u32)(w2c_j0);
@@ -21260,8 +23050,8 @@ static void w2c_tcp_wire__options_left__OptionsLeft__next(Machine * instance, u6
   i64_store(&instance->w2c_memory, (u64)(w2c_i0) + 16, w2c_j1);
   w2c_j0 = 1ull;
   w2c_l3 = w2c_j0;
-  w2c_i0 = w2c_l15;
-  w2c_l17 = w2c_i0;
+  w2c_i0 = w2c_l14;
+  w2c_l16 = w2c_i0;
   w2c_B0:;
   w2c_j0 = w2c_p0;
   w2c_i0 = (u32)(w2c_j0);
@@ -21283,19 +23073,19 @@ static void w2c_tcp_wire__options_left__OptionsLeft__next(Machine * instance, u6
   w2c_j1 = 10ull;
   w2c_j0 += w2c_j1;
   w2c_i0 = (u32)(w2c_j0);
-  w2c_i1 = w2c_l14;
+  w2c_i1 = w2c_l13;
   i32_store16(&instance->w2c_memory, (u64)(w2c_i0), w2c_i1);
   w2c_j0 = w2c_p0;
   w2c_j1 = 9ull;
   w2c_j0 += w2c_j1;
   w2c_i0 = (u32)(w2c_j0);
-  w2c_i1 = w2c_l17;
+  w2c_i1 = w2c_l16;
   i32_store8(&instance->w2c_memory, (u64)(w2c_i0), w2c_i1);
   w2c_j0 = w2c_p0;
   w2c_j1 = 8ull;
   w2c_j0 += w2c_j1;
   w2c_i0 = (u32)(w2c_j0);
-  w2c_i1 = w2c_l16;
+  w2c_i1 = w2c_l15;
   i32_store8(&instance->w2c_memory, (u64)(w2c_i0), w2c_i1);
   w2c_j0 = w2c_p0;
   w2c_j1 = 32ull;
@@ -21321,1491 +23111,6 @@ static void w2c_tcp_wire__options_left__OptionsLeft__next(Machine * instance, u6
   w2c_i1 = (u32)(w2c_j1);
   w2c_j1 = i64_load(&instance->w2c_memory, (u64)(w2c_i1) + 16u);
   i64_store(&instance->w2c_memory, (u64)(w2c_i0), w2c_j1);
-}
-
-static void w2c_kit_text__cutting__first_farther(Machine * instance, u64 w2c_p0, u32 w2c_p1, u64 w2c_p2, u64 w2c_p3, u64 w2c_p4) {
-  u32 w2c_l7 = 0;
-  u64 w2c_l5 = 0, w2c_l6 = 0;
-  u32 w2c_i0, w2c_i1, w2c_i2;
-  u64 w2c_j0, w2c_j1, w2c_j2;
-  w2c_j0 = instance->w2c___stack_pointer;
-  w2c_j1 = 16ull;
-  w2c_i0 = (u64)((s64)w2c_j0 < (s64)w2c_j1);
-  if (w2c_i0) {goto w2c_B0;}
-  w2c_j0 = w2c_p3;
-  w2c_j1 = w2c_p4;
-  w2c_j0 -= w2c_j1;
-  w2c_l5 = w2c_j0;
-  w2c_j1 = 64ull;
-  w2c_i0 = w2c_j0 < w2c_j1;
-  if (w2c_i0) {goto w2c_B1;}
-  w2c_L2: 
-    w2c_j0 = w2c_p2;
-    w2c_j1 = w2c_p4;
-    w2c_j0 += w2c_j1;
-    w2c_l6 = w2c_j0;
-    w2c_i0 = (u32)(w2c_j0);
-    w2c_i0 = i32_load8_u(&instance->w2c_memory, (u64)(w2c_i0));
-    w2c_i1 = w2c_p1;
-    w2c_i2 = 255u;
-    w2c_i1 &= w2c_i2;
-    w2c_l7 = w2c_i1;
-    w2c_i0 = w2c_i0 == w2c_i1;
-    if (w2c_i0) {goto w2c_B1;}
-    w2c_j0 = w2c_l6;
-    w2c_j1 = 1ull;
-    w2c_j0 += w2c_j1;
-    w2c_i0 = (u32)(w2c_j0);
-    w2c_i0 = i32_load8_u(&instance->w2c_memory, (u64)(w2c_i0));
-    w2c_i1 = 255u;
-    w2c_i0 &= w2c_i1;
-    w2c_i1 = w2c_l7;
-    w2c_i0 = w2c_i0 == w2c_i1;
-    if (w2c_i0) {goto w2c_B1;}
-    w2c_j0 = w2c_l6;
-    w2c_j1 = 2ull;
-    w2c_j0 += w2c_j1;
-    w2c_i0 = (u32)(w2c_j0);
-    w2c_i0 = i32_load8_u(&instance->w2c_memory, (u64)(w2c_i0));
-    w2c_i1 = 255u;
-    w2c_i0 &= w2c_i1;
-    w2c_i1 = w2c_p1;
-    w2c_i2 = 255u;
-    w2c_i1 &= w2c_i2;
-    w2c_l7 = w2c_i1;
-    w2c_i0 = w2c_i0 == w2c_i1;
-    if (w2c_i0) {goto w2c_B1;}
-    w2c_j0 = w2c_l6;
-    w2c_j1 = 3ull;
-    w2c_j0 += w2c_j1;
-    w2c_i0 = (u32)(w2c_j0);
-    w2c_i0 = i32_load8_u(&instance->w2c_memory, (u64)(w2c_i0));
-    w2c_i1 = 255u;
-    w2c_i0 &= w2c_i1;
-    w2c_i1 = w2c_l7;
-    w2c_i0 = w2c_i0 == w2c_i1;
-    if (w2c_i0) {goto w2c_B1;}
-    w2c_j0 = w2c_l6;
-    w2c_j1 = 4ull;
-    w2c_j0 += w2c_j1;
-    w2c_i0 = (u32)(w2c_j0);
-    w2c_i0 = i32_load8_u(&instance->w2c_memory, (u64)(w2c_i0));
-    w2c_i1 = 255u;
-    w2c_i0 &= w2c_i1;
-    w2c_i1 = w2c_p1;
-    w2c_i2 = 255u;
-    w2c_i1 &= w2c_i2;
-    w2c_l7 = w2c_i1;
-    w2c_i0 = w2c_i0 == w2c_i1;
-    if (w2c_i0) {goto w2c_B1;}
-    w2c_j0 = w2c_l6;
-    w2c_j1 = 5ull;
-    w2c_j0 += w2c_j1;
-    w2c_i0 = (u32)(w2c_j0);
-    w2c_i0 = i32_load8_u(&instance->w2c_memory, (u64)(w2c_i0));
-    w2c_i1 = 255u;
-    w2c_i0 &= w2c_i1;
-    w2c_i1 = w2c_l7;
-    w2c_i0 = w2c_i0 == w2c_i1;
-    if (w2c_i0) {goto w2c_B1;}
-    w2c_j0 = w2c_l6;
-    w2c_j1 = 6ull;
-    w2c_j0 += w2c_j1;
-    w2c_i0 = (u32)(w2c_j0);
-    w2c_i0 = i32_load8_u(&instance->w2c_memory, (u64)(w2c_i0));
-    w2c_i1 = 255u;
-    w2c_i0 &= w2c_i1;
-    w2c_i1 = w2c_p1;
-    w2c_i2 = 255u;
-    w2c_i1 &= w2c_i2;
-    w2c_l7 = w2c_i1;
-    w2c_i0 = w2c_i0 == w2c_i1;
-    if (w2c_i0) {goto w2c_B1;}
-    w2c_j0 = w2c_l6;
-    w2c_j1 = 7ull;
-    w2c_j0 += w2c_j1;
-    w2c_i0 = (u32)(w2c_j0);
-    w2c_i0 = i32_load8_u(&instance->w2c_memory, (u64)(w2c_i0));
-    w2c_i1 = 255u;
-    w2c_i0 &= w2c_i1;
-    w2c_i1 = w2c_l7;
-    w2c_i0 = w2c_i0 == w2c_i1;
-    if (w2c_i0) {goto w2c_B1;}
-    w2c_j0 = w2c_l6;
-    w2c_j1 = 8ull;
-    w2c_j0 += w2c_j1;
-    w2c_i0 = (u32)(w2c_j0);
-    w2c_i0 = i32_load8_u(&instance->w2c_memory, (u64)(w2c_i0));
-    w2c_i1 = 255u;
-    w2c_i0 &= w2c_i1;
-    w2c_i1 = w2c_p1;
-    w2c_i2 = 255u;
-    w2c_i1 &= w2c_i2;
-    w2c_l7 = w2c_i1;
-    w2c_i0 = w2c_i0 == w2c_i1;
-    if (w2c_i0) {goto w2c_B1;}
-    w2c_j0 = w2c_l6;
-    w2c_j1 = 9ull;
-    w2c_j0 += w2c_j1;
-    w2c_i0 = (u32)(w2c_j0);
-    w2c_i0 = i32_load8_u(&instance->w2c_memory, (u64)(w2c_i0));
-    w2c_i1 = 255u;
-    w2c_i0 &= w2c_i1;
-    w2c_i1 = w2c_l7;
-    w2c_i0 = w2c_i0 == w2c_i1;
-    if (w2c_i0) {goto w2c_B1;}
-    w2c_j0 = w2c_l6;
-    w2c_j1 = 10ull;
-    w2c_j0 += w2c_j1;
-    w2c_i0 = (u32)(w2c_j0);
-    w2c_i0 = i32_load8_u(&instance->w2c_memory, (u64)(w2c_i0));
-    w2c_i1 = 255u;
-    w2c_i0 &= w2c_i1;
-    w2c_i1 = w2c_p1;
-    w2c_i2 = 255u;
-    w2c_i1 &= w2c_i2;
-    w2c_l7 = w2c_i1;
-    w2c_i0 = w2c_i0 == w2c_i1;
-    if (w2c_i0) {goto w2c_B1;}
-    w2c_j0 = w2c_l6;
-    w2c_j1 = 11ull;
-    w2c_j0 += w2c_j1;
-    w2c_i0 = (u32)(w2c_j0);
-    w2c_i0 = i32_load8_u(&instance->w2c_memory, (u64)(w2c_i0));
-    w2c_i1 = 255u;
-    w2c_i0 &= w2c_i1;
-    w2c_i1 = w2c_l7;
-    w2c_i0 = w2c_i0 == w2c_i1;
-    if (w2c_i0) {goto w2c_B1;}
-    w2c_j0 = w2c_l6;
-    w2c_j1 = 12ull;
-    w2c_j0 += w2c_j1;
-    w2c_i0 = (u32)(w2c_j0);
-    w2c_i0 = i32_load8_u(&instance->w2c_memory, (u64)(w2c_i0));
-    w2c_i1 = 255u;
-    w2c_i0 &= w2c_i1;
-    w2c_i1 = w2c_p1;
-    w2c_i2 = 255u;
-    w2c_i1 &= w2c_i2;
-    w2c_l7 = w2c_i1;
-    w2c_i0 = w2c_i0 == w2c_i1;
-    if (w2c_i0) {goto w2c_B1;}
-    w2c_j0 = w2c_l6;
-    w2c_j1 = 13ull;
-    w2c_j0 += w2c_j1;
-    w2c_i0 = (u32)(w2c_j0);
-    w2c_i0 = i32_load8_u(&instance->w2c_memory, (u64)(w2c_i0));
-    w2c_i1 = 255u;
-    w2c_i0 &= w2c_i1;
-    w2c_i1 = w2c_l7;
-    w2c_i0 = w2c_i0 == w2c_i1;
-    if (w2c_i0) {goto w2c_B1;}
-    w2c_j0 = w2c_l6;
-    w2c_j1 = 14ull;
-    w2c_j0 += w2c_j1;
-    w2c_i0 = (u32)(w2c_j0);
-    w2c_i0 = i32_load8_u(&instance->w2c_memory, (u64)(w2c_i0));
-    w2c_i1 = 255u;
-    w2c_i0 &= w2c_i1;
-    w2c_i1 = w2c_p1;
-    w2c_i2 = 255u;
-    w2c_i1 &= w2c_i2;
-    w2c_l7 = w2c_i1;
-    w2c_i0 = w2c_i0 == w2c_i1;
-    if (w2c_i0) {goto w2c_B1;}
-    w2c_j0 = w2c_l6;
-    w2c_j1 = 15ull;
-    w2c_j0 += w2c_j1;
-    w2c_i0 = (u32)(w2c_j0);
-    w2c_i0 = i32_load8_u(&instance->w2c_memory, (u64)(w2c_i0));
-    w2c_i1 = 255u;
-    w2c_i0 &= w2c_i1;
-    w2c_i1 = w2c_l7;
-    w2c_i0 = w2c_i0 == w2c_i1;
-    if (w2c_i0) {goto w2c_B1;}
-    w2c_j0 = w2c_l6;
-    w2c_j1 = 16ull;
-    w2c_j0 += w2c_j1;
-    w2c_i0 = (u32)(w2c_j0);
-    w2c_i0 = i32_load8_u(&instance->w2c_memory, (u64)(w2c_i0));
-    w2c_i1 = 255u;
-    w2c_i0 &= w2c_i1;
-    w2c_i1 = w2c_p1;
-    w2c_i2 = 255u;
-    w2c_i1 &= w2c_i2;
-    w2c_l7 = w2c_i1;
-    w2c_i0 = w2c_i0 == w2c_i1;
-    if (w2c_i0) {goto w2c_B1;}
-    w2c_j0 = w2c_l6;
-    w2c_j1 = 17ull;
-    w2c_j0 += w2c_j1;
-    w2c_i0 = (u32)(w2c_j0);
-    w2c_i0 = i32_load8_u(&instance->w2c_memory, (u64)(w2c_i0));
-    w2c_i1 = 255u;
-    w2c_i0 &= w2c_i1;
-    w2c_i1 = w2c_l7;
-    w2c_i0 = w2c_i0 == w2c_i1;
-    if (w2c_i0) {goto w2c_B1;}
-    w2c_j0 = w2c_l6;
-    w2c_j1 = 18ull;
-    w2c_j0 += w2c_j1;
-    w2c_i0 = (u32)(w2c_j0);
-    w2c_i0 = i32_load8_u(&instance->w2c_memory, (u64)(w2c_i0));
-    w2c_i1 = 255u;
-    w2c_i0 &= w2c_i1;
-    w2c_i1 = w2c_p1;
-    w2c_i2 = 255u;
-    w2c_i1 &= w2c_i2;
-    w2c_l7 = w2c_i1;
-    w2c_i0 = w2c_i0 == w2c_i1;
-    if (w2c_i0) {goto w2c_B1;}
-    w2c_j0 = w2c_l6;
-    w2c_j1 = 19ull;
-    w2c_j0 += w2c_j1;
-    w2c_i0 = (u32)(w2c_j0);
-    w2c_i0 = i32_load8_u(&instance->w2c_memory, (u64)(w2c_i0));
-    w2c_i1 = 255u;
-    w2c_i0 &= w2c_i1;
-    w2c_i1 = w2c_l7;
-    w2c_i0 = w2c_i0 == w2c_i1;
-    if (w2c_i0) {goto w2c_B1;}
-    w2c_j0 = w2c_l6;
-    w2c_j1 = 20ull;
-    w2c_j0 += w2c_j1;
-    w2c_i0 = (u32)(w2c_j0);
-    w2c_i0 = i32_load8_u(&instance->w2c_memory, (u64)(w2c_i0));
-    w2c_i1 = 255u;
-    w2c_i0 &= w2c_i1;
-    w2c_i1 = w2c_p1;
-    w2c_i2 = 255u;
-    w2c_i1 &= w2c_i2;
-    w2c_l7 = w2c_i1;
-    w2c_i0 = w2c_i0 == w2c_i1;
-    if (w2c_i0) {goto w2c_B1;}
-    w2c_j0 = w2c_l6;
-    w2c_j1 = 21ull;
-    w2c_j0 += w2c_j1;
-    w2c_i0 = (u32)(w2c_j0);
-    w2c_i0 = i32_load8_u(&instance->w2c_memory, (u64)(w2c_i0));
-    w2c_i1 = 255u;
-    w2c_i0 &= w2c_i1;
-    w2c_i1 = w2c_l7;
-    w2c_i0 = w2c_i0 == w2c_i1;
-    if (w2c_i0) {goto w2c_B1;}
-    w2c_j0 = w2c_l6;
-    w2c_j1 = 22ull;
-    w2c_j0 += w2c_j1;
-    w2c_i0 = (u32)(w2c_j0);
-    w2c_i0 = i32_load8_u(&instance->w2c_memory, (u64)(w2c_i0));
-    w2c_i1 = 255u;
-    w2c_i0 &= w2c_i1;
-    w2c_i1 = w2c_p1;
-    w2c_i2 = 255u;
-    w2c_i1 &= w2c_i2;
-    w2c_l7 = w2c_i1;
-    w2c_i0 = w2c_i0 == w2c_i1;
-    if (w2c_i0) {goto w2c_B1;}
-    w2c_j0 = w2c_l6;
-    w2c_j1 = 23ull;
-    w2c_j0 += w2c_j1;
-    w2c_i0 = (u32)(w2c_j0);
-    w2c_i0 = i32_load8_u(&instance->w2c_memory, (u64)(w2c_i0));
-    w2c_i1 = 255u;
-    w2c_i0 &= w2c_i1;
-    w2c_i1 = w2c_l7;
-    w2c_i0 = w2c_i0 == w2c_i1;
-    if (w2c_i0) {goto w2c_B1;}
-    w2c_j0 = w2c_l6;
-    w2c_j1 = 24ull;
-    w2c_j0 += w2c_j1;
-    w2c_i0 = (u32)(w2c_j0);
-    w2c_i0 = i32_load8_u(&instance->w2c_memory, (u64)(w2c_i0));
-    w2c_i1 = 255u;
-    w2c_i0 &= w2c_i1;
-    w2c_i1 = w2c_p1;
-    w2c_i2 = 255u;
-    w2c_i1 &= w2c_i2;
-    w2c_l7 = w2c_i1;
-    w2c_i0 = w2c_i0 == w2c_i1;
-    if (w2c_i0) {goto w2c_B1;}
-    w2c_j0 = w2c_l6;
-    w2c_j1 = 25ull;
-    w2c_j0 += w2c_j1;
-    w2c_i0 = (u32)(w2c_j0);
-    w2c_i0 = i32_load8_u(&instance->w2c_memory, (u64)(w2c_i0));
-    w2c_i1 = 255u;
-    w2c_i0 &= w2c_i1;
-    w2c_i1 = w2c_l7;
-    w2c_i0 = w2c_i0 == w2c_i1;
-    if (w2c_i0) {goto w2c_B1;}
-    w2c_j0 = w2c_l6;
-    w2c_j1 = 26ull;
-    w2c_j0 += w2c_j1;
-    w2c_i0 = (u32)(w2c_j0);
-    w2c_i0 = i32_load8_u(&instance->w2c_memory, (u64)(w2c_i0));
-    w2c_i1 = 255u;
-    w2c_i0 &= w2c_i1;
-    w2c_i1 = w2c_p1;
-    w2c_i2 = 255u;
-    w2c_i1 &= w2c_i2;
-    w2c_l7 = w2c_i1;
-    w2c_i0 = w2c_i0 == w2c_i1;
-    if (w2c_i0) {goto w2c_B1;}
-    w2c_j0 = w2c_l6;
-    w2c_j1 = 27ull;
-    w2c_j0 += w2c_j1;
-    w2c_i0 = (u32)(w2c_j0);
-    w2c_i0 = i32_load8_u(&instance->w2c_memory, (u64)(w2c_i0));
-    w2c_i1 = 255u;
-    w2c_i0 &= w2c_i1;
-    w2c_i1 = w2c_l7;
-    w2c_i0 = w2c_i0 == w2c_i1;
-    if (w2c_i0) {goto w2c_B1;}
-    w2c_j0 = w2c_l6;
-    w2c_j1 = 28ull;
-    w2c_j0 += w2c_j1;
-    w2c_i0 = (u32)(w2c_j0);
-    w2c_i0 = i32_load8_u(&instance->w2c_memory, (u64)(w2c_i0));
-    w2c_i1 = 255u;
-    w2c_i0 &= w2c_i1;
-    w2c_i1 = w2c_p1;
-    w2c_i2 = 255u;
-    w2c_i1 &= w2c_i2;
-    w2c_l7 = w2c_i1;
-    w2c_i0 = w2c_i0 == w2c_i1;
-    if (w2c_i0) {goto w2c_B1;}
-    w2c_j0 = w2c_l6;
-    w2c_j1 = 29ull;
-    w2c_j0 += w2c_j1;
-    w2c_i0 = (u32)(w2c_j0);
-    w2c_i0 = i32_load8_u(&instance->w2c_memory, (u64)(w2c_i0));
-    w2c_i1 = 255u;
-    w2c_i0 &= w2c_i1;
-    w2c_i1 = w2c_l7;
-    w2c_i0 = w2c_i0 == w2c_i1;
-    if (w2c_i0) {goto w2c_B1;}
-    w2c_j0 = w2c_l6;
-    w2c_j1 = 30ull;
-    w2c_j0 += w2c_j1;
-    w2c_i0 = (u32)(w2c_j0);
-    w2c_i0 = i32_load8_u(&instance->w2c_memory, (u64)(w2c_i0));
-    w2c_i1 = 255u;
-    w2c_i0 &= w2c_i1;
-    w2c_i1 = w2c_p1;
-    w2c_i2 = 255u;
-    w2c_i1 &= w2c_i2;
-    w2c_l7 = w2c_i1;
-    w2c_i0 = w2c_i0 == w2c_i1;
-    if (w2c_i0) {goto w2c_B1;}
-    w2c_j0 = w2c_l6;
-    w2c_j1 = 31ull;
-    w2c_j0 += w2c_j1;
-    w2c_i0 = (u32)(w2c_j0);
-    w2c_i0 = i32_load8_u(&instance->w2c_memory, (u64)(w2c_i0));
-    w2c_i1 = 255u;
-    w2c_i0 &= w2c_i1;
-    w2c_i1 = w2c_l7;
-    w2c_i0 = w2c_i0 == w2c_i1;
-    if (w2c_i0) {goto w2c_B1;}
-    w2c_j0 = w2c_l6;
-    w2c_j1 = 32ull;
-    w2c_j0 += w2c_j1;
-    w2c_i0 = (u32)(w2c_j0);
-    w2c_i0 = i32_load8_u(&instance->w2c_memory, (u64)(w2c_i0));
-    w2c_i1 = 255u;
-    w2c_i0 &= w2c_i1;
-    w2c_i1 = w2c_p1;
-    w2c_i2 = 255u;
-    w2c_i1 &= w2c_i2;
-    w2c_l7 = w2c_i1;
-    w2c_i0 = w2c_i0 == w2c_i1;
-    if (w2c_i0) {goto w2c_B1;}
-    w2c_j0 = w2c_l6;
-    w2c_j1 = 33ull;
-    w2c_j0 += w2c_j1;
-    w2c_i0 = (u32)(w2c_j0);
-    w2c_i0 = i32_load8_u(&instance->w2c_memory, (u64)(w2c_i0));
-    w2c_i1 = 255u;
-    w2c_i0 &= w2c_i1;
-    w2c_i1 = w2c_l7;
-    w2c_i0 = w2c_i0 == w2c_i1;
-    if (w2c_i0) {goto w2c_B1;}
-    w2c_j0 = w2c_l6;
-    w2c_j1 = 34ull;
-    w2c_j0 += w2c_j1;
-    w2c_i0 = (u32)(w2c_j0);
-    w2c_i0 = i32_load8_u(&instance->w2c_memory, (u64)(w2c_i0));
-    w2c_i1 = 255u;
-    w2c_i0 &= w2c_i1;
-    w2c_i1 = w2c_p1;
-    w2c_i2 = 255u;
-    w2c_i1 &= w2c_i2;
-    w2c_l7 = w2c_i1;
-    w2c_i0 = w2c_i0 == w2c_i1;
-    if (w2c_i0) {goto w2c_B1;}
-    w2c_j0 = w2c_l6;
-    w2c_j1 = 35ull;
-    w2c_j0 += w2c_j1;
-    w2c_i0 = (u32)(w2c_j0);
-    w2c_i0 = i32_load8_u(&instance->w2c_memory, (u64)(w2c_i0));
-    w2c_i1 = 255u;
-    w2c_i0 &= w2c_i1;
-    w2c_i1 = w2c_l7;
-    w2c_i0 = w2c_i0 == w2c_i1;
-    if (w2c_i0) {goto w2c_B1;}
-    w2c_j0 = w2c_l6;
-    w2c_j1 = 36ull;
-    w2c_j0 += w2c_j1;
-    w2c_i0 = (u32)(w2c_j0);
-    w2c_i0 = i32_load8_u(&instance->w2c_memory, (u64)(w2c_i0));
-    w2c_i1 = 255u;
-    w2c_i0 &= w2c_i1;
-    w2c_i1 = w2c_p1;
-    w2c_i2 = 255u;
-    w2c_i1 &= w2c_i2;
-    w2c_l7 = w2c_i1;
-    w2c_i0 = w2c_i0 == w2c_i1;
-    if (w2c_i0) {goto w2c_B1;}
-    w2c_j0 = w2c_l6;
-    w2c_j1 = 37ull;
-    w2c_j0 += w2c_j1;
-    w2c_i0 = (u32)(w2c_j0);
-    w2c_i0 = i32_load8_u(&instance->w2c_memory, (u64)(w2c_i0));
-    w2c_i1 = 255u;
-    w2c_i0 &= w2c_i1;
-    w2c_i1 = w2c_l7;
-    w2c_i0 = w2c_i0 == w2c_i1;
-    if (w2c_i0) {goto w2c_B1;}
-    w2c_j0 = w2c_l6;
-    w2c_j1 = 38ull;
-    w2c_j0 += w2c_j1;
-    w2c_i0 = (u32)(w2c_j0);
-    w2c_i0 = i32_load8_u(&instance->w2c_memory, (u64)(w2c_i0));
-    w2c_i1 = 255u;
-    w2c_i0 &= w2c_i1;
-    w2c_i1 = w2c_p1;
-    w2c_i2 = 255u;
-    w2c_i1 &= w2c_i2;
-    w2c_l7 = w2c_i1;
-    w2c_i0 = w2c_i0 == w2c_i1;
-    if (w2c_i0) {goto w2c_B1;}
-    w2c_j0 = w2c_l6;
-    w2c_j1 = 39ull;
-    w2c_j0 += w2c_j1;
-    w2c_i0 = (u32)(w2c_j0);
-    w2c_i0 = i32_load8_u(&instance->w2c_memory, (u64)(w2c_i0));
-    w2c_i1 = 255u;
-    w2c_i0 &= w2c_i1;
-    w2c_i1 = w2c_l7;
-    w2c_i0 = w2c_i0 == w2c_i1;
-    if (w2c_i0) {goto w2c_B1;}
-    w2c_j0 = w2c_l6;
-    w2c_j1 = 40ull;
-    w2c_j0 += w2c_j1;
-    w2c_i0 = (u32)(w2c_j0);
-    w2c_i0 = i32_load8_u(&instance->w2c_memory, (u64)(w2c_i0));
-    w2c_i1 = 255u;
-    w2c_i0 &= w2c_i1;
-    w2c_i1 = w2c_p1;
-    w2c_i2 = 255u;
-    w2c_i1 &= w2c_i2;
-    w2c_l7 = w2c_i1;
-    w2c_i0 = w2c_i0 == w2c_i1;
-    if (w2c_i0) {goto w2c_B1;}
-    w2c_j0 = w2c_l6;
-    w2c_j1 = 41ull;
-    w2c_j0 += w2c_j1;
-    w2c_i0 = (u32)(w2c_j0);
-    w2c_i0 = i32_load8_u(&instance->w2c_memory, (u64)(w2c_i0));
-    w2c_i1 = 255u;
-    w2c_i0 &= w2c_i1;
-    w2c_i1 = w2c_l7;
-    w2c_i0 = w2c_i0 == w2c_i1;
-    if (w2c_i0) {goto w2c_B1;}
-    w2c_j0 = w2c_l6;
-    w2c_j1 = 42ull;
-    w2c_j0 += w2c_j1;
-    w2c_i0 = (u32)(w2c_j0);
-    w2c_i0 = i32_load8_u(&instance->w2c_memory, (u64)(w2c_i0));
-    w2c_i1 = 255u;
-    w2c_i0 &= w2c_i1;
-    w2c_i1 = w2c_p1;
-    w2c_i2 = 255u;
-    w2c_i1 &= w2c_i2;
-    w2c_l7 = w2c_i1;
-    w2c_i0 = w2c_i0 == w2c_i1;
-    if (w2c_i0) {goto w2c_B1;}
-    w2c_j0 = w2c_l6;
-    w2c_j1 = 43ull;
-    w2c_j0 += w2c_j1;
-    w2c_i0 = (u32)(w2c_j0);
-    w2c_i0 = i32_load8_u(&instance->w2c_memory, (u64)(w2c_i0));
-    w2c_i1 = 255u;
-    w2c_i0 &= w2c_i1;
-    w2c_i1 = w2c_l7;
-    w2c_i0 = w2c_i0 == w2c_i1;
-    if (w2c_i0) {goto w2c_B1;}
-    w2c_j0 = w2c_l6;
-    w2c_j1 = 44ull;
-    w2c_j0 += w2c_j1;
-    w2c_i0 = (u32)(w2c_j0);
-    w2c_i0 = i32_load8_u(&instance->w2c_memory, (u64)(w2c_i0));
-    w2c_i1 = 255u;
-    w2c_i0 &= w2c_i1;
-    w2c_i1 = w2c_p1;
-    w2c_i2 = 255u;
-    w2c_i1 &= w2c_i2;
-    w2c_l7 = w2c_i1;
-    w2c_i0 = w2c_i0 == w2c_i1;
-    if (w2c_i0) {goto w2c_B1;}
-    w2c_j0 = w2c_l6;
-    w2c_j1 = 45ull;
-    w2c_j0 += w2c_j1;
-    w2c_i0 = (u32)(w2c_j0);
-    w2c_i0 = i32_load8_u(&instance->w2c_memory, (u64)(w2c_i0));
-    w2c_i1 = 255u;
-    w2c_i0 &= w2c_i1;
-    w2c_i1 = w2c_l7;
-    w2c_i0 = w2c_i0 == w2c_i1;
-    if (w2c_i0) {goto w2c_B1;}
-    w2c_j0 = w2c_l6;
-    w2c_j1 = 46ull;
-    w2c_j0 += w2c_j1;
-    w2c_i0 = (u32)(w2c_j0);
-    w2c_i0 = i32_load8_u(&instance->w2c_memory, (u64)(w2c_i0));
-    w2c_i1 = 255u;
-    w2c_i0 &= w2c_i1;
-    w2c_i1 = w2c_p1;
-    w2c_i2 = 255u;
-    w2c_i1 &= w2c_i2;
-    w2c_l7 = w2c_i1;
-    w2c_i0 = w2c_i0 == w2c_i1;
-    if (w2c_i0) {goto w2c_B1;}
-    w2c_j0 = w2c_l6;
-    w2c_j1 = 47ull;
-    w2c_j0 += w2c_j1;
-    w2c_i0 = (u32)(w2c_j0);
-    w2c_i0 = i32_load8_u(&instance->w2c_memory, (u64)(w2c_i0));
-    w2c_i1 = 255u;
-    w2c_i0 &= w2c_i1;
-    w2c_i1 = w2c_l7;
-    w2c_i0 = w2c_i0 == w2c_i1;
-    if (w2c_i0) {goto w2c_B1;}
-    w2c_j0 = w2c_l6;
-    w2c_j1 = 48ull;
-    w2c_j0 += w2c_j1;
-    w2c_i0 = (u32)(w2c_j0);
-    w2c_i0 = i32_load8_u(&instance->w2c_memory, (u64)(w2c_i0));
-    w2c_i1 = 255u;
-    w2c_i0 &= w2c_i1;
-    w2c_i1 = w2c_p1;
-    w2c_i2 = 255u;
-    w2c_i1 &= w2c_i2;
-    w2c_l7 = w2c_i1;
-    w2c_i0 = w2c_i0 == w2c_i1;
-    if (w2c_i0) {goto w2c_B1;}
-    w2c_j0 = w2c_l6;
-    w2c_j1 = 49ull;
-    w2c_j0 += w2c_j1;
-    w2c_i0 = (u32)(w2c_j0);
-    w2c_i0 = i32_load8_u(&instance->w2c_memory, (u64)(w2c_i0));
-    w2c_i1 = 255u;
-    w2c_i0 &= w2c_i1;
-    w2c_i1 = w2c_l7;
-    w2c_i0 = w2c_i0 == w2c_i1;
-    if (w2c_i0) {goto w2c_B1;}
-    w2c_j0 = w2c_l6;
-    w2c_j1 = 50ull;
-    w2c_j0 += w2c_j1;
-    w2c_i0 = (u32)(w2c_j0);
-    w2c_i0 = i32_load8_u(&instance->w2c_memory, (u64)(w2c_i0));
-    w2c_i1 = 255u;
-    w2c_i0 &= w2c_i1;
-    w2c_i1 = w2c_p1;
-    w2c_i2 = 255u;
-    w2c_i1 &= w2c_i2;
-    w2c_l7 = w2c_i1;
-    w2c_i0 = w2c_i0 == w2c_i1;
-    if (w2c_i0) {goto w2c_B1;}
-    w2c_j0 = w2c_l6;
-    w2c_j1 = 51ull;
-    w2c_j0 += w2c_j1;
-    w2c_i0 = (u32)(w2c_j0);
-    w2c_i0 = i32_load8_u(&instance->w2c_memory, (u64)(w2c_i0));
-    w2c_i1 = 255u;
-    w2c_i0 &= w2c_i1;
-    w2c_i1 = w2c_l7;
-    w2c_i0 = w2c_i0 == w2c_i1;
-    if (w2c_i0) {goto w2c_B1;}
-    w2c_j0 = w2c_l6;
-    w2c_j1 = 52ull;
-    w2c_j0 += w2c_j1;
-    w2c_i0 = (u32)(w2c_j0);
-    w2c_i0 = i32_load8_u(&instance->w2c_memory, (u64)(w2c_i0));
-    w2c_i1 = 255u;
-    w2c_i0 &= w2c_i1;
-    w2c_i1 = w2c_p1;
-    w2c_i2 = 255u;
-    w2c_i1 &= w2c_i2;
-    w2c_l7 = w2c_i1;
-    w2c_i0 = w2c_i0 == w2c_i1;
-    if (w2c_i0) {goto w2c_B1;}
-    w2c_j0 = w2c_l6;
-    w2c_j1 = 53ull;
-    w2c_j0 += w2c_j1;
-    w2c_i0 = (u32)(w2c_j0);
-    w2c_i0 = i32_load8_u(&instance->w2c_memory, (u64)(w2c_i0));
-    w2c_i1 = 255u;
-    w2c_i0 &= w2c_i1;
-    w2c_i1 = w2c_l7;
-    w2c_i0 = w2c_i0 == w2c_i1;
-    if (w2c_i0) {goto w2c_B1;}
-    w2c_j0 = w2c_l6;
-    w2c_j1 = 54ull;
-    w2c_j0 += w2c_j1;
-    w2c_i0 = (u32)(w2c_j0);
-    w2c_i0 = i32_load8_u(&instance->w2c_memory, (u64)(w2c_i0));
-    w2c_i1 = 255u;
-    w2c_i0 &= w2c_i1;
-    w2c_i1 = w2c_p1;
-    w2c_i2 = 255u;
-    w2c_i1 &= w2c_i2;
-    w2c_l7 = w2c_i1;
-    w2c_i0 = w2c_i0 == w2c_i1;
-    if (w2c_i0) {goto w2c_B1;}
-    w2c_j0 = w2c_l6;
-    w2c_j1 = 55ull;
-    w2c_j0 += w2c_j1;
-    w2c_i0 = (u32)(w2c_j0);
-    w2c_i0 = i32_load8_u(&instance->w2c_memory, (u64)(w2c_i0));
-    w2c_i1 = 255u;
-    w2c_i0 &= w2c_i1;
-    w2c_i1 = w2c_l7;
-    w2c_i0 = w2c_i0 == w2c_i1;
-    if (w2c_i0) {goto w2c_B1;}
-    w2c_j0 = w2c_l6;
-    w2c_j1 = 56ull;
-    w2c_j0 += w2c_j1;
-    w2c_i0 = (u32)(w2c_j0);
-    w2c_i0 = i32_load8_u(&instance->w2c_memory, (u64)(w2c_i0));
-    w2c_i1 = 255u;
-    w2c_i0 &= w2c_i1;
-    w2c_i1 = w2c_p1;
-    w2c_i2 = 255u;
-    w2c_i1 &= w2c_i2;
-    w2c_l7 = w2c_i1;
-    w2c_i0 = w2c_i0 == w2c_i1;
-    if (w2c_i0) {goto w2c_B1;}
-    w2c_j0 = w2c_l6;
-    w2c_j1 = 57ull;
-    w2c_j0 += w2c_j1;
-    w2c_i0 = (u32)(w2c_j0);
-    w2c_i0 = i32_load8_u(&instance->w2c_memory, (u64)(w2c_i0));
-    w2c_i1 = 255u;
-    w2c_i0 &= w2c_i1;
-    w2c_i1 = w2c_l7;
-    w2c_i0 = w2c_i0 == w2c_i1;
-    if (w2c_i0) {goto w2c_B1;}
-    w2c_j0 = w2c_l6;
-    w2c_j1 = 58ull;
-    w2c_j0 += w2c_j1;
-    w2c_i0 = (u32)(w2c_j0);
-    w2c_i0 = i32_load8_u(&instance->w2c_memory, (u64)(w2c_i0));
-    w2c_i1 = 255u;
-    w2c_i0 &= w2c_i1;
-    w2c_i1 = w2c_p1;
-    w2c_i2 = 255u;
-    w2c_i1 &= w2c_i2;
-    w2c_l7 = w2c_i1;
-    w2c_i0 = w2c_i0 == w2c_i1;
-    if (w2c_i0) {goto w2c_B1;}
-    w2c_j0 = w2c_l6;
-    w2c_j1 = 59ull;
-    w2c_j0 += w2c_j1;
-    w2c_i0 = (u32)(w2c_j0);
-    w2c_i0 = i32_load8_u(&instance->w2c_memory, (u64)(w2c_i0));
-    w2c_i1 = 255u;
-    w2c_i0 &= w2c_i1;
-    w2c_i1 = w2c_l7;
-    w2c_i0 = w2c_i0 == w2c_i1;
-    if (w2c_i0) {goto w2c_B1;}
-    w2c_j0 = w2c_l6;
-    w2c_j1 = 60ull;
-    w2c_j0 += w2c_j1;
-    w2c_i0 = (u32)(w2c_j0);
-    w2c_i0 = i32_load8_u(&instance->w2c_memory, (u64)(w2c_i0));
-    w2c_i1 = 255u;
-    w2c_i0 &= w2c_i1;
-    w2c_i1 = w2c_p1;
-    w2c_i2 = 255u;
-    w2c_i1 &= w2c_i2;
-    w2c_l7 = w2c_i1;
-    w2c_i0 = w2c_i0 == w2c_i1;
-    if (w2c_i0) {goto w2c_B1;}
-    w2c_j0 = w2c_l6;
-    w2c_j1 = 61ull;
-    w2c_j0 += w2c_j1;
-    w2c_i0 = (u32)(w2c_j0);
-    w2c_i0 = i32_load8_u(&instance->w2c_memory, (u64)(w2c_i0));
-    w2c_i1 = 255u;
-    w2c_i0 &= w2c_i1;
-    w2c_i1 = w2c_l7;
-    w2c_i0 = w2c_i0 == w2c_i1;
-    if (w2c_i0) {goto w2c_B1;}
-    w2c_j0 = w2c_l6;
-    w2c_j1 = 62ull;
-    w2c_j0 += w2c_j1;
-    w2c_i0 = (u32)(w2c_j0);
-    w2c_i0 = i32_load8_u(&instance->w2c_memory, (u64)(w2c_i0));
-    w2c_i1 = 255u;
-    w2c_i0 &= w2c_i1;
-    w2c_i1 = w2c_p1;
-    w2c_i2 = 255u;
-    w2c_i1 &= w2c_i2;
-    w2c_l7 = w2c_i1;
-    w2c_i0 = w2c_i0 == w2c_i1;
-    if (w2c_i0) {goto w2c_B1;}
-    w2c_j0 = w2c_l6;
-    w2c_j1 = 63ull;
-    w2c_j0 += w2c_j1;
-    w2c_i0 = (u32)(w2c_j0);
-    w2c_i0 = i32_load8_u(&instance->w2c_memory, (u64)(w2c_i0));
-    w2c_i1 = 255u;
-    w2c_i0 &= w2c_i1;
-    w2c_i1 = w2c_l7;
-    w2c_i0 = w2c_i0 == w2c_i1;
-    if (w2c_i0) {goto w2c_B1;}
-    w2c_j0 = w2c_p4;
-    w2c_j1 = 64ull;
-    w2c_j0 += w2c_j1;
-    w2c_p4 = w2c_j0;
-    w2c_j0 = w2c_l5;
-    w2c_j1 = 18446744073709551552ull;
-    w2c_j0 += w2c_j1;
-    w2c_l5 = w2c_j0;
-    w2c_j1 = 63ull;
-    w2c_i0 = w2c_j0 > w2c_j1;
-    if (w2c_i0) {goto w2c_L2;}
-  w2c_B1:;
-  w2c_j0 = w2c_l5;
-  w2c_j1 = 16ull;
-  w2c_i0 = w2c_j0 < w2c_j1;
-  if (w2c_i0) {goto w2c_B3;}
-  w2c_j0 = w2c_p3;
-  w2c_j1 = w2c_p4;
-  w2c_j0 -= w2c_j1;
-  w2c_l5 = w2c_j0;
-  w2c_L4: 
-    w2c_j0 = w2c_p2;
-    w2c_j1 = w2c_p4;
-    w2c_j0 += w2c_j1;
-    w2c_l6 = w2c_j0;
-    w2c_i0 = (u32)(w2c_j0);
-    w2c_i0 = i32_load8_u(&instance->w2c_memory, (u64)(w2c_i0));
-    w2c_i1 = w2c_p1;
-    w2c_i2 = 255u;
-    w2c_i1 &= w2c_i2;
-    w2c_l7 = w2c_i1;
-    w2c_i0 = w2c_i0 == w2c_i1;
-    if (w2c_i0) {goto w2c_B3;}
-    w2c_j0 = w2c_l6;
-    w2c_j1 = 1ull;
-    w2c_j0 += w2c_j1;
-    w2c_i0 = (u32)(w2c_j0);
-    w2c_i0 = i32_load8_u(&instance->w2c_memory, (u64)(w2c_i0));
-    w2c_i1 = 255u;
-    w2c_i0 &= w2c_i1;
-    w2c_i1 = w2c_l7;
-    w2c_i0 = w2c_i0 == w2c_i1;
-    if (w2c_i0) {goto w2c_B3;}
-    w2c_j0 = w2c_l6;
-    w2c_j1 = 2ull;
-    w2c_j0 += w2c_j1;
-    w2c_i0 = (u32)(w2c_j0);
-    w2c_i0 = i32_load8_u(&instance->w2c_memory, (u64)(w2c_i0));
-    w2c_i1 = 255u;
-    w2c_i0 &= w2c_i1;
-    w2c_i1 = w2c_p1;
-    w2c_i2 = 255u;
-    w2c_i1 &= w2c_i2;
-    w2c_l7 = w2c_i1;
-    w2c_i0 = w2c_i0 == w2c_i1;
-    if (w2c_i0) {goto w2c_B3;}
-    w2c_j0 = w2c_l6;
-    w2c_j1 = 3ull;
-    w2c_j0 += w2c_j1;
-    w2c_i0 = (u32)(w2c_j0);
-    w2c_i0 = i32_load8_u(&instance->w2c_memory, (u64)(w2c_i0));
-    w2c_i1 = 255u;
-    w2c_i0 &= w2c_i1;
-    w2c_i1 = w2c_l7;
-    w2c_i0 = w2c_i0 == w2c_i1;
-    if (w2c_i0) {goto w2c_B3;}
-    w2c_j0 = w2c_l6;
-    w2c_j1 = 4ull;
-    w2c_j0 += w2c_j1;
-    w2c_i0 = (u32)(w2c_j0);
-    w2c_i0 = i32_load8_u(&instance->w2c_memory, (u64)(w2c_i0));
-    w2c_i1 = 255u;
-    w2c_i0 &= w2c_i1;
-    w2c_i1 = w2c_p1;
-    w2c_i2 = 255u;
-    w2c_i1 &= w2c_i2;
-    w2c_l7 = w2c_i1;
-    w2c_i0 = w2c_i0 == w2c_i1;
-    if (w2c_i0) {goto w2c_B3;}
-    w2c_j0 = w2c_l6;
-    w2c_j1 = 5ull;
-    w2c_j0 += w2c_j1;
-    w2c_i0 = (u32)(w2c_j0);
-    w2c_i0 = i32_load8_u(&instance->w2c_memory, (u64)(w2c_i0));
-    w2c_i1 = 255u;
-    w2c_i0 &= w2c_i1;
-    w2c_i1 = w2c_l7;
-    w2c_i0 = w2c_i0 == w2c_i1;
-    if (w2c_i0) {goto w2c_B3;}
-    w2c_j0 = w2c_l6;
-    w2c_j1 = 6ull;
-    w2c_j0 += w2c_j1;
-    w2c_i0 = (u32)(w2c_j0);
-    w2c_i0 = i32_load8_u(&instance->w2c_memory, (u64)(w2c_i0));
-    w2c_i1 = 255u;
-    w2c_i0 &= w2c_i1;
-    w2c_i1 = w2c_p1;
-    w2c_i2 = 255u;
-    w2c_i1 &= w2c_i2;
-    w2c_l7 = w2c_i1;
-    w2c_i0 = w2c_i0 == w2c_i1;
-    if (w2c_i0) {goto w2c_B3;}
-    w2c_j0 = w2c_l6;
-    w2c_j1 = 7ull;
-    w2c_j0 += w2c_j1;
-    w2c_i0 = (u32)(w2c_j0);
-    w2c_i0 = i32_load8_u(&instance->w2c_memory, (u64)(w2c_i0));
-    w2c_i1 = 255u;
-    w2c_i0 &= w2c_i1;
-    w2c_i1 = w2c_l7;
-    w2c_i0 = w2c_i0 == w2c_i1;
-    if (w2c_i0) {goto w2c_B3;}
-    w2c_j0 = w2c_l6;
-    w2c_j1 = 8ull;
-    w2c_j0 += w2c_j1;
-    w2c_i0 = (u32)(w2c_j0);
-    w2c_i0 = i32_load8_u(&instance->w2c_memory, (u64)(w2c_i0));
-    w2c_i1 = 255u;
-    w2c_i0 &= w2c_i1;
-    w2c_i1 = w2c_p1;
-    w2c_i2 = 255u;
-    w2c_i1 &= w2c_i2;
-    w2c_l7 = w2c_i1;
-    w2c_i0 = w2c_i0 == w2c_i1;
-    if (w2c_i0) {goto w2c_B3;}
-    w2c_j0 = w2c_l6;
-    w2c_j1 = 9ull;
-    w2c_j0 += w2c_j1;
-    w2c_i0 = (u32)(w2c_j0);
-    w2c_i0 = i32_load8_u(&instance->w2c_memory, (u64)(w2c_i0));
-    w2c_i1 = 255u;
-    w2c_i0 &= w2c_i1;
-    w2c_i1 = w2c_l7;
-    w2c_i0 = w2c_i0 == w2c_i1;
-    if (w2c_i0) {goto w2c_B3;}
-    w2c_j0 = w2c_l6;
-    w2c_j1 = 10ull;
-    w2c_j0 += w2c_j1;
-    w2c_i0 = (u32)(w2c_j0);
-    w2c_i0 = i32_load8_u(&instance->w2c_memory, (u64)(w2c_i0));
-    w2c_i1 = 255u;
-    w2c_i0 &= w2c_i1;
-    w2c_i1 = w2c_p1;
-    w2c_i2 = 255u;
-    w2c_i1 &= w2c_i2;
-    w2c_l7 = w2c_i1;
-    w2c_i0 = w2c_i0 == w2c_i1;
-    if (w2c_i0) {goto w2c_B3;}
-    w2c_j0 = w2c_l6;
-    w2c_j1 = 11ull;
-    w2c_j0 += w2c_j1;
-    w2c_i0 = (u32)(w2c_j0);
-    w2c_i0 = i32_load8_u(&instance->w2c_memory, (u64)(w2c_i0));
-    w2c_i1 = 255u;
-    w2c_i0 &= w2c_i1;
-    w2c_i1 = w2c_l7;
-    w2c_i0 = w2c_i0 == w2c_i1;
-    if (w2c_i0) {goto w2c_B3;}
-    w2c_j0 = w2c_l6;
-    w2c_j1 = 12ull;
-    w2c_j0 += w2c_j1;
-    w2c_i0 = (u32)(w2c_j0);
-    w2c_i0 = i32_load8_u(&instance->w2c_memory, (u64)(w2c_i0));
-    w2c_i1 = 255u;
-    w2c_i0 &= w2c_i1;
-    w2c_i1 = w2c_p1;
-    w2c_i2 = 255u;
-    w2c_i1 &= w2c_i2;
-    w2c_l7 = w2c_i1;
-    w2c_i0 = w2c_i0 == w2c_i1;
-    if (w2c_i0) {goto w2c_B3;}
-    w2c_j0 = w2c_l6;
-    w2c_j1 = 13ull;
-    w2c_j0 += w2c_j1;
-    w2c_i0 = (u32)(w2c_j0);
-    w2c_i0 = i32_load8_u(&instance->w2c_memory, (u64)(w2c_i0));
-    w2c_i1 = 255u;
-    w2c_i0 &= w2c_i1;
-    w2c_i1 = w2c_l7;
-    w2c_i0 = w2c_i0 == w2c_i1;
-    if (w2c_i0) {goto w2c_B3;}
-    w2c_j0 = w2c_l6;
-    w2c_j1 = 14ull;
-    w2c_j0 += w2c_j1;
-    w2c_i0 = (u32)(w2c_j0);
-    w2c_i0 = i32_load8_u(&instance->w2c_memory, (u64)(w2c_i0));
-    w2c_i1 = 255u;
-    w2c_i0 &= w2c_i1;
-    w2c_i1 = w2c_p1;
-    w2c_i2 = 255u;
-    w2c_i1 &= w2c_i2;
-    w2c_l7 = w2c_i1;
-    w2c_i0 = w2c_i0 == w2c_i1;
-    if (w2c_i0) {goto w2c_B3;}
-    w2c_j0 = w2c_l6;
-    w2c_j1 = 15ull;
-    w2c_j0 += w2c_j1;
-    w2c_i0 = (u32)(w2c_j0);
-    w2c_i0 = i32_load8_u(&instance->w2c_memory, (u64)(w2c_i0));
-    w2c_i1 = 255u;
-    w2c_i0 &= w2c_i1;
-    w2c_i1 = w2c_l7;
-    w2c_i0 = w2c_i0 == w2c_i1;
-    if (w2c_i0) {goto w2c_B3;}
-    w2c_j0 = w2c_p4;
-    w2c_j1 = 16ull;
-    w2c_j0 += w2c_j1;
-    w2c_p4 = w2c_j0;
-    w2c_j0 = w2c_l5;
-    w2c_j1 = 18446744073709551600ull;
-    w2c_j0 += w2c_j1;
-    w2c_l5 = w2c_j0;
-    w2c_j1 = 15ull;
-    w2c_i0 = w2c_j0 > w2c_j1;
-    if (w2c_i0) {goto w2c_L4;}
-  w2c_B3:;
-  w2c_i0 = 0u;
-  w2c_l7 = w2c_i0;
-  w2c_j0 = w2c_p4;
-  w2c_j1 = w2c_p3;
-  w2c_i0 = w2c_j0 >= w2c_j1;
-  if (w2c_i0) {goto w2c_B6;}
-  w2c_L7: 
-    w2c_j0 = w2c_p2;
-    w2c_j1 = w2c_p4;
-    w2c_j0 += w2c_j1;
-    w2c_i0 = (u32)(w2c_j0);
-    w2c_i0 = i32_load8_u(&instance->w2c_memory, (u64)(w2c_i0));
-    w2c_i1 = w2c_p1;
-    w2c_i2 = 255u;
-    w2c_i1 &= w2c_i2;
-    w2c_i0 = w2c_i0 != w2c_i1;
-    if (w2c_i0) {goto w2c_B8;}
-    w2c_i0 = 1u;
-    w2c_l7 = w2c_i0;
-    goto w2c_B5;
-    w2c_B8:;
-    w2c_j0 = w2c_p3;
-    w2c_j1 = w2c_p4;
-    w2c_j2 = 1ull;
-    w2c_j1 += w2c_j2;
-    w2c_p4 = w2c_j1;
-    w2c_i0 = w2c_j0 != w2c_j1;
-    if (w2c_i0) {goto w2c_L7;}
-  w2c_B6:;
-  w2c_j0 = 0ull;
-  w2c_p4 = w2c_j0;
-  w2c_B5:;
-  w2c_j0 = w2c_p0;
-  w2c_i0 = (u32)(w2c_j0);
-  w2c_j1 = w2c_p4;
-  i64_store(&instance->w2c_memory, (u64)(w2c_i0) + 8, w2c_j1);
-  w2c_j0 = w2c_p0;
-  w2c_i0 = (u32)(w2c_j0);
-  w2c_i1 = w2c_l7;
-  i32_store8(&instance->w2c_memory, (u64)(w2c_i0), w2c_i1);
-  goto w2c_Bfunc;
-  w2c_B0:;
-  UNREACHABLE;
-  w2c_Bfunc:;
-}
-
-static void w2c_kit_text__addresses__read_octet(Machine * instance, u64 w2c_p0, u64 w2c_p1, u64 w2c_p2) {
-  u32 w2c_l3 = 0, w2c_l4 = 0, w2c_l5 = 0;
-  u64 w2c_l6 = 0, w2c_l7 = 0;
-  u32 w2c_i0, w2c_i1, w2c_i2;
-  u64 w2c_j0, w2c_j1, w2c_j2, w2c_j3;
-  w2c_j0 = instance->w2c___stack_pointer;
-  w2c_j1 = 16ull;
-  w2c_i0 = (u64)((s64)w2c_j0 < (s64)w2c_j1);
-  if (w2c_i0) {goto w2c_B0;}
-  w2c_j0 = w2c_p2;
-  w2c_j1 = 1ull;
-  w2c_i0 = w2c_j0 > w2c_j1;
-  if (w2c_i0) {goto w2c_B3;}
-  w2c_i0 = 0u;
-  w2c_l3 = w2c_i0;
-  w2c_i0 = 0u;
-  w2c_l4 = w2c_i0;
-  w2c_j0 = w2c_p2;
-  w2c_i0 = (u32)(w2c_j0);
-  switch (w2c_i0) {
-    case 0: goto w2c_B1;
-    case 1: goto w2c_B2;
-    default: goto w2c_B1;
-  }
-  w2c_B3:;
-  w2c_i0 = 0u;
-  w2c_l3 = w2c_i0;
-  w2c_i0 = 0u;
-  w2c_l4 = w2c_i0;
-  w2c_j0 = w2c_p1;
-  w2c_i0 = (u32)(w2c_j0);
-  w2c_i0 = i32_load8_u(&instance->w2c_memory, (u64)(w2c_i0));
-  w2c_i1 = 48u;
-  w2c_i0 = w2c_i0 == w2c_i1;
-  if (w2c_i0) {goto w2c_B1;}
-  w2c_B2:;
-  w2c_j0 = 0ull;
-  w2c_l6 = w2c_j0;
-  w2c_L5: 
-    w2c_i0 = 0u;
-    w2c_l3 = w2c_i0;
-    w2c_j0 = w2c_l6;
-    w2c_j1 = 1844674407370955161ull;
-    w2c_i0 = w2c_j0 <= w2c_j1;
-    if (w2c_i0) {goto w2c_B6;}
-    w2c_i0 = 0u;
-    w2c_l4 = w2c_i0;
-    goto w2c_B1;
-    w2c_B6:;
-    w2c_i0 = 0u;
-    w2c_l4 = w2c_i0;
-    w2c_j0 = w2c_p1;
-    w2c_i0 = (u32)(w2c_j0);
-    w2c_i0 = i32_load8_u(&instance->w2c_memory, (u64)(w2c_i0));
-    w2c_i1 = 4294967248u;
-    w2c_i0 += w2c_i1;
-    w2c_l5 = w2c_i0;
-    w2c_i1 = 255u;
-    w2c_i0 &= w2c_i1;
-    w2c_i1 = 9u;
-    w2c_i0 = w2c_i0 > w2c_i1;
-    if (w2c_i0) {goto w2c_B1;}
-    w2c_j0 = w2c_l6;
-    w2c_j1 = 10ull;
-    w2c_j0 *= w2c_j1;
-    w2c_l6 = w2c_j0;
-    w2c_i1 = w2c_l5;
-    w2c_j1 = (u64)(w2c_i1);
-    w2c_j2 = 255ull;
-    w2c_j1 &= w2c_j2;
-    w2c_l7 = w2c_j1;
-    w2c_j2 = 18446744073709551615ull;
-    w2c_j1 ^= w2c_j2;
-    w2c_i0 = w2c_j0 > w2c_j1;
-    if (w2c_i0) {goto w2c_B7;}
-    w2c_j0 = w2c_p1;
-    w2c_j1 = 1ull;
-    w2c_j0 += w2c_j1;
-    w2c_p1 = w2c_j0;
-    w2c_j0 = w2c_l6;
-    w2c_j1 = w2c_l7;
-    w2c_j0 += w2c_j1;
-    w2c_l6 = w2c_j0;
-    w2c_j0 = w2c_p2;
-    w2c_j1 = 18446744073709551615ull;
-    w2c_j0 += w2c_j1;
-    w2c_p2 = w2c_j0;
-    w2c_i0 = !(w2c_j0);
-    if (w2c_i0) {goto w2c_B4;}
-    goto w2c_L5;
-    w2c_B7:;
-  w2c_i0 = 0u;
-  w2c_l3 = w2c_i0;
-  w2c_i0 = 0u;
-  w2c_l4 = w2c_i0;
-  goto w2c_B1;
-  w2c_B4:;
-  w2c_j0 = w2c_l6;
-  w2c_j1 = 256ull;
-  w2c_j2 = w2c_l6;
-  w2c_j3 = 256ull;
-  w2c_i2 = w2c_j2 < w2c_j3;
-  w2c_l3 = w2c_i2;
-  w2c_j0 = w2c_i2 ? w2c_j0 : w2c_j1;
-  w2c_i0 = (u32)(w2c_j0);
-  w2c_i1 = 0u;
-  w2c_i2 = w2c_l3;
-  w2c_i0 = w2c_i2 ? w2c_i0 : w2c_i1;
-  w2c_l4 = w2c_i0;
-  w2c_B1:;
-  w2c_j0 = w2c_p0;
-  w2c_i0 = (u32)(w2c_j0);
-  w2c_i1 = w2c_l4;
-  i32_store8(&instance->w2c_memory, (u64)(w2c_i0) + 1, w2c_i1);
-  w2c_j0 = w2c_p0;
-  w2c_i0 = (u32)(w2c_j0);
-  w2c_i1 = w2c_l3;
-  i32_store8(&instance->w2c_memory, (u64)(w2c_i0), w2c_i1);
-  goto w2c_Bfunc;
-  w2c_B0:;
-  UNREACHABLE;
-  w2c_Bfunc:;
-}
-
-static u32 w2c_std_alloc__vec__Vec__move_to____8c6c02ecfde2865e_(Machine * instance, u64 w2c_p0, u64 w2c_p1) {
-  u32 w2c_l2 = 0, w2c_l3 = 0, w2c_l4 = 0;
-  u64 w2c_l5 = 0, w2c_l6 = 0, w2c_l7 = 0, w2c_l8 = 0, w2c_l9 = 0, w2c_l10 = 0, w2c_l11 = 0;
-  u32 w2c_i0, w2c_i1, w2c_i2, w2c_i4;
-  u64 w2c_j0, w2c_j1, w2c_j2, w2c_j3, w2c_j4, w2c_j5;
-  w2c_j0 = instance->w2c___stack_pointer;
-  w2c_j1 = 16ull;
-  w2c_i0 = (u64)((s64)w2c_j0 < (s64)w2c_j1);
-  if (w2c_i0) {goto w2c_B0;}
-  w2c_i0 = 0u;
-  w2c_l2 = w2c_i0;
-  w2c_j0 = w2c_p1;
-  w2c_j1 = 18446744073709551615ull;
-  w2c_i0 = (u64)((s64)w2c_j0 <= (s64)w2c_j1);
-  if (w2c_i0) {goto w2c_B1;}
-  w2c_j0 = w2c_p0;
-  w2c_j1 = 8ull;
-  w2c_j0 += w2c_j1;
-  w2c_i0 = (u32)(w2c_j0);
-  w2c_j0 = i64_load(&instance->w2c_memory, (u64)(w2c_i0));
-  w2c_l5 = w2c_j0;
-  w2c_j0 = w2c_p0;
-  w2c_j1 = 24ull;
-  w2c_j0 += w2c_j1;
-  w2c_i0 = (u32)(w2c_j0);
-  w2c_j0 = i64_load(&instance->w2c_memory, (u64)(w2c_i0));
-  w2c_l6 = w2c_j0;
-  w2c_i0 = (u32)(w2c_j0);
-  w2c_i0 = i32_load8_u(&instance->w2c_memory, (u64)(w2c_i0));
-  w2c_l3 = w2c_i0;
-  w2c_j0 = w2c_p0;
-  w2c_j1 = 16ull;
-  w2c_j0 += w2c_j1;
-  w2c_i0 = (u32)(w2c_j0);
-  w2c_j0 = i64_load(&instance->w2c_memory, (u64)(w2c_i0));
-  w2c_l7 = w2c_j0;
-  w2c_j0 = w2c_p0;
-  w2c_i0 = (u32)(w2c_j0);
-  w2c_j0 = i64_load(&instance->w2c_memory, (u64)(w2c_i0));
-  w2c_l8 = w2c_j0;
-  w2c_j0 = w2c_l6;
-  w2c_i0 = (u32)(w2c_j0);
-  w2c_j1 = 0ull;
-  i64_store(&instance->w2c_memory, (u64)(w2c_i0), w2c_j1);
-  w2c_j0 = w2c_l6;
-  w2c_j1 = 8ull;
-  w2c_j0 += w2c_j1;
-  w2c_l9 = w2c_j0;
-  w2c_i0 = (u32)(w2c_j0);
-  w2c_j0 = i64_load(&instance->w2c_memory, (u64)(w2c_i0));
-  w2c_l10 = w2c_j0;
-  w2c_j0 = w2c_l9;
-  w2c_i0 = (u32)(w2c_j0);
-  w2c_j1 = 0ull;
-  i64_store(&instance->w2c_memory, (u64)(w2c_i0), w2c_j1);
-  w2c_j0 = w2c_l6;
-  w2c_j1 = 16ull;
-  w2c_j0 += w2c_j1;
-  w2c_l11 = w2c_j0;
-  w2c_i0 = (u32)(w2c_j0);
-  w2c_j0 = i64_load(&instance->w2c_memory, (u64)(w2c_i0));
-  w2c_l9 = w2c_j0;
-  w2c_j0 = w2c_l11;
-  w2c_i0 = (u32)(w2c_j0);
-  w2c_j1 = 0ull;
-  i64_store(&instance->w2c_memory, (u64)(w2c_i0), w2c_j1);
-  w2c_j0 = w2c_l7;
-  w2c_i0 = !(w2c_j0);
-  if (w2c_i0) {goto w2c_B3;}
-  w2c_i0 = 1u;
-  w2c_l4 = w2c_i0;
-  w2c_i0 = w2c_l3;
-  w2c_i1 = 255u;
-  w2c_i0 &= w2c_i1;
-  w2c_i1 = 1u;
-  w2c_i0 = w2c_i0 == w2c_i1;
-  if (w2c_i0) {goto w2c_B4;}
-  w2c_j0 = 0ull;
-  w2c_l10 = w2c_j0;
-  goto w2c_B2;
-  w2c_B4:;
-  w2c_j0 = w2c_l9;
-  w2c_j1 = w2c_p1;
-  w2c_i0 = w2c_j0 >= w2c_j1;
-  if (w2c_i0) {goto w2c_B5;}
-  w2c_j0 = w2c_l6;
-  w2c_i0 = (u32)(w2c_j0);
-  w2c_j1 = 1ull;
-  i64_store(&instance->w2c_memory, (u64)(w2c_i0), w2c_j1);
-  w2c_j0 = w2c_l6;
-  w2c_j1 = 16ull;
-  w2c_j0 += w2c_j1;
-  w2c_i0 = (u32)(w2c_j0);
-  w2c_j1 = w2c_l9;
-  i64_store(&instance->w2c_memory, (u64)(w2c_i0), w2c_j1);
-  w2c_j0 = w2c_l6;
-  w2c_j1 = 8ull;
-  w2c_j0 += w2c_j1;
-  w2c_i0 = (u32)(w2c_j0);
-  w2c_j1 = w2c_l10;
-  i64_store(&instance->w2c_memory, (u64)(w2c_i0), w2c_j1);
-  w2c_j0 = 0ull;
-  w2c_l10 = w2c_j0;
-  goto w2c_B2;
-  w2c_B5:;
-  w2c_j0 = w2c_l6;
-  w2c_i0 = (u32)(w2c_j0);
-  w2c_j1 = 1ull;
-  i64_store(&instance->w2c_memory, (u64)(w2c_i0), w2c_j1);
-  w2c_j0 = w2c_l6;
-  w2c_j1 = 16ull;
-  w2c_j0 += w2c_j1;
-  w2c_i0 = (u32)(w2c_j0);
-  w2c_j1 = w2c_l9;
-  w2c_j2 = w2c_p1;
-  w2c_j3 = w2c_p1;
-  w2c_j4 = 9223372036854775792ull;
-  w2c_j3 &= w2c_j4;
-  w2c_j4 = 16ull;
-  w2c_j3 += w2c_j4;
-  w2c_j4 = w2c_p1;
-  w2c_j5 = 15ull;
-  w2c_j4 &= w2c_j5;
-  w2c_i4 = !(w2c_j4);
-  w2c_j2 = w2c_i4 ? w2c_j2 : w2c_j3;
-  w2c_l7 = w2c_j2;
-  w2c_j1 -= w2c_j2;
-  i64_store(&instance->w2c_memory, (u64)(w2c_i0), w2c_j1);
-  w2c_j0 = w2c_l6;
-  w2c_j1 = 8ull;
-  w2c_j0 += w2c_j1;
-  w2c_i0 = (u32)(w2c_j0);
-  w2c_j1 = w2c_l10;
-  w2c_j2 = w2c_l7;
-  w2c_j1 += w2c_j2;
-  i64_store(&instance->w2c_memory, (u64)(w2c_i0), w2c_j1);
-  w2c_i0 = 0u;
-  w2c_l4 = w2c_i0;
-  w2c_j0 = w2c_l10;
-  w2c_j1 = w2c_l8;
-  w2c_j0 -= w2c_j1;
-  w2c_j1 = w2c_l5;
-  w2c_i0 = w2c_j0 >= w2c_j1;
-  if (w2c_i0) {goto w2c_B6;}
-  w2c_j0 = w2c_l5;
-  w2c_j1 = 3ull;
-  w2c_j0 &= w2c_j1;
-  w2c_l11 = w2c_j0;
-  w2c_j0 = 0ull;
-  w2c_l6 = w2c_j0;
-  w2c_j0 = w2c_l5;
-  w2c_j1 = 4ull;
-  w2c_i0 = w2c_j0 < w2c_j1;
-  if (w2c_i0) {goto w2c_B7;}
-  w2c_j0 = w2c_l5;
-  w2c_j1 = 18446744073709551612ull;
-  w2c_j0 &= w2c_j1;
-  w2c_l5 = w2c_j0;
-  w2c_j0 = 0ull;
-  w2c_l6 = w2c_j0;
-  w2c_l6 += copied_ahead(&instance->w2c_memory, w2c_l10 + w2c_l6, w2c_l8 + w2c_l6, w2c_l5 - w2c_l6);
-  w2c_L8: 
-    w2c_j0 = w2c_l10;
-    w2c_j1 = w2c_l6;
-    w2c_j0 += w2c_j1;
-    w2c_l9 = w2c_j0;
-    w2c_i0 = (u32)(w2c_j0);
-    w2c_j1 = w2c_l8;
-    w2c_j2 = w2c_l6;
-    w2c_j1 += w2c_j2;
-    w2c_l7 = w2c_j1;
-    w2c_i1 = (u32)(w2c_j1);
-    w2c_i1 = i32_load8_u(&instance->w2c_memory, (u64)(w2c_i1));
-    i32_store8(&instance->w2c_memory, (u64)(w2c_i0), w2c_i1);
-    w2c_j0 = w2c_l9;
-    w2c_j1 = 1ull;
-    w2c_j0 += w2c_j1;
-    w2c_i0 = (u32)(w2c_j0);
-    w2c_j1 = w2c_l7;
-    w2c_j2 = 1ull;
-    w2c_j1 += w2c_j2;
-    w2c_i1 = (u32)(w2c_j1);
-    w2c_i1 = i32_load8_u(&instance->w2c_memory, (u64)(w2c_i1));
-    i32_store8(&instance->w2c_memory, (u64)(w2c_i0), w2c_i1);
-    w2c_j0 = w2c_l9;
-    w2c_j1 = 2ull;
-    w2c_j0 += w2c_j1;
-    w2c_i0 = (u32)(w2c_j0);
-    w2c_j1 = w2c_l7;
-    w2c_j2 = 2ull;
-    w2c_j1 += w2c_j2;
-    w2c_i1 = (u32)(w2c_j1);
-    w2c_i1 = i32_load8_u(&instance->w2c_memory, (u64)(w2c_i1));
-    i32_store8(&instance->w2c_memory, (u64)(w2c_i0), w2c_i1);
-    w2c_j0 = w2c_l9;
-    w2c_j1 = 3ull;
-    w2c_j0 += w2c_j1;
-    w2c_i0 = (u32)(w2c_j0);
-    w2c_j1 = w2c_l7;
-    w2c_j2 = 3ull;
-    w2c_j1 += w2c_j2;
-    w2c_i1 = (u32)(w2c_j1);
-    w2c_i1 = i32_load8_u(&instance->w2c_memory, (u64)(w2c_i1));
-    i32_store8(&instance->w2c_memory, (u64)(w2c_i0), w2c_i1);
-    w2c_j0 = w2c_l5;
-    w2c_j1 = w2c_l6;
-    w2c_j2 = 4ull;
-    w2c_j1 += w2c_j2;
-    w2c_l6 = w2c_j1;
-    w2c_i0 = w2c_j0 != w2c_j1;
-    if (w2c_i0) {goto w2c_L8;}
-  w2c_j0 = w2c_l11;
-  w2c_i0 = !(w2c_j0);
-  if (w2c_i0) {goto w2c_B2;}
-  w2c_B7:;
-  w2c_L9: 
-    w2c_j0 = w2c_l10;
-    w2c_j1 = w2c_l6;
-    w2c_j0 += w2c_j1;
-    w2c_i0 = (u32)(w2c_j0);
-    w2c_j1 = w2c_l8;
-    w2c_j2 = w2c_l6;
-    w2c_j1 += w2c_j2;
-    w2c_i1 = (u32)(w2c_j1);
-    w2c_i1 = i32_load8_u(&instance->w2c_memory, (u64)(w2c_i1));
-    i32_store8(&instance->w2c_memory, (u64)(w2c_i0), w2c_i1);
-    w2c_j0 = w2c_l6;
-    w2c_j1 = 1ull;
-    w2c_j0 += w2c_j1;
-    w2c_l6 = w2c_j0;
-    w2c_j0 = w2c_l11;
-    w2c_j1 = 18446744073709551615ull;
-    w2c_j0 += w2c_j1;
-    w2c_l11 = w2c_j0;
-    w2c_j1 = 0ull;
-    w2c_i0 = w2c_j0 != w2c_j1;
-    if (w2c_i0) {goto w2c_L9;}
-    goto w2c_B2;
-  UNREACHABLE;
-  w2c_B6:;
-  w2c_j0 = w2c_l5;
-  w2c_i0 = !(w2c_j0);
-  if (w2c_i0) {goto w2c_B2;}
-  w2c_j0 = w2c_l10;
-  w2c_i0 = (u32)(w2c_j0);
-  w2c_j1 = w2c_l8;
-  w2c_i1 = (u32)(w2c_j1);
-  w2c_j2 = w2c_l5;
-  w2c_i2 = (u32)(w2c_j2);
-  memory_copy(&instance->w2c_memory, &instance->w2c_memory, w2c_i0, w2c_i1, w2c_i2);
-  goto w2c_B2;
-  w2c_B3:;
-  w2c_i0 = 1u;
-  w2c_l4 = w2c_i0;
-  w2c_i0 = w2c_l3;
-  w2c_i1 = 255u;
-  w2c_i0 &= w2c_i1;
-  w2c_i1 = 1u;
-  w2c_i0 = w2c_i0 == w2c_i1;
-  if (w2c_i0) {goto w2c_B10;}
-  w2c_j0 = 0ull;
-  w2c_l10 = w2c_j0;
-  goto w2c_B2;
-  w2c_B10:;
-  w2c_j0 = w2c_l9;
-  w2c_j1 = w2c_p1;
-  w2c_i0 = w2c_j0 >= w2c_j1;
-  if (w2c_i0) {goto w2c_B11;}
-  w2c_j0 = w2c_l6;
-  w2c_i0 = (u32)(w2c_j0);
-  w2c_j1 = 1ull;
-  i64_store(&instance->w2c_memory, (u64)(w2c_i0), w2c_j1);
-  w2c_j0 = w2c_l6;
-  w2c_j1 = 16ull;
-  w2c_j0 += w2c_j1;
-  w2c_i0 = (u32)(w2c_j0);
-  w2c_j1 = w2c_l9;
-  i64_store(&instance->w2c_memory, (u64)(w2c_i0), w2c_j1);
-  w2c_j0 = w2c_l6;
-  w2c_j1 = 8ull;
-  w2c_j0 += w2c_j1;
-  w2c_i0 = (u32)(w2c_j0);
-  w2c_j1 = w2c_l10;
-  i64_store(&instance->w2c_memory, (u64)(w2c_i0), w2c_j1);
-  w2c_j0 = 0ull;
-  w2c_l10 = w2c_j0;
-  goto w2c_B2;
-  w2c_B11:;
-  w2c_j0 = w2c_l6;
-  w2c_i0 = (u32)(w2c_j0);
-  w2c_j1 = 1ull;
-  i64_store(&instance->w2c_memory, (u64)(w2c_i0), w2c_j1);
-  w2c_j0 = w2c_l6;
-  w2c_j1 = 16ull;
-  w2c_j0 += w2c_j1;
-  w2c_i0 = (u32)(w2c_j0);
-  w2c_j1 = w2c_l9;
-  w2c_j2 = w2c_p1;
-  w2c_j3 = w2c_p1;
-  w2c_j4 = 9223372036854775792ull;
-  w2c_j3 &= w2c_j4;
-  w2c_j4 = 16ull;
-  w2c_j3 += w2c_j4;
-  w2c_j4 = w2c_p1;
-  w2c_j5 = 15ull;
-  w2c_j4 &= w2c_j5;
-  w2c_i4 = !(w2c_j4);
-  w2c_j2 = w2c_i4 ? w2c_j2 : w2c_j3;
-  w2c_l7 = w2c_j2;
-  w2c_j1 -= w2c_j2;
-  i64_store(&instance->w2c_memory, (u64)(w2c_i0), w2c_j1);
-  w2c_j0 = w2c_l6;
-  w2c_j1 = 8ull;
-  w2c_j0 += w2c_j1;
-  w2c_i0 = (u32)(w2c_j0);
-  w2c_j1 = w2c_l10;
-  w2c_j2 = w2c_l7;
-  w2c_j1 += w2c_j2;
-  i64_store(&instance->w2c_memory, (u64)(w2c_i0), w2c_j1);
-  w2c_i0 = 0u;
-  w2c_l4 = w2c_i0;
-  w2c_B2:;
-  w2c_i0 = w2c_l4;
-  w2c_i1 = 255u;
-  w2c_i0 &= w2c_i1;
-  if (w2c_i0) {goto w2c_B1;}
-  w2c_j0 = w2c_p0;
-  w2c_i0 = (u32)(w2c_j0);
-  w2c_j1 = w2c_l10;
-  i64_store(&instance->w2c_memory, (u64)(w2c_i0), w2c_j1);
-  w2c_j0 = w2c_p0;
-  w2c_j1 = 16ull;
-  w2c_j0 += w2c_j1;
-  w2c_i0 = (u32)(w2c_j0);
-  w2c_j1 = w2c_p1;
-  i64_store(&instance->w2c_memory, (u64)(w2c_i0), w2c_j1);
-  w2c_i0 = 1u;
-  w2c_l2 = w2c_i0;
-  w2c_B1:;
-  w2c_i0 = w2c_l2;
-  goto w2c_Bfunc;
-  w2c_B0:;
-  UNREACHABLE;
-  w2c_Bfunc:;
-  return w2c_i0;
 }
 
 static u32 w2c_core__fmt__utf8__is_utf8(Machine * instance, u64 w2c_p0, u64 w2c_p1) {
@@ -25066,7 +25371,7 @@ static void w2c_kit_text__meaning__push_meaning(Machine * instance, u64 w2c_p0, 
     w2c_j2 = 1ull;
     w2c_j1 <<= (w2c_j2 & 63);
     w2c_i1 = (u32)(w2c_j1);
-    w2c_i1 = i32_load16_u(&instance->w2c_memory, (u64)(w2c_i1) + 1049910u);
+    w2c_i1 = i32_load16_u(&instance->w2c_memory, (u64)(w2c_i1) + 1049911u);
     i32_store16(&instance->w2c_memory, (u64)(w2c_i0), w2c_i1);
     w2c_j0 = w2c_l10;
     w2c_j1 = 18446744073709551614ull;
@@ -25083,7 +25388,7 @@ static void w2c_kit_text__meaning__push_meaning(Machine * instance, u64 w2c_p0, 
     w2c_j2 = 1ull;
     w2c_j1 <<= (w2c_j2 & 63);
     w2c_i1 = (u32)(w2c_j1);
-    w2c_i1 = i32_load16_u(&instance->w2c_memory, (u64)(w2c_i1) + 1049910u);
+    w2c_i1 = i32_load16_u(&instance->w2c_memory, (u64)(w2c_i1) + 1049911u);
     i32_store16(&instance->w2c_memory, (u64)(w2c_i0), w2c_i1);
     w2c_j0 = w2c_l6;
     w2c_j1 = 18446744073709551612ull;
@@ -25138,7 +25443,7 @@ static void w2c_kit_text__meaning__push_meaning(Machine * instance, u64 w2c_p0, 
   w2c_j2 = 1ull;
   w2c_j1 <<= (w2c_j2 & 63);
   w2c_i1 = (u32)(w2c_j1);
-  w2c_i1 = i32_load16_u(&instance->w2c_memory, (u64)(w2c_i1) + 1049910u);
+  w2c_i1 = i32_load16_u(&instance->w2c_memory, (u64)(w2c_i1) + 1049911u);
   i32_store16(&instance->w2c_memory, (u64)(w2c_i0), w2c_i1);
   goto w2c_B32;
   w2c_B33:;
@@ -25168,7 +25473,7 @@ static void w2c_kit_text__meaning__push_meaning(Machine * instance, u64 w2c_p0, 
   w2c_j2 = 1ull;
   w2c_j1 <<= (w2c_j2 & 63);
   w2c_i1 = (u32)(w2c_j1);
-  w2c_i1 = i32_load16_u(&instance->w2c_memory, (u64)(w2c_i1) + 1049910u);
+  w2c_i1 = i32_load16_u(&instance->w2c_memory, (u64)(w2c_i1) + 1049911u);
   i32_store16(&instance->w2c_memory, (u64)(w2c_i0), w2c_i1);
   w2c_j0 = w2c_l8;
   w2c_j1 = 999ull;
@@ -25203,7 +25508,7 @@ static void w2c_kit_text__meaning__push_meaning(Machine * instance, u64 w2c_p0, 
   w2c_j2 = 1ull;
   w2c_j1 <<= (w2c_j2 & 63);
   w2c_i1 = (u32)(w2c_j1);
-  w2c_i1 = i32_load16_u(&instance->w2c_memory, (u64)(w2c_i1) + 1049910u);
+  w2c_i1 = i32_load16_u(&instance->w2c_memory, (u64)(w2c_i1) + 1049911u);
   i32_store16(&instance->w2c_memory, (u64)(w2c_i0), w2c_i1);
   w2c_B32:;
   w2c_j0 = w2c_l11;
@@ -25226,13 +25531,13 @@ static void w2c_kit_text__meaning__push_meaning(Machine * instance, u64 w2c_p0, 
   w2c_i0 = (u32)(w2c_j0);
   w2c_j1 = 0ull;
   w2c_i1 = (u32)(w2c_j1);
-  w2c_i1 = i32_load8_u(&instance->w2c_memory, (u64)(w2c_i1) + 1049901u);
+  w2c_i1 = i32_load8_u(&instance->w2c_memory, (u64)(w2c_i1) + 1049902u);
   i32_store8(&instance->w2c_memory, (u64)(w2c_i0) + 4, w2c_i1);
   w2c_j0 = w2c_l8;
   w2c_i0 = (u32)(w2c_j0);
   w2c_j1 = 0ull;
   w2c_i1 = (u32)(w2c_j1);
-  w2c_i1 = i32_load(&instance->w2c_memory, (u64)(w2c_i1) + 1049897u);
+  w2c_i1 = i32_load(&instance->w2c_memory, (u64)(w2c_i1) + 1049898u);
   i32_store(&instance->w2c_memory, (u64)(w2c_i0), w2c_i1);
   w2c_i0 = w2c_l24;
   w2c_j0 = (u64)(w2c_i0);
@@ -25271,7 +25576,7 @@ static void w2c_kit_text__meaning__push_meaning(Machine * instance, u64 w2c_p0, 
     w2c_j2 = 1ull;
     w2c_j1 <<= (w2c_j2 & 63);
     w2c_i1 = (u32)(w2c_j1);
-    w2c_i1 = i32_load16_u(&instance->w2c_memory, (u64)(w2c_i1) + 1049910u);
+    w2c_i1 = i32_load16_u(&instance->w2c_memory, (u64)(w2c_i1) + 1049911u);
     i32_store16(&instance->w2c_memory, (u64)(w2c_i0), w2c_i1);
     w2c_j0 = w2c_l10;
     w2c_j1 = 2ull;
@@ -25288,7 +25593,7 @@ static void w2c_kit_text__meaning__push_meaning(Machine * instance, u64 w2c_p0, 
     w2c_j2 = 1ull;
     w2c_j1 <<= (w2c_j2 & 63);
     w2c_i1 = (u32)(w2c_j1);
-    w2c_i1 = i32_load16_u(&instance->w2c_memory, (u64)(w2c_i1) + 1049910u);
+    w2c_i1 = i32_load16_u(&instance->w2c_memory, (u64)(w2c_i1) + 1049911u);
     i32_store16(&instance->w2c_memory, (u64)(w2c_i0), w2c_i1);
     w2c_j0 = w2c_l6;
     w2c_j1 = 18446744073709551612ull;
@@ -25344,7 +25649,7 @@ static void w2c_kit_text__meaning__push_meaning(Machine * instance, u64 w2c_p0, 
   w2c_j2 = 1ull;
   w2c_j1 <<= (w2c_j2 & 63);
   w2c_i1 = (u32)(w2c_j1);
-  w2c_i1 = i32_load16_u(&instance->w2c_memory, (u64)(w2c_i1) + 1049910u);
+  w2c_i1 = i32_load16_u(&instance->w2c_memory, (u64)(w2c_i1) + 1049911u);
   i32_store16(&instance->w2c_memory, (u64)(w2c_i0), w2c_i1);
   goto w2c_B38;
   w2c_B39:;
@@ -25374,7 +25679,7 @@ static void w2c_kit_text__meaning__push_meaning(Machine * instance, u64 w2c_p0, 
   w2c_j2 = 1ull;
   w2c_j1 <<= (w2c_j2 & 63);
   w2c_i1 = (u32)(w2c_j1);
-  w2c_i1 = i32_load16_u(&instance->w2c_memory, (u64)(w2c_i1) + 1049910u);
+  w2c_i1 = i32_load16_u(&instance->w2c_memory, (u64)(w2c_i1) + 1049911u);
   i32_store16(&instance->w2c_memory, (u64)(w2c_i0), w2c_i1);
   w2c_j0 = w2c_l8;
   w2c_j1 = 999ull;
@@ -25409,7 +25714,7 @@ static void w2c_kit_text__meaning__push_meaning(Machine * instance, u64 w2c_p0, 
   w2c_j2 = 1ull;
   w2c_j1 <<= (w2c_j2 & 63);
   w2c_i1 = (u32)(w2c_j1);
-  w2c_i1 = i32_load16_u(&instance->w2c_memory, (u64)(w2c_i1) + 1049910u);
+  w2c_i1 = i32_load16_u(&instance->w2c_memory, (u64)(w2c_i1) + 1049911u);
   i32_store16(&instance->w2c_memory, (u64)(w2c_i0), w2c_i1);
   w2c_B38:;
   w2c_j0 = w2c_l6;
@@ -25427,13 +25732,13 @@ static void w2c_kit_text__meaning__push_meaning(Machine * instance, u64 w2c_p0, 
   w2c_i0 = (u32)(w2c_j0);
   w2c_j1 = 0ull;
   w2c_i1 = (u32)(w2c_j1);
-  w2c_i1 = i32_load8_u(&instance->w2c_memory, (u64)(w2c_i1) + 1049906u);
+  w2c_i1 = i32_load8_u(&instance->w2c_memory, (u64)(w2c_i1) + 1049907u);
   i32_store8(&instance->w2c_memory, (u64)(w2c_i0) + 4, w2c_i1);
   w2c_j0 = w2c_l8;
   w2c_i0 = (u32)(w2c_j0);
   w2c_j1 = 0ull;
   w2c_i1 = (u32)(w2c_j1);
-  w2c_i1 = i32_load(&instance->w2c_memory, (u64)(w2c_i1) + 1049902u);
+  w2c_i1 = i32_load(&instance->w2c_memory, (u64)(w2c_i1) + 1049903u);
   i32_store(&instance->w2c_memory, (u64)(w2c_i0), w2c_i1);
   w2c_j0 = w2c_l6;
   w2c_j1 = 10000ull;
@@ -25466,7 +25771,7 @@ static void w2c_kit_text__meaning__push_meaning(Machine * instance, u64 w2c_p0, 
   w2c_j2 = 1ull;
   w2c_j1 <<= (w2c_j2 & 63);
   w2c_i1 = (u32)(w2c_j1);
-  w2c_i1 = i32_load16_u(&instance->w2c_memory, (u64)(w2c_i1) + 1049910u);
+  w2c_i1 = i32_load16_u(&instance->w2c_memory, (u64)(w2c_i1) + 1049911u);
   i32_store16(&instance->w2c_memory, (u64)(w2c_i0), w2c_i1);
   w2c_j0 = w2c_l8;
   w2c_j1 = 18446744073709551614ull;
@@ -25483,7 +25788,7 @@ static void w2c_kit_text__meaning__push_meaning(Machine * instance, u64 w2c_p0, 
   w2c_j2 = 1ull;
   w2c_j1 <<= (w2c_j2 & 63);
   w2c_i1 = (u32)(w2c_j1);
-  w2c_i1 = i32_load16_u(&instance->w2c_memory, (u64)(w2c_i1) + 1049910u);
+  w2c_i1 = i32_load16_u(&instance->w2c_memory, (u64)(w2c_i1) + 1049911u);
   i32_store16(&instance->w2c_memory, (u64)(w2c_i0), w2c_i1);
   goto w2c_B45;
   w2c_B46:;
@@ -25524,7 +25829,7 @@ static void w2c_kit_text__meaning__push_meaning(Machine * instance, u64 w2c_p0, 
   w2c_j2 = 1ull;
   w2c_j1 <<= (w2c_j2 & 63);
   w2c_i1 = (u32)(w2c_j1);
-  w2c_i1 = i32_load16_u(&instance->w2c_memory, (u64)(w2c_i1) + 1049910u);
+  w2c_i1 = i32_load16_u(&instance->w2c_memory, (u64)(w2c_i1) + 1049911u);
   i32_store16(&instance->w2c_memory, (u64)(w2c_i0), w2c_i1);
   goto w2c_B42;
   w2c_B43:;
@@ -25546,7 +25851,7 @@ static void w2c_kit_text__meaning__push_meaning(Machine * instance, u64 w2c_p0, 
   w2c_j2 = 1ull;
   w2c_j1 <<= (w2c_j2 & 63);
   w2c_i1 = (u32)(w2c_j1);
-  w2c_i1 = i32_load16_u(&instance->w2c_memory, (u64)(w2c_i1) + 1049910u);
+  w2c_i1 = i32_load16_u(&instance->w2c_memory, (u64)(w2c_i1) + 1049911u);
   i32_store16(&instance->w2c_memory, (u64)(w2c_i0), w2c_i1);
   w2c_j0 = w2c_l6;
   w2c_j1 = 999ull;
@@ -25581,7 +25886,7 @@ static void w2c_kit_text__meaning__push_meaning(Machine * instance, u64 w2c_p0, 
   w2c_j2 = 1ull;
   w2c_j1 <<= (w2c_j2 & 63);
   w2c_i1 = (u32)(w2c_j1);
-  w2c_i1 = i32_load16_u(&instance->w2c_memory, (u64)(w2c_i1) + 1049910u);
+  w2c_i1 = i32_load16_u(&instance->w2c_memory, (u64)(w2c_i1) + 1049911u);
   i32_store16(&instance->w2c_memory, (u64)(w2c_i0), w2c_i1);
   w2c_B42:;
   w2c_j0 = w2c_l7;
@@ -25596,13 +25901,13 @@ static void w2c_kit_text__meaning__push_meaning(Machine * instance, u64 w2c_p0, 
   w2c_i0 = (u32)(w2c_j0);
   w2c_j1 = 0ull;
   w2c_i1 = (u32)(w2c_j1);
-  w2c_i1 = i32_load8_u(&instance->w2c_memory, (u64)(w2c_i1) + 1049909u);
+  w2c_i1 = i32_load8_u(&instance->w2c_memory, (u64)(w2c_i1) + 1049910u);
   i32_store8(&instance->w2c_memory, (u64)(w2c_i0) + 2, w2c_i1);
   w2c_j0 = w2c_l9;
   w2c_i0 = (u32)(w2c_j0);
   w2c_j1 = 0ull;
   w2c_i1 = (u32)(w2c_j1);
-  w2c_i1 = i32_load16_u(&instance->w2c_memory, (u64)(w2c_i1) + 1049907u);
+  w2c_i1 = i32_load16_u(&instance->w2c_memory, (u64)(w2c_i1) + 1049908u);
   i32_store16(&instance->w2c_memory, (u64)(w2c_i0), w2c_i1);
   w2c_i0 = w2c_l32;
   w2c_i1 = 8u;
@@ -25643,7 +25948,7 @@ static void w2c_kit_text__meaning__push_meaning(Machine * instance, u64 w2c_p0, 
   w2c_j2 = 1ull;
   w2c_j1 <<= (w2c_j2 & 63);
   w2c_i1 = (u32)(w2c_j1);
-  w2c_i1 = i32_load16_u(&instance->w2c_memory, (u64)(w2c_i1) + 1049910u);
+  w2c_i1 = i32_load16_u(&instance->w2c_memory, (u64)(w2c_i1) + 1049911u);
   i32_store16(&instance->w2c_memory, (u64)(w2c_i0), w2c_i1);
   w2c_j0 = w2c_l9;
   w2c_j1 = 18446744073709551614ull;
@@ -25660,7 +25965,7 @@ static void w2c_kit_text__meaning__push_meaning(Machine * instance, u64 w2c_p0, 
   w2c_j2 = 1ull;
   w2c_j1 <<= (w2c_j2 & 63);
   w2c_i1 = (u32)(w2c_j1);
-  w2c_i1 = i32_load16_u(&instance->w2c_memory, (u64)(w2c_i1) + 1049910u);
+  w2c_i1 = i32_load16_u(&instance->w2c_memory, (u64)(w2c_i1) + 1049911u);
   i32_store16(&instance->w2c_memory, (u64)(w2c_i0), w2c_i1);
   goto w2c_B51;
   w2c_B52:;
@@ -25702,7 +26007,7 @@ static void w2c_kit_text__meaning__push_meaning(Machine * instance, u64 w2c_p0, 
   w2c_j2 = 1ull;
   w2c_j1 <<= (w2c_j2 & 63);
   w2c_i1 = (u32)(w2c_j1);
-  w2c_i1 = i32_load16_u(&instance->w2c_memory, (u64)(w2c_i1) + 1049910u);
+  w2c_i1 = i32_load16_u(&instance->w2c_memory, (u64)(w2c_i1) + 1049911u);
   i32_store16(&instance->w2c_memory, (u64)(w2c_i0), w2c_i1);
   goto w2c_B48;
   w2c_B49:;
@@ -25724,7 +26029,7 @@ static void w2c_kit_text__meaning__push_meaning(Machine * instance, u64 w2c_p0, 
   w2c_j2 = 1ull;
   w2c_j1 <<= (w2c_j2 & 63);
   w2c_i1 = (u32)(w2c_j1);
-  w2c_i1 = i32_load16_u(&instance->w2c_memory, (u64)(w2c_i1) + 1049910u);
+  w2c_i1 = i32_load16_u(&instance->w2c_memory, (u64)(w2c_i1) + 1049911u);
   i32_store16(&instance->w2c_memory, (u64)(w2c_i0), w2c_i1);
   w2c_i0 = w2c_l24;
   w2c_i1 = 999u;
@@ -25759,7 +26064,7 @@ static void w2c_kit_text__meaning__push_meaning(Machine * instance, u64 w2c_p0, 
   w2c_j2 = 1ull;
   w2c_j1 <<= (w2c_j2 & 63);
   w2c_i1 = (u32)(w2c_j1);
-  w2c_i1 = i32_load16_u(&instance->w2c_memory, (u64)(w2c_i1) + 1049910u);
+  w2c_i1 = i32_load16_u(&instance->w2c_memory, (u64)(w2c_i1) + 1049911u);
   i32_store16(&instance->w2c_memory, (u64)(w2c_i0), w2c_i1);
   w2c_B48:;
   w2c_j0 = 128ull;
@@ -25975,13 +26280,13 @@ static void w2c_kit_text__meaning__push_meaning(Machine * instance, u64 w2c_p0, 
   w2c_i0 = (u32)(w2c_j0);
   w2c_j1 = 0ull;
   w2c_i1 = (u32)(w2c_j1);
-  w2c_i1 = i32_load(&instance->w2c_memory, (u64)(w2c_i1) + 1050113u);
+  w2c_i1 = i32_load(&instance->w2c_memory, (u64)(w2c_i1) + 1050114u);
   i32_store(&instance->w2c_memory, (u64)(w2c_i0) + 196, w2c_i1);
   w2c_j0 = w2c_l7;
   w2c_i0 = (u32)(w2c_j0);
   w2c_j1 = 0ull;
   w2c_i1 = (u32)(w2c_j1);
-  w2c_i1 = i32_load(&instance->w2c_memory, (u64)(w2c_i1) + 1050110u);
+  w2c_i1 = i32_load(&instance->w2c_memory, (u64)(w2c_i1) + 1050111u);
   i32_store(&instance->w2c_memory, (u64)(w2c_i0) + 193, w2c_i1);
   w2c_i0 = w2c_l24;
   w2c_i1 = 9u;
@@ -26007,11 +26312,11 @@ static void w2c_kit_text__meaning__push_meaning(Machine * instance, u64 w2c_p0, 
   w2c_j1 <<= (w2c_j2 & 63);
   w2c_l6 = w2c_j1;
   w2c_i1 = (u32)(w2c_j1);
-  w2c_i1 = i32_load8_u(&instance->w2c_memory, (u64)(w2c_i1) + 1049910u);
+  w2c_i1 = i32_load8_u(&instance->w2c_memory, (u64)(w2c_i1) + 1049911u);
   i32_store8(&instance->w2c_memory, (u64)(w2c_i0) + 191, w2c_i1);
   w2c_j0 = w2c_l6;
   w2c_i0 = (u32)(w2c_j0);
-  w2c_i0 = i32_load8_u(&instance->w2c_memory, (u64)(w2c_i0) + 1049911u);
+  w2c_i0 = i32_load8_u(&instance->w2c_memory, (u64)(w2c_i0) + 1049912u);
   w2c_l24 = w2c_i0;
   w2c_j0 = w2c_l7;
   w2c_j1 = 181ull;
@@ -26024,13 +26329,13 @@ static void w2c_kit_text__meaning__push_meaning(Machine * instance, u64 w2c_p0, 
   w2c_i0 = (u32)(w2c_j0);
   w2c_j1 = 0ull;
   w2c_i1 = (u32)(w2c_j1);
-  w2c_j1 = i64_load(&instance->w2c_memory, (u64)(w2c_i1) + 1050117u);
+  w2c_j1 = i64_load(&instance->w2c_memory, (u64)(w2c_i1) + 1050118u);
   i64_store(&instance->w2c_memory, (u64)(w2c_i0), w2c_j1);
   w2c_j0 = w2c_l9;
   w2c_i0 = (u32)(w2c_j0);
   w2c_j1 = 0ull;
   w2c_i1 = (u32)(w2c_j1);
-  w2c_i1 = i32_load16_u(&instance->w2c_memory, (u64)(w2c_i1) + 1050125u);
+  w2c_i1 = i32_load16_u(&instance->w2c_memory, (u64)(w2c_i1) + 1050126u);
   i32_store16(&instance->w2c_memory, (u64)(w2c_i0) + 8, w2c_i1);
   w2c_j0 = w2c_l7;
   w2c_i0 = (u32)(w2c_j0);
@@ -26096,7 +26401,7 @@ static void w2c_kit_text__meaning__push_meaning(Machine * instance, u64 w2c_p0, 
   w2c_i0 = (u32)(w2c_j0);
   w2c_j1 = w2c_l20;
   i64_store(&instance->w2c_memory, (u64)(w2c_i0), w2c_j1);
-  w2c_j0 = 1050127ull;
+  w2c_j0 = 1050128ull;
   w2c_l9 = w2c_j0;
   w2c_j0 = 3ull;
   w2c_l6 = w2c_j0;
@@ -26132,23 +26437,23 @@ static void w2c_kit_text__meaning__push_meaning(Machine * instance, u64 w2c_p0, 
     default: goto w2c_B65;
   }
   w2c_B72:;
-  w2c_j0 = 1050130ull;
+  w2c_j0 = 1050131ull;
   w2c_l9 = w2c_j0;
   goto w2c_B67;
   w2c_B71:;
-  w2c_j0 = 1050137ull;
+  w2c_j0 = 1050138ull;
   w2c_l9 = w2c_j0;
   goto w2c_B66;
   w2c_B70:;
-  w2c_j0 = 1050140ull;
+  w2c_j0 = 1050141ull;
   w2c_l9 = w2c_j0;
   goto w2c_B67;
   w2c_B69:;
-  w2c_j0 = 1050147ull;
+  w2c_j0 = 1050148ull;
   w2c_l9 = w2c_j0;
   goto w2c_B67;
   w2c_B68:;
-  w2c_j0 = 1050154ull;
+  w2c_j0 = 1050155ull;
   w2c_l9 = w2c_j0;
   w2c_B67:;
   w2c_j0 = 7ull;
@@ -26336,7 +26641,7 @@ static void w2c_kit_text__meaning__push_meaning(Machine * instance, u64 w2c_p0, 
   i64_store(&instance->w2c_memory, (u64)(w2c_i0) + 256, w2c_j1);
   w2c_j0 = w2c_l7;
   w2c_i0 = (u32)(w2c_j0);
-  w2c_j1 = 1050176ull;
+  w2c_j1 = 1050177ull;
   i64_store(&instance->w2c_memory, (u64)(w2c_i0) + 248, w2c_j1);
   w2c_j0 = w2c_l7;
   w2c_i0 = (u32)(w2c_j0);
@@ -26350,7 +26655,7 @@ static void w2c_kit_text__meaning__push_meaning(Machine * instance, u64 w2c_p0, 
   i64_store(&instance->w2c_memory, (u64)(w2c_i0) + 232, w2c_j1);
   w2c_j0 = w2c_l7;
   w2c_i0 = (u32)(w2c_j0);
-  w2c_j1 = 1050137ull;
+  w2c_j1 = 1050138ull;
   i64_store(&instance->w2c_memory, (u64)(w2c_i0) + 224, w2c_j1);
   w2c_j0 = w2c_l7;
   w2c_i0 = (u32)(w2c_j0);
@@ -26366,7 +26671,7 @@ static void w2c_kit_text__meaning__push_meaning(Machine * instance, u64 w2c_p0, 
   i64_store(&instance->w2c_memory, (u64)(w2c_i0) + 208, w2c_j1);
   w2c_j0 = w2c_l7;
   w2c_i0 = (u32)(w2c_j0);
-  w2c_j1 = 1050173ull;
+  w2c_j1 = 1050174ull;
   i64_store(&instance->w2c_memory, (u64)(w2c_i0) + 200, w2c_j1);
   w2c_j0 = w2c_l7;
   w2c_i0 = (u32)(w2c_j0);
@@ -26382,7 +26687,7 @@ static void w2c_kit_text__meaning__push_meaning(Machine * instance, u64 w2c_p0, 
   i64_store(&instance->w2c_memory, (u64)(w2c_i0) + 184, w2c_j1);
   w2c_j0 = w2c_l7;
   w2c_i0 = (u32)(w2c_j0);
-  w2c_j1 = 1050170ull;
+  w2c_j1 = 1050171ull;
   i64_store(&instance->w2c_memory, (u64)(w2c_i0) + 176, w2c_j1);
   w2c_j0 = w2c_l7;
   w2c_i0 = (u32)(w2c_j0);
@@ -26398,7 +26703,7 @@ static void w2c_kit_text__meaning__push_meaning(Machine * instance, u64 w2c_p0, 
   i64_store(&instance->w2c_memory, (u64)(w2c_i0) + 160, w2c_j1);
   w2c_j0 = w2c_l7;
   w2c_i0 = (u32)(w2c_j0);
-  w2c_j1 = 1050127ull;
+  w2c_j1 = 1050128ull;
   i64_store(&instance->w2c_memory, (u64)(w2c_i0) + 152, w2c_j1);
   w2c_j0 = w2c_l7;
   w2c_i0 = (u32)(w2c_j0);
@@ -26414,7 +26719,7 @@ static void w2c_kit_text__meaning__push_meaning(Machine * instance, u64 w2c_p0, 
   i64_store(&instance->w2c_memory, (u64)(w2c_i0) + 136, w2c_j1);
   w2c_j0 = w2c_l7;
   w2c_i0 = (u32)(w2c_j0);
-  w2c_j1 = 1050167ull;
+  w2c_j1 = 1050168ull;
   i64_store(&instance->w2c_memory, (u64)(w2c_i0) + 128, w2c_j1);
   w2c_j0 = w2c_l7;
   w2c_i0 = (u32)(w2c_j0);
@@ -26430,7 +26735,7 @@ static void w2c_kit_text__meaning__push_meaning(Machine * instance, u64 w2c_p0, 
   i64_store(&instance->w2c_memory, (u64)(w2c_i0) + 112, w2c_j1);
   w2c_j0 = w2c_l7;
   w2c_i0 = (u32)(w2c_j0);
-  w2c_j1 = 1050164ull;
+  w2c_j1 = 1050165ull;
   i64_store(&instance->w2c_memory, (u64)(w2c_i0) + 104, w2c_j1);
   w2c_j0 = w2c_l7;
   w2c_i0 = (u32)(w2c_j0);
@@ -26446,7 +26751,7 @@ static void w2c_kit_text__meaning__push_meaning(Machine * instance, u64 w2c_p0, 
   i64_store(&instance->w2c_memory, (u64)(w2c_i0) + 88, w2c_j1);
   w2c_j0 = w2c_l7;
   w2c_i0 = (u32)(w2c_j0);
-  w2c_j1 = 1050161ull;
+  w2c_j1 = 1050162ull;
   i64_store(&instance->w2c_memory, (u64)(w2c_i0) + 80, w2c_j1);
   w2c_j0 = w2c_l7;
   w2c_i0 = (u32)(w2c_j0);
@@ -26585,7 +26890,7 @@ static void w2c_kit_text__meaning__push_meaning(Machine * instance, u64 w2c_p0, 
     goto w2c_B80;
     w2c_B81:;
     w2c_j0 = w2c_l7;
-    w2c_j1 = 1050179ull;
+    w2c_j1 = 1050180ull;
     w2c_j2 = 1ull;
     w2c_i0 = w2c_core__fmt__formatter__Formatter__write_indented____c443fc42141e8c95_(instance, w2c_j0, w2c_j1, w2c_j2);
     w2c_i1 = 255u;
@@ -27086,7 +27391,7 @@ static void w2c_kit_text__meaning__push_meaning(Machine * instance, u64 w2c_p0, 
   w2c_j2 = 1ull;
   w2c_j1 <<= (w2c_j2 & 63);
   w2c_i1 = (u32)(w2c_j1);
-  w2c_i1 = i32_load16_u(&instance->w2c_memory, (u64)(w2c_i1) + 1049910u);
+  w2c_i1 = i32_load16_u(&instance->w2c_memory, (u64)(w2c_i1) + 1049911u);
   i32_store16(&instance->w2c_memory, (u64)(w2c_i0) + 196, w2c_i1);
   w2c_j0 = w2c_l7;
   w2c_i0 = (u32)(w2c_j0);
@@ -27101,7 +27406,7 @@ static void w2c_kit_text__meaning__push_meaning(Machine * instance, u64 w2c_p0, 
   w2c_j2 = 1ull;
   w2c_j1 <<= (w2c_j2 & 63);
   w2c_i1 = (u32)(w2c_j1);
-  w2c_i1 = i32_load16_u(&instance->w2c_memory, (u64)(w2c_i1) + 1049910u);
+  w2c_i1 = i32_load16_u(&instance->w2c_memory, (u64)(w2c_i1) + 1049911u);
   i32_store16(&instance->w2c_memory, (u64)(w2c_i0) + 198, w2c_i1);
   w2c_j0 = 123ull;
   w2c_l6 = w2c_j0;
@@ -27139,7 +27444,7 @@ static void w2c_kit_text__meaning__push_meaning(Machine * instance, u64 w2c_p0, 
   w2c_j2 = 1ull;
   w2c_j1 <<= (w2c_j2 & 63);
   w2c_i1 = (u32)(w2c_j1);
-  w2c_i1 = i32_load16_u(&instance->w2c_memory, (u64)(w2c_i1) + 1049910u);
+  w2c_i1 = i32_load16_u(&instance->w2c_memory, (u64)(w2c_i1) + 1049911u);
   i32_store16(&instance->w2c_memory, (u64)(w2c_i0) + 198, w2c_i1);
   w2c_j0 = 126ull;
   w2c_l6 = w2c_j0;
@@ -27164,7 +27469,7 @@ static void w2c_kit_text__meaning__push_meaning(Machine * instance, u64 w2c_p0, 
   w2c_j2 = 1ull;
   w2c_j1 <<= (w2c_j2 & 63);
   w2c_i1 = (u32)(w2c_j1);
-  w2c_i1 = i32_load16_u(&instance->w2c_memory, (u64)(w2c_i1) + 1049910u);
+  w2c_i1 = i32_load16_u(&instance->w2c_memory, (u64)(w2c_i1) + 1049911u);
   i32_store16(&instance->w2c_memory, (u64)(w2c_i0) + 198, w2c_i1);
   w2c_i0 = w2c_l26;
   w2c_i1 = 999u;
@@ -27187,7 +27492,7 @@ static void w2c_kit_text__meaning__push_meaning(Machine * instance, u64 w2c_p0, 
   w2c_j2 = 1ull;
   w2c_j1 <<= (w2c_j2 & 63);
   w2c_i1 = (u32)(w2c_j1);
-  w2c_i1 = i32_load16_u(&instance->w2c_memory, (u64)(w2c_i1) + 1049910u);
+  w2c_i1 = i32_load16_u(&instance->w2c_memory, (u64)(w2c_i1) + 1049911u);
   i32_store16(&instance->w2c_memory, (u64)(w2c_i0) + 196, w2c_i1);
   w2c_j0 = 124ull;
   w2c_l6 = w2c_j0;
@@ -27238,7 +27543,7 @@ static void w2c_kit_text__meaning__push_meaning(Machine * instance, u64 w2c_p0, 
   w2c_j2 = 1ull;
   w2c_j1 <<= (w2c_j2 & 63);
   w2c_i1 = (u32)(w2c_j1);
-  w2c_i1 = i32_load16_u(&instance->w2c_memory, (u64)(w2c_i1) + 1049910u);
+  w2c_i1 = i32_load16_u(&instance->w2c_memory, (u64)(w2c_i1) + 1049911u);
   i32_store16(&instance->w2c_memory, (u64)(w2c_i0), w2c_i1);
   w2c_j0 = w2c_l8;
   w2c_j1 = 18446744073709551614ull;
@@ -27255,7 +27560,7 @@ static void w2c_kit_text__meaning__push_meaning(Machine * instance, u64 w2c_p0, 
   w2c_j2 = 1ull;
   w2c_j1 <<= (w2c_j2 & 63);
   w2c_i1 = (u32)(w2c_j1);
-  w2c_i1 = i32_load16_u(&instance->w2c_memory, (u64)(w2c_i1) + 1049910u);
+  w2c_i1 = i32_load16_u(&instance->w2c_memory, (u64)(w2c_i1) + 1049911u);
   i32_store16(&instance->w2c_memory, (u64)(w2c_i0), w2c_i1);
   goto w2c_B101;
   w2c_B102:;
@@ -27299,7 +27604,7 @@ static void w2c_kit_text__meaning__push_meaning(Machine * instance, u64 w2c_p0, 
   w2c_j2 = 1ull;
   w2c_j1 <<= (w2c_j2 & 63);
   w2c_i1 = (u32)(w2c_j1);
-  w2c_i1 = i32_load16_u(&instance->w2c_memory, (u64)(w2c_i1) + 1049910u);
+  w2c_i1 = i32_load16_u(&instance->w2c_memory, (u64)(w2c_i1) + 1049911u);
   i32_store16(&instance->w2c_memory, (u64)(w2c_i0), w2c_i1);
   goto w2c_B98;
   w2c_B99:;
@@ -27324,7 +27629,7 @@ static void w2c_kit_text__meaning__push_meaning(Machine * instance, u64 w2c_p0, 
   w2c_j2 = 1ull;
   w2c_j1 <<= (w2c_j2 & 63);
   w2c_i1 = (u32)(w2c_j1);
-  w2c_i1 = i32_load16_u(&instance->w2c_memory, (u64)(w2c_i1) + 1049910u);
+  w2c_i1 = i32_load16_u(&instance->w2c_memory, (u64)(w2c_i1) + 1049911u);
   i32_store16(&instance->w2c_memory, (u64)(w2c_i0), w2c_i1);
   w2c_i0 = w2c_l25;
   w2c_i1 = 999u;
@@ -27359,7 +27664,7 @@ static void w2c_kit_text__meaning__push_meaning(Machine * instance, u64 w2c_p0, 
   w2c_j2 = 1ull;
   w2c_j1 <<= (w2c_j2 & 63);
   w2c_i1 = (u32)(w2c_j1);
-  w2c_i1 = i32_load16_u(&instance->w2c_memory, (u64)(w2c_i1) + 1049910u);
+  w2c_i1 = i32_load16_u(&instance->w2c_memory, (u64)(w2c_i1) + 1049911u);
   i32_store16(&instance->w2c_memory, (u64)(w2c_i0), w2c_i1);
   w2c_B98:;
   w2c_j0 = w2c_l7;
@@ -27486,7 +27791,7 @@ static void w2c_kit_text__meaning__push_meaning(Machine * instance, u64 w2c_p0, 
   w2c_j1 = w2c_l10;
   w2c_j0 += w2c_j1;
   w2c_l10 = w2c_j0;
-  w2c_j1 = 1050188ull;
+  w2c_j1 = 1050189ull;
   w2c_j0 -= w2c_j1;
   w2c_j1 = 8ull;
   w2c_i0 = w2c_j0 > w2c_j1;
@@ -27505,13 +27810,13 @@ static void w2c_kit_text__meaning__push_meaning(Machine * instance, u64 w2c_p0, 
   w2c_i0 = (u32)(w2c_j0);
   w2c_j1 = 0ull;
   w2c_i1 = (u32)(w2c_j1);
-  w2c_i1 = i32_load8_u(&instance->w2c_memory, (u64)(w2c_i1) + 1050196u);
+  w2c_i1 = i32_load8_u(&instance->w2c_memory, (u64)(w2c_i1) + 1050197u);
   i32_store8(&instance->w2c_memory, (u64)(w2c_i0) + 8, w2c_i1);
   w2c_j0 = w2c_l10;
   w2c_i0 = (u32)(w2c_j0);
   w2c_j1 = 0ull;
   w2c_i1 = (u32)(w2c_j1);
-  w2c_j1 = i64_load(&instance->w2c_memory, (u64)(w2c_i1) + 1050188u);
+  w2c_j1 = i64_load(&instance->w2c_memory, (u64)(w2c_i1) + 1050189u);
   i64_store(&instance->w2c_memory, (u64)(w2c_i0), w2c_j1);
   w2c_B107:;
   w2c_j0 = w2c_p1;
@@ -27872,13 +28177,13 @@ static void w2c_kit_text__meaning__push_meaning(Machine * instance, u64 w2c_p0, 
   w2c_i0 = (u32)(w2c_j0);
   w2c_j1 = 0ull;
   w2c_i1 = (u32)(w2c_j1);
-  w2c_i1 = i32_load16_u(&instance->w2c_memory, (u64)(w2c_i1) + 1050238u);
+  w2c_i1 = i32_load16_u(&instance->w2c_memory, (u64)(w2c_i1) + 1050240u);
   i32_store16(&instance->w2c_memory, (u64)(w2c_i0) + 198, w2c_i1);
   w2c_j0 = w2c_l7;
   w2c_i0 = (u32)(w2c_j0);
   w2c_j1 = 0ull;
   w2c_i1 = (u32)(w2c_j1);
-  w2c_i1 = i32_load(&instance->w2c_memory, (u64)(w2c_i1) + 1050234u);
+  w2c_i1 = i32_load(&instance->w2c_memory, (u64)(w2c_i1) + 1050236u);
   i32_store(&instance->w2c_memory, (u64)(w2c_i0) + 194, w2c_i1);
   w2c_j0 = w2c_l7;
   w2c_j1 = 188ull;
@@ -27950,13 +28255,13 @@ static void w2c_kit_text__meaning__push_meaning(Machine * instance, u64 w2c_p0, 
   w2c_i0 = (u32)(w2c_j0);
   w2c_j1 = 0ull;
   w2c_i1 = (u32)(w2c_j1);
-  w2c_i1 = i32_load16_u(&instance->w2c_memory, (u64)(w2c_i1) + 1050238u);
+  w2c_i1 = i32_load16_u(&instance->w2c_memory, (u64)(w2c_i1) + 1050240u);
   i32_store16(&instance->w2c_memory, (u64)(w2c_i0) + 198, w2c_i1);
   w2c_j0 = w2c_l7;
   w2c_i0 = (u32)(w2c_j0);
   w2c_j1 = 0ull;
   w2c_i1 = (u32)(w2c_j1);
-  w2c_i1 = i32_load(&instance->w2c_memory, (u64)(w2c_i1) + 1050234u);
+  w2c_i1 = i32_load(&instance->w2c_memory, (u64)(w2c_i1) + 1050236u);
   i32_store(&instance->w2c_memory, (u64)(w2c_i0) + 194, w2c_i1);
   w2c_j0 = w2c_l7;
   w2c_j1 = 188ull;
@@ -27976,13 +28281,13 @@ static void w2c_kit_text__meaning__push_meaning(Machine * instance, u64 w2c_p0, 
   w2c_i0 = (u32)(w2c_j0);
   w2c_j1 = 0ull;
   w2c_i1 = (u32)(w2c_j1);
-  w2c_i1 = i32_load16_u(&instance->w2c_memory, (u64)(w2c_i1) + 1050238u);
+  w2c_i1 = i32_load16_u(&instance->w2c_memory, (u64)(w2c_i1) + 1050240u);
   i32_store16(&instance->w2c_memory, (u64)(w2c_i0) + 198, w2c_i1);
   w2c_j0 = w2c_l7;
   w2c_i0 = (u32)(w2c_j0);
   w2c_j1 = 0ull;
   w2c_i1 = (u32)(w2c_j1);
-  w2c_i1 = i32_load(&instance->w2c_memory, (u64)(w2c_i1) + 1050234u);
+  w2c_i1 = i32_load(&instance->w2c_memory, (u64)(w2c_i1) + 1050236u);
   i32_store(&instance->w2c_memory, (u64)(w2c_i0) + 194, w2c_i1);
   w2c_j0 = w2c_l12;
   w2c_i0 = (u32)(w2c_j0);
@@ -28024,7 +28329,7 @@ static void w2c_kit_text__meaning__push_meaning(Machine * instance, u64 w2c_p0, 
   w2c_j2 = 254ull;
   w2c_j1 &= w2c_j2;
   w2c_i1 = (u32)(w2c_j1);
-  w2c_i1 = i32_load16_u(&instance->w2c_memory, (u64)(w2c_i1) + 1049910u);
+  w2c_i1 = i32_load16_u(&instance->w2c_memory, (u64)(w2c_i1) + 1049911u);
   i32_store16(&instance->w2c_memory, (u64)(w2c_i0) + 192, w2c_i1);
   w2c_j0 = 13ull;
   w2c_l6 = w2c_j0;
@@ -28052,7 +28357,7 @@ static void w2c_kit_text__meaning__push_meaning(Machine * instance, u64 w2c_p0, 
   w2c_j2 = 1ull;
   w2c_j1 <<= (w2c_j2 & 63);
   w2c_i1 = (u32)(w2c_j1);
-  w2c_i1 = i32_load16_u(&instance->w2c_memory, (u64)(w2c_i1) + 1049910u);
+  w2c_i1 = i32_load16_u(&instance->w2c_memory, (u64)(w2c_i1) + 1049911u);
   i32_store16(&instance->w2c_memory, (u64)(w2c_i0) + 192, w2c_i1);
   w2c_j0 = w2c_l7;
   w2c_j1 = 186ull;
@@ -28065,13 +28370,13 @@ static void w2c_kit_text__meaning__push_meaning(Machine * instance, u64 w2c_p0, 
   w2c_i0 = (u32)(w2c_j0);
   w2c_j1 = 0ull;
   w2c_i1 = (u32)(w2c_j1);
-  w2c_i1 = i32_load8_u(&instance->w2c_memory, (u64)(w2c_i1) + 1050244u);
+  w2c_i1 = i32_load8_u(&instance->w2c_memory, (u64)(w2c_i1) + 1050246u);
   i32_store8(&instance->w2c_memory, (u64)(w2c_i0) + 4, w2c_i1);
   w2c_j0 = w2c_l9;
   w2c_i0 = (u32)(w2c_j0);
   w2c_j1 = 0ull;
   w2c_i1 = (u32)(w2c_j1);
-  w2c_i1 = i32_load(&instance->w2c_memory, (u64)(w2c_i1) + 1050240u);
+  w2c_i1 = i32_load(&instance->w2c_memory, (u64)(w2c_i1) + 1050242u);
   i32_store(&instance->w2c_memory, (u64)(w2c_i0), w2c_i1);
   w2c_j0 = w2c_l6;
   w2c_j1 = w2c_p1;
@@ -28188,7 +28493,7 @@ static void w2c_kit_text__meaning__push_meaning(Machine * instance, u64 w2c_p0, 
   i64_store(&instance->w2c_memory, (u64)(w2c_i0) + 80, w2c_j1);
   w2c_j0 = w2c_l7;
   w2c_i0 = (u32)(w2c_j0);
-  w2c_j1 = 1050245ull;
+  w2c_j1 = 1050247ull;
   i64_store(&instance->w2c_memory, (u64)(w2c_i0) + 72, w2c_j1);
   w2c_j0 = w2c_l7;
   w2c_i0 = (u32)(w2c_j0);
@@ -28307,7 +28612,7 @@ static void w2c_kit_text__meaning__push_meaning(Machine * instance, u64 w2c_p0, 
   w2c_j1 = w2c_p5;
   w2c_j0 += w2c_j1;
   w2c_p5 = w2c_j0;
-  w2c_j1 = 1050255ull;
+  w2c_j1 = 1050257ull;
   w2c_j0 -= w2c_j1;
   w2c_j1 = 7ull;
   w2c_i0 = w2c_j0 > w2c_j1;
@@ -28377,7 +28682,7 @@ static void w2c_kit_text__meaning__push_meaning(Machine * instance, u64 w2c_p0, 
   w2c_j1 = w2c_p5;
   w2c_j0 += w2c_j1;
   w2c_p5 = w2c_j0;
-  w2c_j1 = 1050263ull;
+  w2c_j1 = 1050265ull;
   w2c_j0 -= w2c_j1;
   w2c_j1 = 6ull;
   w2c_i0 = w2c_j0 > w2c_j1;
@@ -28400,13 +28705,13 @@ static void w2c_kit_text__meaning__push_meaning(Machine * instance, u64 w2c_p0, 
   w2c_i0 = (u32)(w2c_j0);
   w2c_j1 = 0ull;
   w2c_i1 = (u32)(w2c_j1);
-  w2c_i1 = i32_load(&instance->w2c_memory, (u64)(w2c_i1) + 1050266u);
+  w2c_i1 = i32_load(&instance->w2c_memory, (u64)(w2c_i1) + 1050268u);
   i32_store(&instance->w2c_memory, (u64)(w2c_i0) + 3, w2c_i1);
   w2c_j0 = w2c_p5;
   w2c_i0 = (u32)(w2c_j0);
   w2c_j1 = 0ull;
   w2c_i1 = (u32)(w2c_j1);
-  w2c_i1 = i32_load(&instance->w2c_memory, (u64)(w2c_i1) + 1050263u);
+  w2c_i1 = i32_load(&instance->w2c_memory, (u64)(w2c_i1) + 1050265u);
   i32_store(&instance->w2c_memory, (u64)(w2c_i0), w2c_i1);
   w2c_B138:;
   w2c_j0 = w2c_p1;
@@ -28463,7 +28768,7 @@ static void w2c_kit_text__meaning__push_meaning(Machine * instance, u64 w2c_p0, 
   w2c_j1 = w2c_p5;
   w2c_j0 += w2c_j1;
   w2c_p5 = w2c_j0;
-  w2c_j1 = 1050270ull;
+  w2c_j1 = 1050272ull;
   w2c_j0 -= w2c_j1;
   w2c_j1 = 10ull;
   w2c_i0 = w2c_j0 > w2c_j1;
@@ -28486,13 +28791,13 @@ static void w2c_kit_text__meaning__push_meaning(Machine * instance, u64 w2c_p0, 
   w2c_i0 = (u32)(w2c_j0);
   w2c_j1 = 0ull;
   w2c_i1 = (u32)(w2c_j1);
-  w2c_i1 = i32_load(&instance->w2c_memory, (u64)(w2c_i1) + 1050277u);
+  w2c_i1 = i32_load(&instance->w2c_memory, (u64)(w2c_i1) + 1050279u);
   i32_store(&instance->w2c_memory, (u64)(w2c_i0) + 7, w2c_i1);
   w2c_j0 = w2c_p5;
   w2c_i0 = (u32)(w2c_j0);
   w2c_j1 = 0ull;
   w2c_i1 = (u32)(w2c_j1);
-  w2c_j1 = i64_load(&instance->w2c_memory, (u64)(w2c_i1) + 1050270u);
+  w2c_j1 = i64_load(&instance->w2c_memory, (u64)(w2c_i1) + 1050272u);
   i64_store(&instance->w2c_memory, (u64)(w2c_i0), w2c_j1);
   w2c_B141:;
   w2c_j0 = w2c_p1;
@@ -28549,7 +28854,7 @@ static void w2c_kit_text__meaning__push_meaning(Machine * instance, u64 w2c_p0, 
   w2c_j1 = w2c_p5;
   w2c_j0 += w2c_j1;
   w2c_p5 = w2c_j0;
-  w2c_j1 = 1050281ull;
+  w2c_j1 = 1050283ull;
   w2c_j0 -= w2c_j1;
   w2c_j1 = 8ull;
   w2c_i0 = w2c_j0 > w2c_j1;
@@ -28568,13 +28873,13 @@ static void w2c_kit_text__meaning__push_meaning(Machine * instance, u64 w2c_p0, 
   w2c_i0 = (u32)(w2c_j0);
   w2c_j1 = 0ull;
   w2c_i1 = (u32)(w2c_j1);
-  w2c_i1 = i32_load8_u(&instance->w2c_memory, (u64)(w2c_i1) + 1050289u);
+  w2c_i1 = i32_load8_u(&instance->w2c_memory, (u64)(w2c_i1) + 1050291u);
   i32_store8(&instance->w2c_memory, (u64)(w2c_i0) + 8, w2c_i1);
   w2c_j0 = w2c_p5;
   w2c_i0 = (u32)(w2c_j0);
   w2c_j1 = 0ull;
   w2c_i1 = (u32)(w2c_j1);
-  w2c_j1 = i64_load(&instance->w2c_memory, (u64)(w2c_i1) + 1050281u);
+  w2c_j1 = i64_load(&instance->w2c_memory, (u64)(w2c_i1) + 1050283u);
   i64_store(&instance->w2c_memory, (u64)(w2c_i0), w2c_j1);
   w2c_B144:;
   w2c_j0 = w2c_p1;
@@ -28601,7 +28906,7 @@ static void w2c_kit_text__meaning__push_meaning(Machine * instance, u64 w2c_p0, 
   i64_store(&instance->w2c_memory, (u64)(w2c_i0) + 8, w2c_j1);
   w2c_j0 = w2c_l7;
   w2c_i0 = (u32)(w2c_j0);
-  w2c_j1 = 1050303ull;
+  w2c_j1 = 1050305ull;
   i64_store(&instance->w2c_memory, (u64)(w2c_i0), w2c_j1);
   w2c_j0 = w2c_l7;
   w2c_i0 = (u32)(w2c_j0);
@@ -28627,7 +28932,7 @@ static void w2c_kit_text__meaning__push_meaning(Machine * instance, u64 w2c_p0, 
   i64_store(&instance->w2c_memory, (u64)(w2c_i0) + 80, w2c_j1);
   w2c_j0 = w2c_l7;
   w2c_i0 = (u32)(w2c_j0);
-  w2c_j1 = 1050290ull;
+  w2c_j1 = 1050292ull;
   i64_store(&instance->w2c_memory, (u64)(w2c_i0) + 72, w2c_j1);
   w2c_j0 = w2c_l7;
   w2c_i0 = (u32)(w2c_j0);
@@ -28989,7 +29294,7 @@ static u32 w2c_kit_text__options__push_option(Machine * instance, u64 w2c_p0, u6
   w2c_j1 = w2c_p1;
   w2c_j0 += w2c_j1;
   w2c_p1 = w2c_j0;
-  w2c_j1 = 1050197ull;
+  w2c_j1 = 1050198ull;
   w2c_j0 -= w2c_j1;
   w2c_j1 = 2ull;
   w2c_i0 = w2c_j0 > w2c_j1;
@@ -29008,13 +29313,13 @@ static u32 w2c_kit_text__options__push_option(Machine * instance, u64 w2c_p0, u6
   w2c_i0 = (u32)(w2c_j0);
   w2c_j1 = 0ull;
   w2c_i1 = (u32)(w2c_j1);
-  w2c_i1 = i32_load8_u(&instance->w2c_memory, (u64)(w2c_i1) + 1050199u);
+  w2c_i1 = i32_load8_u(&instance->w2c_memory, (u64)(w2c_i1) + 1050200u);
   i32_store8(&instance->w2c_memory, (u64)(w2c_i0) + 2, w2c_i1);
   w2c_j0 = w2c_p1;
   w2c_i0 = (u32)(w2c_j0);
   w2c_j1 = 0ull;
   w2c_i1 = (u32)(w2c_j1);
-  w2c_i1 = i32_load16_u(&instance->w2c_memory, (u64)(w2c_i1) + 1050197u);
+  w2c_i1 = i32_load16_u(&instance->w2c_memory, (u64)(w2c_i1) + 1050198u);
   i32_store16(&instance->w2c_memory, (u64)(w2c_i0), w2c_i1);
   w2c_B10:;
   w2c_j0 = w2c_p0;
@@ -29176,7 +29481,7 @@ static u32 w2c_kit_text__options__push_option(Machine * instance, u64 w2c_p0, u6
   w2c_j1 = w2c_l3;
   w2c_j0 += w2c_j1;
   w2c_l3 = w2c_j0;
-  w2c_j1 = 1050200ull;
+  w2c_j1 = 1050201ull;
   w2c_j0 -= w2c_j1;
   w2c_j1 = 3ull;
   w2c_i0 = w2c_j0 > w2c_j1;
@@ -29612,7 +29917,7 @@ static u32 w2c_kit_text__options__push_option(Machine * instance, u64 w2c_p0, u6
   i64_store(&instance->w2c_memory, (u64)(w2c_i0) + 8, w2c_j1);
   w2c_j0 = w2c_l2;
   w2c_i0 = (u32)(w2c_j0);
-  w2c_j1 = 1050204ull;
+  w2c_j1 = 1050205ull;
   i64_store(&instance->w2c_memory, (u64)(w2c_i0), w2c_j1);
   w2c_j0 = w2c_l2;
   w2c_i0 = (u32)(w2c_j0);
@@ -29673,7 +29978,7 @@ static u32 w2c_kit_text__options__push_option(Machine * instance, u64 w2c_p0, u6
   w2c_j1 = w2c_p1;
   w2c_j0 += w2c_j1;
   w2c_p1 = w2c_j0;
-  w2c_j1 = 1050207ull;
+  w2c_j1 = 1050208ull;
   w2c_j0 -= w2c_j1;
   w2c_j1 = 5ull;
   w2c_i0 = w2c_j0 > w2c_j1;
@@ -29692,13 +29997,13 @@ static u32 w2c_kit_text__options__push_option(Machine * instance, u64 w2c_p0, u6
   w2c_i0 = (u32)(w2c_j0);
   w2c_j1 = 0ull;
   w2c_i1 = (u32)(w2c_j1);
-  w2c_i1 = i32_load16_u(&instance->w2c_memory, (u64)(w2c_i1) + 1050211u);
+  w2c_i1 = i32_load16_u(&instance->w2c_memory, (u64)(w2c_i1) + 1050212u);
   i32_store16(&instance->w2c_memory, (u64)(w2c_i0) + 4, w2c_i1);
   w2c_j0 = w2c_p1;
   w2c_i0 = (u32)(w2c_j0);
   w2c_j1 = 0ull;
   w2c_i1 = (u32)(w2c_j1);
-  w2c_i1 = i32_load(&instance->w2c_memory, (u64)(w2c_i1) + 1050207u);
+  w2c_i1 = i32_load(&instance->w2c_memory, (u64)(w2c_i1) + 1050208u);
   i32_store(&instance->w2c_memory, (u64)(w2c_i0), w2c_i1);
   w2c_B28:;
   w2c_j0 = w2c_p0;
@@ -29766,7 +30071,7 @@ static u32 w2c_kit_text__options__push_option(Machine * instance, u64 w2c_p0, u6
   w2c_j1 = w2c_l4;
   w2c_j0 += w2c_j1;
   w2c_l4 = w2c_j0;
-  w2c_j1 = 1050213ull;
+  w2c_j1 = 1050214ull;
   w2c_j0 -= w2c_j1;
   w2c_j1 = 4ull;
   w2c_i0 = w2c_j0 > w2c_j1;
@@ -29785,13 +30090,13 @@ static u32 w2c_kit_text__options__push_option(Machine * instance, u64 w2c_p0, u6
   w2c_i0 = (u32)(w2c_j0);
   w2c_j1 = 0ull;
   w2c_i1 = (u32)(w2c_j1);
-  w2c_i1 = i32_load8_u(&instance->w2c_memory, (u64)(w2c_i1) + 1050217u);
+  w2c_i1 = i32_load8_u(&instance->w2c_memory, (u64)(w2c_i1) + 1050218u);
   i32_store8(&instance->w2c_memory, (u64)(w2c_i0) + 4, w2c_i1);
   w2c_j0 = w2c_l4;
   w2c_i0 = (u32)(w2c_j0);
   w2c_j1 = 0ull;
   w2c_i1 = (u32)(w2c_j1);
-  w2c_i1 = i32_load(&instance->w2c_memory, (u64)(w2c_i1) + 1050213u);
+  w2c_i1 = i32_load(&instance->w2c_memory, (u64)(w2c_i1) + 1050214u);
   i32_store(&instance->w2c_memory, (u64)(w2c_i0), w2c_i1);
   w2c_B31:;
   w2c_j0 = w2c_p0;
@@ -30027,7 +30332,7 @@ static u32 w2c_kit_text__options__push_option(Machine * instance, u64 w2c_p0, u6
   w2c_j2 = 1ull;
   w2c_j1 <<= (w2c_j2 & 63);
   w2c_i1 = (u32)(w2c_j1);
-  w2c_i1 = i32_load16_u(&instance->w2c_memory, (u64)(w2c_i1) + 1049910u);
+  w2c_i1 = i32_load16_u(&instance->w2c_memory, (u64)(w2c_i1) + 1049911u);
   i32_store16(&instance->w2c_memory, (u64)(w2c_i0) + 205, w2c_i1);
   w2c_j0 = 7ull;
   w2c_l3 = w2c_j0;
@@ -30055,7 +30360,7 @@ static u32 w2c_kit_text__options__push_option(Machine * instance, u64 w2c_p0, u6
   w2c_j2 = 1ull;
   w2c_j1 <<= (w2c_j2 & 63);
   w2c_i1 = (u32)(w2c_j1);
-  w2c_i1 = i32_load16_u(&instance->w2c_memory, (u64)(w2c_i1) + 1049910u);
+  w2c_i1 = i32_load16_u(&instance->w2c_memory, (u64)(w2c_i1) + 1049911u);
   i32_store16(&instance->w2c_memory, (u64)(w2c_i0) + 205, w2c_i1);
   w2c_j0 = w2c_l2;
   w2c_j1 = 200ull;
@@ -31444,7 +31749,7 @@ static u32 w2c_kit_text__bytes__push_bytes(Machine * instance, u64 w2c_p0, u64 w
     w2c_j2 = 15ull;
     w2c_j1 &= w2c_j2;
     w2c_i1 = (u32)(w2c_j1);
-    w2c_i1 = i32_load8_u(&instance->w2c_memory, (u64)(w2c_i1) + 1050218u);
+    w2c_i1 = i32_load8_u(&instance->w2c_memory, (u64)(w2c_i1) + 1050220u);
     i32_store8(&instance->w2c_memory, (u64)(w2c_i0), w2c_i1);
     w2c_j0 = w2c_l3;
     w2c_i0 = (u32)(w2c_j0);
@@ -31452,7 +31757,7 @@ static u32 w2c_kit_text__bytes__push_bytes(Machine * instance, u64 w2c_p0, u64 w
     w2c_j2 = 4ull;
     w2c_j1 >>= (w2c_j2 & 63);
     w2c_i1 = (u32)(w2c_j1);
-    w2c_i1 = i32_load8_u(&instance->w2c_memory, (u64)(w2c_i1) + 1050218u);
+    w2c_i1 = i32_load8_u(&instance->w2c_memory, (u64)(w2c_i1) + 1050220u);
     i32_store8(&instance->w2c_memory, (u64)(w2c_i0), w2c_i1);
     w2c_j0 = w2c_l6;
     w2c_j1 = 1ull;
@@ -33335,7 +33640,7 @@ static u32 w2c_kit_text__options__push_block____2684e1456f717445_(Machine * inst
     w2c_j2 = 1ull;
     w2c_j1 <<= (w2c_j2 & 63);
     w2c_i1 = (u32)(w2c_j1);
-    w2c_i1 = i32_load16_u(&instance->w2c_memory, (u64)(w2c_i1) + 1049910u);
+    w2c_i1 = i32_load16_u(&instance->w2c_memory, (u64)(w2c_i1) + 1049911u);
     i32_store16(&instance->w2c_memory, (u64)(w2c_i0), w2c_i1);
     w2c_j0 = w2c_l5;
     w2c_j1 = 18446744073709551614ull;
@@ -33352,7 +33657,7 @@ static u32 w2c_kit_text__options__push_block____2684e1456f717445_(Machine * inst
     w2c_j2 = 1ull;
     w2c_j1 <<= (w2c_j2 & 63);
     w2c_i1 = (u32)(w2c_j1);
-    w2c_i1 = i32_load16_u(&instance->w2c_memory, (u64)(w2c_i1) + 1049910u);
+    w2c_i1 = i32_load16_u(&instance->w2c_memory, (u64)(w2c_i1) + 1049911u);
     i32_store16(&instance->w2c_memory, (u64)(w2c_i0), w2c_i1);
     w2c_j0 = w2c_l2;
     w2c_j1 = 18446744073709551612ull;
@@ -33396,7 +33701,7 @@ static u32 w2c_kit_text__options__push_block____2684e1456f717445_(Machine * inst
   w2c_j2 = 1ull;
   w2c_j1 <<= (w2c_j2 & 63);
   w2c_i1 = (u32)(w2c_j1);
-  w2c_i1 = i32_load16_u(&instance->w2c_memory, (u64)(w2c_i1) + 1049910u);
+  w2c_i1 = i32_load16_u(&instance->w2c_memory, (u64)(w2c_i1) + 1049911u);
   i32_store16(&instance->w2c_memory, (u64)(w2c_i0), w2c_i1);
   goto w2c_B3;
   w2c_B4:;
@@ -33424,7 +33729,7 @@ static u32 w2c_kit_text__options__push_block____2684e1456f717445_(Machine * inst
   w2c_j2 = 1ull;
   w2c_j1 <<= (w2c_j2 & 63);
   w2c_i1 = (u32)(w2c_j1);
-  w2c_i1 = i32_load16_u(&instance->w2c_memory, (u64)(w2c_i1) + 1049910u);
+  w2c_i1 = i32_load16_u(&instance->w2c_memory, (u64)(w2c_i1) + 1049911u);
   i32_store16(&instance->w2c_memory, (u64)(w2c_i0), w2c_i1);
   w2c_j0 = w2c_l4;
   w2c_j1 = 999ull;
@@ -33455,7 +33760,7 @@ static u32 w2c_kit_text__options__push_block____2684e1456f717445_(Machine * inst
   w2c_j2 = 1ull;
   w2c_j1 <<= (w2c_j2 & 63);
   w2c_i1 = (u32)(w2c_j1);
-  w2c_i1 = i32_load16_u(&instance->w2c_memory, (u64)(w2c_i1) + 1049910u);
+  w2c_i1 = i32_load16_u(&instance->w2c_memory, (u64)(w2c_i1) + 1049911u);
   i32_store16(&instance->w2c_memory, (u64)(w2c_i0), w2c_i1);
   w2c_B3:;
   w2c_j0 = w2c_l3;
@@ -33504,7 +33809,7 @@ static u32 w2c_kit_text__options__push_block____2684e1456f717445_(Machine * inst
     w2c_j2 = 1ull;
     w2c_j1 <<= (w2c_j2 & 63);
     w2c_i1 = (u32)(w2c_j1);
-    w2c_i1 = i32_load16_u(&instance->w2c_memory, (u64)(w2c_i1) + 1049910u);
+    w2c_i1 = i32_load16_u(&instance->w2c_memory, (u64)(w2c_i1) + 1049911u);
     i32_store16(&instance->w2c_memory, (u64)(w2c_i0), w2c_i1);
     w2c_j0 = w2c_l5;
     w2c_j1 = 2ull;
@@ -33521,7 +33826,7 @@ static u32 w2c_kit_text__options__push_block____2684e1456f717445_(Machine * inst
     w2c_j2 = 1ull;
     w2c_j1 <<= (w2c_j2 & 63);
     w2c_i1 = (u32)(w2c_j1);
-    w2c_i1 = i32_load16_u(&instance->w2c_memory, (u64)(w2c_i1) + 1049910u);
+    w2c_i1 = i32_load16_u(&instance->w2c_memory, (u64)(w2c_i1) + 1049911u);
     i32_store16(&instance->w2c_memory, (u64)(w2c_i0), w2c_i1);
     w2c_j0 = w2c_l2;
     w2c_j1 = 18446744073709551612ull;
@@ -33569,7 +33874,7 @@ static u32 w2c_kit_text__options__push_block____2684e1456f717445_(Machine * inst
   w2c_j2 = 1ull;
   w2c_j1 <<= (w2c_j2 & 63);
   w2c_i1 = (u32)(w2c_j1);
-  w2c_i1 = i32_load16_u(&instance->w2c_memory, (u64)(w2c_i1) + 1049910u);
+  w2c_i1 = i32_load16_u(&instance->w2c_memory, (u64)(w2c_i1) + 1049911u);
   i32_store16(&instance->w2c_memory, (u64)(w2c_i0), w2c_i1);
   goto w2c_B9;
   w2c_B10:;
@@ -33597,7 +33902,7 @@ static u32 w2c_kit_text__options__push_block____2684e1456f717445_(Machine * inst
   w2c_j2 = 1ull;
   w2c_j1 <<= (w2c_j2 & 63);
   w2c_i1 = (u32)(w2c_j1);
-  w2c_i1 = i32_load16_u(&instance->w2c_memory, (u64)(w2c_i1) + 1049910u);
+  w2c_i1 = i32_load16_u(&instance->w2c_memory, (u64)(w2c_i1) + 1049911u);
   i32_store16(&instance->w2c_memory, (u64)(w2c_i0), w2c_i1);
   w2c_j0 = w2c_l4;
   w2c_j1 = 999ull;
@@ -33628,7 +33933,7 @@ static u32 w2c_kit_text__options__push_block____2684e1456f717445_(Machine * inst
   w2c_j2 = 1ull;
   w2c_j1 <<= (w2c_j2 & 63);
   w2c_i1 = (u32)(w2c_j1);
-  w2c_i1 = i32_load16_u(&instance->w2c_memory, (u64)(w2c_i1) + 1049910u);
+  w2c_i1 = i32_load16_u(&instance->w2c_memory, (u64)(w2c_i1) + 1049911u);
   i32_store16(&instance->w2c_memory, (u64)(w2c_i0), w2c_i1);
   w2c_B9:;
   w2c_j0 = 128ull;
@@ -34091,7 +34396,7 @@ static void w2c_kit_script__script__read_script_bytes(Machine * instance, u64 w2
   if (w2c_i0) {goto w2c_B13;}
   w2c_j0 = w2c_p2;
   w2c_j1 = 8ull;
-  w2c_j2 = 1050334ull;
+  w2c_j2 = 1050336ull;
   w2c_i0 = w2c_core__cmp__slices__groups_equal___i8_31_core__cmp__numbers__U8PartialEq___(instance, w2c_j0, w2c_j1, w2c_j2);
   if (w2c_i0) {goto w2c_B9;}
   w2c_B13:;
@@ -34288,7 +34593,7 @@ static void w2c_kit_script__script__read_script_bytes(Machine * instance, u64 w2
   if (w2c_i0) {goto w2c_B6;}
   w2c_j0 = w2c_p2;
   w2c_j1 = 8ull;
-  w2c_j2 = 1050342ull;
+  w2c_j2 = 1050344ull;
   w2c_i0 = w2c_core__cmp__slices__groups_equal___i8_31_core__cmp__numbers__U8PartialEq___(instance, w2c_j0, w2c_j1, w2c_j2);
   w2c_i0 = !(w2c_i0);
   if (w2c_i0) {goto w2c_B6;}
@@ -34855,7 +35160,7 @@ static void w2c_kit_script__script__read_script_bytes(Machine * instance, u64 w2
     if (w2c_i0) {goto w2c_B60;}
     w2c_j0 = w2c_l8;
     w2c_j1 = 6ull;
-    w2c_j2 = 1050350ull;
+    w2c_j2 = 1050352ull;
     w2c_i0 = w2c_core__cmp__slices__groups_equal___i8_31_core__cmp__numbers__U8PartialEq___(instance, w2c_j0, w2c_j1, w2c_j2);
     w2c_i0 = !(w2c_i0);
     if (w2c_i0) {goto w2c_B60;}
@@ -35088,7 +35393,7 @@ static void w2c_kit_script__script__read_script_bytes(Machine * instance, u64 w2
     if (w2c_i0) {goto w2c_B46;}
     w2c_j0 = w2c_l17;
     w2c_j1 = 5ull;
-    w2c_j2 = 1050366ull;
+    w2c_j2 = 1050368ull;
     w2c_i0 = w2c_core__cmp__slices__groups_equal___i8_31_core__cmp__numbers__U8PartialEq___(instance, w2c_j0, w2c_j1, w2c_j2);
     w2c_l27 = w2c_i0;
     w2c_j0 = w2c_l15;
@@ -35153,7 +35458,7 @@ static void w2c_kit_script__script__read_script_bytes(Machine * instance, u64 w2
     if (w2c_i0) {goto w2c_B71;}
     w2c_j0 = w2c_l7;
     w2c_j1 = 4ull;
-    w2c_j2 = 1050362ull;
+    w2c_j2 = 1050364ull;
     w2c_i0 = w2c_core__cmp__slices__groups_equal___i8_31_core__cmp__numbers__U8PartialEq___(instance, w2c_j0, w2c_j1, w2c_j2);
     if (w2c_i0) {goto w2c_B70;}
     w2c_B71:;
@@ -35385,7 +35690,7 @@ static void w2c_kit_script__script__read_script_bytes(Machine * instance, u64 w2
     if (w2c_i0) {goto w2c_B53;}
     w2c_j0 = w2c_l8;
     w2c_j1 = 6ull;
-    w2c_j2 = 1050356ull;
+    w2c_j2 = 1050358ull;
     w2c_i0 = w2c_core__cmp__slices__groups_equal___i8_31_core__cmp__numbers__U8PartialEq___(instance, w2c_j0, w2c_j1, w2c_j2);
     w2c_i0 = !(w2c_i0);
     if (w2c_i0) {goto w2c_B53;}
@@ -35995,7 +36300,7 @@ static void w2c_kit_script__script__read_script_bytes(Machine * instance, u64 w2
     if (w2c_i0) {goto w2c_B46;}
     w2c_j0 = w2c_l17;
     w2c_j1 = 4ull;
-    w2c_j2 = 1050373ull;
+    w2c_j2 = 1050375ull;
     w2c_i0 = w2c_core__cmp__slices__groups_equal___i8_31_core__cmp__numbers__U8PartialEq___(instance, w2c_j0, w2c_j1, w2c_j2);
     w2c_i0 = !(w2c_i0);
     if (w2c_i0) {goto w2c_B46;}
@@ -36420,7 +36725,7 @@ static void w2c_kit_script__script__read_script_bytes(Machine * instance, u64 w2
     w2c_l7 = w2c_j0;
     w2c_j0 = w2c_l8;
     w2c_j1 = 6ull;
-    w2c_j2 = 1050350ull;
+    w2c_j2 = 1050352ull;
     w2c_i0 = w2c_core__cmp__slices__groups_equal___i8_31_core__cmp__numbers__U8PartialEq___(instance, w2c_j0, w2c_j1, w2c_j2);
     w2c_i0 = !(w2c_i0);
     if (w2c_i0) {goto w2c_B97;}
@@ -37583,7 +37888,7 @@ static void w2c_kit_script__events__read_event(Machine * instance, u64 w2c_p0, u
   w2c_l18 = w2c_i0;
   w2c_j0 = w2c_p2;
   w2c_j1 = 7ull;
-  w2c_j2 = 1050377ull;
+  w2c_j2 = 1050379ull;
   w2c_i0 = w2c_core__cmp__slices__groups_equal___i8_31_core__cmp__numbers__U8PartialEq___(instance, w2c_j0, w2c_j1, w2c_j2);
   if (w2c_i0) {goto w2c_B11;}
   w2c_B21:;
@@ -37612,7 +37917,7 @@ static void w2c_kit_script__events__read_event(Machine * instance, u64 w2c_p0, u
   if (w2c_i0) {goto w2c_B13;}
   w2c_j0 = w2c_p2;
   w2c_j1 = 7ull;
-  w2c_j2 = 1050394ull;
+  w2c_j2 = 1050396ull;
   w2c_i0 = w2c_core__cmp__slices__groups_equal___i8_31_core__cmp__numbers__U8PartialEq___(instance, w2c_j0, w2c_j1, w2c_j2);
   w2c_i0 = !(w2c_i0);
   if (w2c_i0) {goto w2c_B10;}
@@ -37668,7 +37973,7 @@ static void w2c_kit_script__events__read_event(Machine * instance, u64 w2c_p0, u
   if (w2c_i0) {goto w2c_B16;}
   w2c_j0 = w2c_p2;
   w2c_j1 = 5ull;
-  w2c_j2 = 1050401ull;
+  w2c_j2 = 1050403ull;
   w2c_i0 = w2c_core__cmp__slices__groups_equal___i8_31_core__cmp__numbers__U8PartialEq___(instance, w2c_j0, w2c_j1, w2c_j2);
   w2c_i0 = !(w2c_i0);
   if (w2c_i0) {goto w2c_B15;}
@@ -37723,7 +38028,7 @@ static void w2c_kit_script__events__read_event(Machine * instance, u64 w2c_p0, u
   if (w2c_i0) {goto w2c_B14;}
   w2c_j0 = w2c_p2;
   w2c_j1 = 4ull;
-  w2c_j2 = 1050390ull;
+  w2c_j2 = 1050392ull;
   w2c_i0 = w2c_core__cmp__slices__groups_equal___i8_31_core__cmp__numbers__U8PartialEq___(instance, w2c_j0, w2c_j1, w2c_j2);
   w2c_i0 = !(w2c_i0);
   if (w2c_i0) {goto w2c_B14;}
@@ -37778,7 +38083,7 @@ static void w2c_kit_script__events__read_event(Machine * instance, u64 w2c_p0, u
   if (w2c_i0) {goto w2c_B12;}
   w2c_j0 = w2c_p2;
   w2c_j1 = 6ull;
-  w2c_j2 = 1050384ull;
+  w2c_j2 = 1050386ull;
   w2c_i0 = w2c_core__cmp__slices__groups_equal___i8_31_core__cmp__numbers__U8PartialEq___(instance, w2c_j0, w2c_j1, w2c_j2);
   w2c_i0 = !(w2c_i0);
   if (w2c_i0) {goto w2c_B12;}
@@ -37810,7 +38115,7 @@ static void w2c_kit_script__events__read_event(Machine * instance, u64 w2c_p0, u
   if (w2c_i0) {goto w2c_B15;}
   w2c_j0 = w2c_p2;
   w2c_j1 = 5ull;
-  w2c_j2 = 1050406ull;
+  w2c_j2 = 1050408ull;
   w2c_i0 = w2c_core__cmp__slices__groups_equal___i8_31_core__cmp__numbers__U8PartialEq___(instance, w2c_j0, w2c_j1, w2c_j2);
   w2c_i0 = !(w2c_i0);
   if (w2c_i0) {goto w2c_B15;}
@@ -37844,7 +38149,7 @@ static void w2c_kit_script__events__read_event(Machine * instance, u64 w2c_p0, u
   if (w2c_i0) {goto w2c_B10;}
   w2c_j0 = w2c_p2;
   w2c_j1 = 5ull;
-  w2c_j2 = 1050422ull;
+  w2c_j2 = 1050424ull;
   w2c_i0 = w2c_core__cmp__slices__groups_equal___i8_31_core__cmp__numbers__U8PartialEq___(instance, w2c_j0, w2c_j1, w2c_j2);
   w2c_i0 = !(w2c_i0);
   if (w2c_i0) {goto w2c_B10;}
@@ -37878,7 +38183,7 @@ static void w2c_kit_script__events__read_event(Machine * instance, u64 w2c_p0, u
   if (w2c_i0) {goto w2c_B10;}
   w2c_j0 = w2c_p2;
   w2c_j1 = 4ull;
-  w2c_j2 = 1050427ull;
+  w2c_j2 = 1050429ull;
   w2c_i0 = w2c_core__cmp__slices__groups_equal___i8_31_core__cmp__numbers__U8PartialEq___(instance, w2c_j0, w2c_j1, w2c_j2);
   w2c_i0 = !(w2c_i0);
   if (w2c_i0) {goto w2c_B10;}
@@ -37908,7 +38213,7 @@ static void w2c_kit_script__events__read_event(Machine * instance, u64 w2c_p0, u
   if (w2c_i0) {goto w2c_B10;}
   w2c_j0 = w2c_p2;
   w2c_j1 = 7ull;
-  w2c_j2 = 1050463ull;
+  w2c_j2 = 1050465ull;
   w2c_i0 = w2c_core__cmp__slices__groups_equal___i8_31_core__cmp__numbers__U8PartialEq___(instance, w2c_j0, w2c_j1, w2c_j2);
   w2c_i0 = !(w2c_i0);
   if (w2c_i0) {goto w2c_B10;}
@@ -37942,7 +38247,7 @@ static void w2c_kit_script__events__read_event(Machine * instance, u64 w2c_p0, u
   if (w2c_i0) {goto w2c_B10;}
   w2c_j0 = w2c_p2;
   w2c_j1 = 6ull;
-  w2c_j2 = 1050470ull;
+  w2c_j2 = 1050472ull;
   w2c_i0 = w2c_core__cmp__slices__groups_equal___i8_31_core__cmp__numbers__U8PartialEq___(instance, w2c_j0, w2c_j1, w2c_j2);
   w2c_i0 = !(w2c_i0);
   if (w2c_i0) {goto w2c_B10;}
@@ -38553,7 +38858,7 @@ static void w2c_kit_script__events__read_event(Machine * instance, u64 w2c_p0, u
   if (w2c_i0) {goto w2c_B5;}
   w2c_j0 = w2c_l6;
   w2c_j1 = 8ull;
-  w2c_j2 = 1050493ull;
+  w2c_j2 = 1050495ull;
   w2c_i0 = w2c_core__cmp__slices__groups_equal___i8_31_core__cmp__numbers__U8PartialEq___(instance, w2c_j0, w2c_j1, w2c_j2);
   w2c_i0 = !(w2c_i0);
   if (w2c_i0) {goto w2c_B5;}
@@ -38599,7 +38904,7 @@ static void w2c_kit_script__events__read_event(Machine * instance, u64 w2c_p0, u
   if (w2c_i0) {goto w2c_B5;}
   w2c_j0 = w2c_l6;
   w2c_j1 = 7ull;
-  w2c_j2 = 1050486ull;
+  w2c_j2 = 1050488ull;
   w2c_i0 = w2c_core__cmp__slices__groups_equal___i8_31_core__cmp__numbers__U8PartialEq___(instance, w2c_j0, w2c_j1, w2c_j2);
   w2c_i0 = !(w2c_i0);
   if (w2c_i0) {goto w2c_B5;}
@@ -38645,7 +38950,7 @@ static void w2c_kit_script__events__read_event(Machine * instance, u64 w2c_p0, u
   if (w2c_i0) {goto w2c_B5;}
   w2c_j0 = w2c_l6;
   w2c_j1 = 10ull;
-  w2c_j2 = 1050476ull;
+  w2c_j2 = 1050478ull;
   w2c_i0 = w2c_core__cmp__slices__groups_equal___i8_31_core__cmp__numbers__U8PartialEq___(instance, w2c_j0, w2c_j1, w2c_j2);
   w2c_i0 = !(w2c_i0);
   if (w2c_i0) {goto w2c_B5;}
@@ -39600,7 +39905,7 @@ static void w2c_kit_script__settings__read_setting(Machine * instance, u64 w2c_p
   if (w2c_i0) {goto w2c_B7;}
   w2c_j0 = w2c_p1;
   w2c_j1 = w2c_p2;
-  w2c_j2 = 1050505ull;
+  w2c_j2 = 1050507ull;
   w2c_i0 = w2c_core__cmp__slices__groups_equal___i8_31_core__cmp__numbers__U8PartialEq___(instance, w2c_j0, w2c_j1, w2c_j2);
   w2c_i0 = !(w2c_i0);
   if (w2c_i0) {goto w2c_B7;}
@@ -39900,7 +40205,7 @@ static void w2c_kit_script__settings__read_setting(Machine * instance, u64 w2c_p
   if (w2c_i0) {goto w2c_B24;}
   w2c_j0 = w2c_p1;
   w2c_j1 = w2c_p2;
-  w2c_j2 = 1050390ull;
+  w2c_j2 = 1050392ull;
   w2c_i0 = w2c_core__cmp__slices__groups_equal___i8_31_core__cmp__numbers__U8PartialEq___(instance, w2c_j0, w2c_j1, w2c_j2);
   w2c_i0 = !(w2c_i0);
   if (w2c_i0) {goto w2c_B7;}
@@ -40015,7 +40320,7 @@ static void w2c_kit_script__settings__read_setting(Machine * instance, u64 w2c_p
   if (w2c_i0) {goto w2c_B8;}
   w2c_j0 = w2c_p1;
   w2c_j1 = w2c_p2;
-  w2c_j2 = 1050501ull;
+  w2c_j2 = 1050503ull;
   w2c_i0 = w2c_core__cmp__slices__groups_equal___i8_31_core__cmp__numbers__U8PartialEq___(instance, w2c_j0, w2c_j1, w2c_j2);
   w2c_i0 = !(w2c_i0);
   if (w2c_i0) {goto w2c_B7;}
@@ -40149,7 +40454,7 @@ static void w2c_kit_script__settings__read_setting(Machine * instance, u64 w2c_p
   w2c_l8 = w2c_i0;
   w2c_j0 = w2c_p3;
   w2c_j1 = 4ull;
-  w2c_j2 = 1050514ull;
+  w2c_j2 = 1050516ull;
   w2c_i0 = w2c_core__cmp__slices__groups_equal___i8_31_core__cmp__numbers__U8PartialEq___(instance, w2c_j0, w2c_j1, w2c_j2);
   w2c_i0 = !(w2c_i0);
   if (w2c_i0) {goto w2c_B10;}
@@ -40285,7 +40590,7 @@ static void w2c_kit_script__settings__read_setting(Machine * instance, u64 w2c_p
   if (w2c_i0) {goto w2c_B7;}
   w2c_j0 = w2c_p1;
   w2c_j1 = w2c_p2;
-  w2c_j2 = 1050510ull;
+  w2c_j2 = 1050512ull;
   w2c_i0 = w2c_core__cmp__slices__groups_equal___i8_31_core__cmp__numbers__U8PartialEq___(instance, w2c_j0, w2c_j1, w2c_j2);
   w2c_i0 = !(w2c_i0);
   if (w2c_i0) {goto w2c_B7;}
@@ -44598,11 +44903,11 @@ static void w2c_kit_report__turns__push_turn_line(Machine * instance, u64 w2c_p0
   i64_store(&instance->w2c_memory, (u64)(w2c_i0) + 248, w2c_j1);
   w2c_j0 = w2c_l5;
   w2c_i0 = (u32)(w2c_j0);
-  w2c_j1 = 1049896ull;
+  w2c_j1 = 1049897ull;
   i64_store(&instance->w2c_memory, (u64)(w2c_i0) + 240, w2c_j1);
   w2c_j0 = w2c_l5;
   w2c_i0 = (u32)(w2c_j0);
-  w2c_j1 = 1050688ull;
+  w2c_j1 = 1050690ull;
   i64_store(&instance->w2c_memory, (u64)(w2c_i0) + 216, w2c_j1);
   w2c_j0 = w2c_l5;
   w2c_i0 = (u32)(w2c_j0);
@@ -44748,7 +45053,7 @@ static void w2c_kit_report__turns__push_turn_line(Machine * instance, u64 w2c_p0
   w2c_j1 = w2c_l13;
   w2c_j0 += w2c_j1;
   w2c_l13 = w2c_j0;
-  w2c_j1 = 1050688ull;
+  w2c_j1 = 1050690ull;
   w2c_j0 -= w2c_j1;
   w2c_j1 = 7ull;
   w2c_i0 = w2c_j0 > w2c_j1;
@@ -44777,7 +45082,7 @@ static void w2c_kit_report__turns__push_turn_line(Machine * instance, u64 w2c_p0
   w2c_j0 = w2c_l5;
   w2c_j1 = 280ull;
   w2c_j0 += w2c_j1;
-  w2c_j1 = 1050688ull;
+  w2c_j1 = 1050690ull;
   w2c_j2 = 8ull;
   w2c_i0 = w2c_core__fmt__formatter__Formatter__write_indented____66b2f40cbd927778_(instance, w2c_j0, w2c_j1, w2c_j2);
   w2c_i1 = 255u;
@@ -44986,7 +45291,7 @@ static void w2c_kit_report__turns__push_turn_line(Machine * instance, u64 w2c_p0
   w2c_j0 = w2c_l5;
   w2c_j1 = 280ull;
   w2c_j0 += w2c_j1;
-  w2c_j1 = 1049896ull;
+  w2c_j1 = 1049897ull;
   w2c_j2 = 1ull;
   w2c_i0 = w2c_core__fmt__formatter__Formatter__write_indented____66b2f40cbd927778_(instance, w2c_j0, w2c_j1, w2c_j2);
   w2c_l23 = w2c_i0;
@@ -45141,7 +45446,7 @@ static void w2c_kit_report__turns__push_turn_line(Machine * instance, u64 w2c_p0
   i64_store(&instance->w2c_memory, (u64)(w2c_i0) + 64, w2c_j1);
   w2c_j0 = w2c_l5;
   w2c_i0 = (u32)(w2c_j0);
-  w2c_j1 = 1050521ull;
+  w2c_j1 = 1050523ull;
   i64_store(&instance->w2c_memory, (u64)(w2c_i0) + 56, w2c_j1);
   w2c_j0 = w2c_l5;
   w2c_i0 = (u32)(w2c_j0);
@@ -45282,7 +45587,7 @@ static void w2c_kit_report__turns__push_turn_line(Machine * instance, u64 w2c_p0
   w2c_j1 = w2c_p2;
   w2c_j0 += w2c_j1;
   w2c_p2 = w2c_j0;
-  w2c_j1 = 1050521ull;
+  w2c_j1 = 1050523ull;
   w2c_j0 -= w2c_j1;
   w2c_j1 = 4ull;
   w2c_i0 = w2c_j0 > w2c_j1;
@@ -45301,13 +45606,13 @@ static void w2c_kit_report__turns__push_turn_line(Machine * instance, u64 w2c_p0
   w2c_i0 = (u32)(w2c_j0);
   w2c_j1 = 0ull;
   w2c_i1 = (u32)(w2c_j1);
-  w2c_i1 = i32_load8_u(&instance->w2c_memory, (u64)(w2c_i1) + 1050525u);
+  w2c_i1 = i32_load8_u(&instance->w2c_memory, (u64)(w2c_i1) + 1050527u);
   i32_store8(&instance->w2c_memory, (u64)(w2c_i0) + 4, w2c_i1);
   w2c_j0 = w2c_p2;
   w2c_i0 = (u32)(w2c_j0);
   w2c_j1 = 0ull;
   w2c_i1 = (u32)(w2c_j1);
-  w2c_i1 = i32_load(&instance->w2c_memory, (u64)(w2c_i1) + 1050521u);
+  w2c_i1 = i32_load(&instance->w2c_memory, (u64)(w2c_i1) + 1050523u);
   i32_store(&instance->w2c_memory, (u64)(w2c_i0), w2c_i1);
   w2c_B41:;
   w2c_j0 = w2c_l5;
@@ -45430,7 +45735,7 @@ static void w2c_kit_report__turns__push_turn_line(Machine * instance, u64 w2c_p0
   i64_store(&instance->w2c_memory, (u64)(w2c_i0) + 184, w2c_j1);
   w2c_j0 = w2c_l5;
   w2c_i0 = (u32)(w2c_j0);
-  w2c_j1 = 1050705ull;
+  w2c_j1 = 1050707ull;
   i64_store(&instance->w2c_memory, (u64)(w2c_i0) + 176, w2c_j1);
   w2c_j0 = w2c_l5;
   w2c_i0 = (u32)(w2c_j0);
@@ -45473,7 +45778,7 @@ static void w2c_kit_report__turns__push_turn_line(Machine * instance, u64 w2c_p0
   i64_store(&instance->w2c_memory, (u64)(w2c_i0) + 16, w2c_j1);
   w2c_j0 = w2c_l5;
   w2c_i0 = (u32)(w2c_j0);
-  w2c_j1 = 1050696ull;
+  w2c_j1 = 1050698ull;
   i64_store(&instance->w2c_memory, (u64)(w2c_i0) + 8, w2c_j1);
   w2c_j0 = w2c_l5;
   w2c_i0 = (u32)(w2c_j0);
@@ -45829,7 +46134,7 @@ static void w2c_kit_report__turns__push_turn_line(Machine * instance, u64 w2c_p0
   w2c_j1 = w2c_p4;
   w2c_j0 += w2c_j1;
   w2c_p2 = w2c_j0;
-  w2c_j1 = 1050518ull;
+  w2c_j1 = 1050520ull;
   w2c_j0 -= w2c_j1;
   w2c_j1 = 2ull;
   w2c_i0 = w2c_j0 > w2c_j1;
@@ -45848,13 +46153,13 @@ static void w2c_kit_report__turns__push_turn_line(Machine * instance, u64 w2c_p0
   w2c_i0 = (u32)(w2c_j0);
   w2c_j1 = 0ull;
   w2c_i1 = (u32)(w2c_j1);
-  w2c_i1 = i32_load8_u(&instance->w2c_memory, (u64)(w2c_i1) + 1050520u);
+  w2c_i1 = i32_load8_u(&instance->w2c_memory, (u64)(w2c_i1) + 1050522u);
   i32_store8(&instance->w2c_memory, (u64)(w2c_i0) + 2, w2c_i1);
   w2c_j0 = w2c_p2;
   w2c_i0 = (u32)(w2c_j0);
   w2c_j1 = 0ull;
   w2c_i1 = (u32)(w2c_j1);
-  w2c_i1 = i32_load16_u(&instance->w2c_memory, (u64)(w2c_i1) + 1050518u);
+  w2c_i1 = i32_load16_u(&instance->w2c_memory, (u64)(w2c_i1) + 1050520u);
   i32_store16(&instance->w2c_memory, (u64)(w2c_i0), w2c_i1);
   w2c_B59:;
   w2c_j0 = w2c_p1;
@@ -45878,11 +46183,11 @@ static void w2c_kit_report__turns__push_turn_line(Machine * instance, u64 w2c_p0
   w2c_j0 <<= (w2c_j1 & 63);
   w2c_p2 = w2c_j0;
   w2c_i0 = (u32)(w2c_j0);
-  w2c_j0 = i64_load(&instance->w2c_memory, (u64)(w2c_i0) + 1052032u);
+  w2c_j0 = i64_load(&instance->w2c_memory, (u64)(w2c_i0) + 1054504u);
   w2c_l9 = w2c_j0;
   w2c_j0 = w2c_p2;
   w2c_i0 = (u32)(w2c_j0);
-  w2c_j0 = i64_load(&instance->w2c_memory, (u64)(w2c_i0) + 1051944u);
+  w2c_j0 = i64_load(&instance->w2c_memory, (u64)(w2c_i0) + 1054416u);
   w2c_p4 = w2c_j0;
   w2c_j1 = w2c_p3;
   w2c_j2 = w2c_l8;
@@ -46066,7 +46371,7 @@ static void w2c_kit_report__turns__push_turn_line(Machine * instance, u64 w2c_p0
   w2c_i0 = w2c_l23;
   if (w2c_i0) {goto w2c_B66;}
   w2c_j0 = w2c_p1;
-  w2c_j1 = 1050521ull;
+  w2c_j1 = 1050523ull;
   w2c_j2 = 5ull;
   w2c_j3 = w2c_l8;
   w2c_i0 = w2c_kit_text__numbers__push_word_number(instance, w2c_j0, w2c_j1, w2c_j2, w2c_j3);
@@ -46169,7 +46474,7 @@ static void w2c_kit_report__turns__push_turn_line(Machine * instance, u64 w2c_p0
   w2c_j1 = w2c_p4;
   w2c_j0 += w2c_j1;
   w2c_p2 = w2c_j0;
-  w2c_j1 = 1050526ull;
+  w2c_j1 = 1050528ull;
   w2c_j0 -= w2c_j1;
   w2c_j1 = 5ull;
   w2c_i0 = w2c_j0 > w2c_j1;
@@ -46188,13 +46493,13 @@ static void w2c_kit_report__turns__push_turn_line(Machine * instance, u64 w2c_p0
   w2c_i0 = (u32)(w2c_j0);
   w2c_j1 = 0ull;
   w2c_i1 = (u32)(w2c_j1);
-  w2c_i1 = i32_load16_u(&instance->w2c_memory, (u64)(w2c_i1) + 1050530u);
+  w2c_i1 = i32_load16_u(&instance->w2c_memory, (u64)(w2c_i1) + 1050532u);
   i32_store16(&instance->w2c_memory, (u64)(w2c_i0) + 4, w2c_i1);
   w2c_j0 = w2c_p2;
   w2c_i0 = (u32)(w2c_j0);
   w2c_j1 = 0ull;
   w2c_i1 = (u32)(w2c_j1);
-  w2c_i1 = i32_load(&instance->w2c_memory, (u64)(w2c_i1) + 1050526u);
+  w2c_i1 = i32_load(&instance->w2c_memory, (u64)(w2c_i1) + 1050528u);
   i32_store(&instance->w2c_memory, (u64)(w2c_i0), w2c_i1);
   w2c_B71:;
   w2c_j0 = w2c_p1;
@@ -46257,7 +46562,7 @@ static void w2c_kit_report__turns__push_turn_line(Machine * instance, u64 w2c_p0
   w2c_j1 = w2c_p4;
   w2c_j0 += w2c_j1;
   w2c_p2 = w2c_j0;
-  w2c_j1 = 1050532ull;
+  w2c_j1 = 1050534ull;
   w2c_j0 -= w2c_j1;
   w2c_j1 = 6ull;
   w2c_i0 = w2c_j0 > w2c_j1;
@@ -46280,13 +46585,13 @@ static void w2c_kit_report__turns__push_turn_line(Machine * instance, u64 w2c_p0
   w2c_i0 = (u32)(w2c_j0);
   w2c_j1 = 0ull;
   w2c_i1 = (u32)(w2c_j1);
-  w2c_i1 = i32_load(&instance->w2c_memory, (u64)(w2c_i1) + 1050535u);
+  w2c_i1 = i32_load(&instance->w2c_memory, (u64)(w2c_i1) + 1050537u);
   i32_store(&instance->w2c_memory, (u64)(w2c_i0) + 3, w2c_i1);
   w2c_j0 = w2c_p2;
   w2c_i0 = (u32)(w2c_j0);
   w2c_j1 = 0ull;
   w2c_i1 = (u32)(w2c_j1);
-  w2c_i1 = i32_load(&instance->w2c_memory, (u64)(w2c_i1) + 1050532u);
+  w2c_i1 = i32_load(&instance->w2c_memory, (u64)(w2c_i1) + 1050534u);
   i32_store(&instance->w2c_memory, (u64)(w2c_i0), w2c_i1);
   w2c_B74:;
   w2c_j0 = w2c_p1;
@@ -46341,7 +46646,7 @@ static void w2c_kit_report__turns__push_turn_line(Machine * instance, u64 w2c_p0
   w2c_j1 = w2c_p4;
   w2c_j0 += w2c_j1;
   w2c_p2 = w2c_j0;
-  w2c_j1 = 1050539ull;
+  w2c_j1 = 1050541ull;
   w2c_j0 -= w2c_j1;
   w2c_j1 = 2ull;
   w2c_i0 = w2c_j0 > w2c_j1;
@@ -46360,13 +46665,13 @@ static void w2c_kit_report__turns__push_turn_line(Machine * instance, u64 w2c_p0
   w2c_i0 = (u32)(w2c_j0);
   w2c_j1 = 0ull;
   w2c_i1 = (u32)(w2c_j1);
-  w2c_i1 = i32_load8_u(&instance->w2c_memory, (u64)(w2c_i1) + 1050541u);
+  w2c_i1 = i32_load8_u(&instance->w2c_memory, (u64)(w2c_i1) + 1050543u);
   i32_store8(&instance->w2c_memory, (u64)(w2c_i0) + 2, w2c_i1);
   w2c_j0 = w2c_p2;
   w2c_i0 = (u32)(w2c_j0);
   w2c_j1 = 0ull;
   w2c_i1 = (u32)(w2c_j1);
-  w2c_i1 = i32_load16_u(&instance->w2c_memory, (u64)(w2c_i1) + 1050539u);
+  w2c_i1 = i32_load16_u(&instance->w2c_memory, (u64)(w2c_i1) + 1050541u);
   i32_store16(&instance->w2c_memory, (u64)(w2c_i0), w2c_i1);
   w2c_B77:;
   w2c_j0 = w2c_p1;
@@ -46430,8 +46735,8 @@ static void w2c_kit_report__turns__push_turn_line(Machine * instance, u64 w2c_p0
   w2c_j1 = w2c_p4;
   w2c_j0 += w2c_j1;
   w2c_p4 = w2c_j0;
-  w2c_j1 = 1050542ull;
-  w2c_j2 = 1050545ull;
+  w2c_j1 = 1050544ull;
+  w2c_j2 = 1050547ull;
   w2c_i3 = w2c_l23;
   w2c_j1 = w2c_i3 ? w2c_j1 : w2c_j2;
   w2c_l8 = w2c_j1;
@@ -46575,7 +46880,7 @@ static void w2c_kit_report__turns__push_turn_line(Machine * instance, u64 w2c_p0
   w2c_j1 = w2c_p4;
   w2c_j0 += w2c_j1;
   w2c_p2 = w2c_j0;
-  w2c_j1 = 1050514ull;
+  w2c_j1 = 1050516ull;
   w2c_j0 -= w2c_j1;
   w2c_j1 = 3ull;
   w2c_i0 = w2c_j0 > w2c_j1;
@@ -47559,7 +47864,7 @@ static void w2c_kit_report__turns__push_turn_line(Machine * instance, u64 w2c_p0
   w2c_j1 = w2c_p2;
   w2c_j0 += w2c_j1;
   w2c_p2 = w2c_j0;
-  w2c_j1 = 1050547ull;
+  w2c_j1 = 1050549ull;
   w2c_j0 -= w2c_j1;
   w2c_j1 = 5ull;
   w2c_i0 = w2c_j0 > w2c_j1;
@@ -47578,13 +47883,13 @@ static void w2c_kit_report__turns__push_turn_line(Machine * instance, u64 w2c_p0
   w2c_i0 = (u32)(w2c_j0);
   w2c_j1 = 0ull;
   w2c_i1 = (u32)(w2c_j1);
-  w2c_i1 = i32_load16_u(&instance->w2c_memory, (u64)(w2c_i1) + 1050551u);
+  w2c_i1 = i32_load16_u(&instance->w2c_memory, (u64)(w2c_i1) + 1050553u);
   i32_store16(&instance->w2c_memory, (u64)(w2c_i0) + 4, w2c_i1);
   w2c_j0 = w2c_p2;
   w2c_i0 = (u32)(w2c_j0);
   w2c_j1 = 0ull;
   w2c_i1 = (u32)(w2c_j1);
-  w2c_i1 = i32_load(&instance->w2c_memory, (u64)(w2c_i1) + 1050547u);
+  w2c_i1 = i32_load(&instance->w2c_memory, (u64)(w2c_i1) + 1050549u);
   i32_store(&instance->w2c_memory, (u64)(w2c_i0), w2c_i1);
   w2c_B113:;
   w2c_j0 = w2c_p1;
@@ -47603,7 +47908,7 @@ static void w2c_kit_report__turns__push_turn_line(Machine * instance, u64 w2c_p0
   w2c_i0 = (u32)(w2c_j0);
   w2c_j1 = w2c_l16;
   i64_store(&instance->w2c_memory, (u64)(w2c_i0), w2c_j1);
-  w2c_j0 = 1050127ull;
+  w2c_j0 = 1050128ull;
   w2c_p3 = w2c_j0;
   w2c_j0 = 3ull;
   w2c_p2 = w2c_j0;
@@ -47639,23 +47944,23 @@ static void w2c_kit_report__turns__push_turn_line(Machine * instance, u64 w2c_p0
     default: goto w2c_B115;
   }
   w2c_B122:;
-  w2c_j0 = 1050130ull;
+  w2c_j0 = 1050131ull;
   w2c_p3 = w2c_j0;
   goto w2c_B117;
   w2c_B121:;
-  w2c_j0 = 1050137ull;
+  w2c_j0 = 1050138ull;
   w2c_p3 = w2c_j0;
   goto w2c_B116;
   w2c_B120:;
-  w2c_j0 = 1050140ull;
+  w2c_j0 = 1050141ull;
   w2c_p3 = w2c_j0;
   goto w2c_B117;
   w2c_B119:;
-  w2c_j0 = 1050147ull;
+  w2c_j0 = 1050148ull;
   w2c_p3 = w2c_j0;
   goto w2c_B117;
   w2c_B118:;
-  w2c_j0 = 1050154ull;
+  w2c_j0 = 1050155ull;
   w2c_p3 = w2c_j0;
   w2c_B117:;
   w2c_j0 = 7ull;
@@ -47843,7 +48148,7 @@ static void w2c_kit_report__turns__push_turn_line(Machine * instance, u64 w2c_p0
   i64_store(&instance->w2c_memory, (u64)(w2c_i0) + 464, w2c_j1);
   w2c_j0 = w2c_l5;
   w2c_i0 = (u32)(w2c_j0);
-  w2c_j1 = 1050176ull;
+  w2c_j1 = 1050177ull;
   i64_store(&instance->w2c_memory, (u64)(w2c_i0) + 456, w2c_j1);
   w2c_j0 = w2c_l5;
   w2c_i0 = (u32)(w2c_j0);
@@ -47857,7 +48162,7 @@ static void w2c_kit_report__turns__push_turn_line(Machine * instance, u64 w2c_p0
   i64_store(&instance->w2c_memory, (u64)(w2c_i0) + 440, w2c_j1);
   w2c_j0 = w2c_l5;
   w2c_i0 = (u32)(w2c_j0);
-  w2c_j1 = 1050137ull;
+  w2c_j1 = 1050138ull;
   i64_store(&instance->w2c_memory, (u64)(w2c_i0) + 432, w2c_j1);
   w2c_j0 = w2c_l5;
   w2c_i0 = (u32)(w2c_j0);
@@ -47873,7 +48178,7 @@ static void w2c_kit_report__turns__push_turn_line(Machine * instance, u64 w2c_p0
   i64_store(&instance->w2c_memory, (u64)(w2c_i0) + 416, w2c_j1);
   w2c_j0 = w2c_l5;
   w2c_i0 = (u32)(w2c_j0);
-  w2c_j1 = 1050173ull;
+  w2c_j1 = 1050174ull;
   i64_store(&instance->w2c_memory, (u64)(w2c_i0) + 408, w2c_j1);
   w2c_j0 = w2c_l5;
   w2c_i0 = (u32)(w2c_j0);
@@ -47889,7 +48194,7 @@ static void w2c_kit_report__turns__push_turn_line(Machine * instance, u64 w2c_p0
   i64_store(&instance->w2c_memory, (u64)(w2c_i0) + 392, w2c_j1);
   w2c_j0 = w2c_l5;
   w2c_i0 = (u32)(w2c_j0);
-  w2c_j1 = 1050170ull;
+  w2c_j1 = 1050171ull;
   i64_store(&instance->w2c_memory, (u64)(w2c_i0) + 384, w2c_j1);
   w2c_j0 = w2c_l5;
   w2c_i0 = (u32)(w2c_j0);
@@ -47905,7 +48210,7 @@ static void w2c_kit_report__turns__push_turn_line(Machine * instance, u64 w2c_p0
   i64_store(&instance->w2c_memory, (u64)(w2c_i0) + 368, w2c_j1);
   w2c_j0 = w2c_l5;
   w2c_i0 = (u32)(w2c_j0);
-  w2c_j1 = 1050127ull;
+  w2c_j1 = 1050128ull;
   i64_store(&instance->w2c_memory, (u64)(w2c_i0) + 360, w2c_j1);
   w2c_j0 = w2c_l5;
   w2c_i0 = (u32)(w2c_j0);
@@ -47921,7 +48226,7 @@ static void w2c_kit_report__turns__push_turn_line(Machine * instance, u64 w2c_p0
   i64_store(&instance->w2c_memory, (u64)(w2c_i0) + 344, w2c_j1);
   w2c_j0 = w2c_l5;
   w2c_i0 = (u32)(w2c_j0);
-  w2c_j1 = 1050167ull;
+  w2c_j1 = 1050168ull;
   i64_store(&instance->w2c_memory, (u64)(w2c_i0) + 336, w2c_j1);
   w2c_j0 = w2c_l5;
   w2c_i0 = (u32)(w2c_j0);
@@ -47937,7 +48242,7 @@ static void w2c_kit_report__turns__push_turn_line(Machine * instance, u64 w2c_p0
   i64_store(&instance->w2c_memory, (u64)(w2c_i0) + 320, w2c_j1);
   w2c_j0 = w2c_l5;
   w2c_i0 = (u32)(w2c_j0);
-  w2c_j1 = 1050164ull;
+  w2c_j1 = 1050165ull;
   i64_store(&instance->w2c_memory, (u64)(w2c_i0) + 312, w2c_j1);
   w2c_j0 = w2c_l5;
   w2c_i0 = (u32)(w2c_j0);
@@ -47953,7 +48258,7 @@ static void w2c_kit_report__turns__push_turn_line(Machine * instance, u64 w2c_p0
   i64_store(&instance->w2c_memory, (u64)(w2c_i0) + 296, w2c_j1);
   w2c_j0 = w2c_l5;
   w2c_i0 = (u32)(w2c_j0);
-  w2c_j1 = 1050161ull;
+  w2c_j1 = 1050162ull;
   i64_store(&instance->w2c_memory, (u64)(w2c_i0) + 288, w2c_j1);
   w2c_j0 = w2c_l5;
   w2c_i0 = (u32)(w2c_j0);
@@ -48096,7 +48401,7 @@ static void w2c_kit_report__turns__push_turn_line(Machine * instance, u64 w2c_p0
     w2c_j0 = w2c_l5;
     w2c_j1 = 208ull;
     w2c_j0 += w2c_j1;
-    w2c_j1 = 1050179ull;
+    w2c_j1 = 1050180ull;
     w2c_j2 = 1ull;
     w2c_i0 = w2c_core__fmt__formatter__Formatter__write_indented____66b2f40cbd927778_(instance, w2c_j0, w2c_j1, w2c_j2);
     w2c_i1 = 255u;
@@ -48665,7 +48970,7 @@ static void w2c_kit_report__turns__push_turn_line(Machine * instance, u64 w2c_p0
   w2c_j1 = w2c_p4;
   w2c_j0 += w2c_j1;
   w2c_p4 = w2c_j0;
-  w2c_j1 = 1050559ull;
+  w2c_j1 = 1050561ull;
   w2c_j0 -= w2c_j1;
   w2c_j1 = 7ull;
   w2c_i0 = w2c_j0 > w2c_j1;
@@ -48735,7 +49040,7 @@ static void w2c_kit_report__turns__push_turn_line(Machine * instance, u64 w2c_p0
   w2c_j1 = w2c_p4;
   w2c_j0 += w2c_j1;
   w2c_p4 = w2c_j0;
-  w2c_j1 = 1050567ull;
+  w2c_j1 = 1050569ull;
   w2c_j0 -= w2c_j1;
   w2c_j1 = 6ull;
   w2c_i0 = w2c_j0 > w2c_j1;
@@ -48758,13 +49063,13 @@ static void w2c_kit_report__turns__push_turn_line(Machine * instance, u64 w2c_p0
   w2c_i0 = (u32)(w2c_j0);
   w2c_j1 = 0ull;
   w2c_i1 = (u32)(w2c_j1);
-  w2c_i1 = i32_load(&instance->w2c_memory, (u64)(w2c_i1) + 1050570u);
+  w2c_i1 = i32_load(&instance->w2c_memory, (u64)(w2c_i1) + 1050572u);
   i32_store(&instance->w2c_memory, (u64)(w2c_i0) + 3, w2c_i1);
   w2c_j0 = w2c_p4;
   w2c_i0 = (u32)(w2c_j0);
   w2c_j1 = 0ull;
   w2c_i1 = (u32)(w2c_j1);
-  w2c_i1 = i32_load(&instance->w2c_memory, (u64)(w2c_i1) + 1050567u);
+  w2c_i1 = i32_load(&instance->w2c_memory, (u64)(w2c_i1) + 1050569u);
   i32_store(&instance->w2c_memory, (u64)(w2c_i0), w2c_i1);
   w2c_B154:;
   w2c_j0 = w2c_p1;
@@ -48821,7 +49126,7 @@ static void w2c_kit_report__turns__push_turn_line(Machine * instance, u64 w2c_p0
   w2c_j1 = w2c_p4;
   w2c_j0 += w2c_j1;
   w2c_p4 = w2c_j0;
-  w2c_j1 = 1050574ull;
+  w2c_j1 = 1050576ull;
   w2c_j0 -= w2c_j1;
   w2c_j1 = 8ull;
   w2c_i0 = w2c_j0 > w2c_j1;
@@ -48840,13 +49145,13 @@ static void w2c_kit_report__turns__push_turn_line(Machine * instance, u64 w2c_p0
   w2c_i0 = (u32)(w2c_j0);
   w2c_j1 = 0ull;
   w2c_i1 = (u32)(w2c_j1);
-  w2c_i1 = i32_load8_u(&instance->w2c_memory, (u64)(w2c_i1) + 1050582u);
+  w2c_i1 = i32_load8_u(&instance->w2c_memory, (u64)(w2c_i1) + 1050584u);
   i32_store8(&instance->w2c_memory, (u64)(w2c_i0) + 8, w2c_i1);
   w2c_j0 = w2c_p4;
   w2c_i0 = (u32)(w2c_j0);
   w2c_j1 = 0ull;
   w2c_i1 = (u32)(w2c_j1);
-  w2c_j1 = i64_load(&instance->w2c_memory, (u64)(w2c_i1) + 1050574u);
+  w2c_j1 = i64_load(&instance->w2c_memory, (u64)(w2c_i1) + 1050576u);
   i64_store(&instance->w2c_memory, (u64)(w2c_i0), w2c_j1);
   w2c_B157:;
   w2c_j0 = w2c_p1;
@@ -48953,11 +49258,11 @@ static void w2c_kit_report__turns__push_turn_line(Machine * instance, u64 w2c_p0
   w2c_j0 <<= (w2c_j1 & 63);
   w2c_p2 = w2c_j0;
   w2c_i0 = (u32)(w2c_j0);
-  w2c_j0 = i64_load(&instance->w2c_memory, (u64)(w2c_i0) + 1052032u);
+  w2c_j0 = i64_load(&instance->w2c_memory, (u64)(w2c_i0) + 1054504u);
   w2c_l8 = w2c_j0;
   w2c_j0 = w2c_p2;
   w2c_i0 = (u32)(w2c_j0);
-  w2c_j0 = i64_load(&instance->w2c_memory, (u64)(w2c_i0) + 1051944u);
+  w2c_j0 = i64_load(&instance->w2c_memory, (u64)(w2c_i0) + 1054416u);
   w2c_p4 = w2c_j0;
   w2c_j1 = w2c_p3;
   w2c_j2 = w2c_l6;
@@ -49206,13 +49511,13 @@ static void w2c_kit_report__turns__push_turn_line(Machine * instance, u64 w2c_p0
   w2c_i0 = (u32)(w2c_j0);
   w2c_j1 = 0ull;
   w2c_i1 = (u32)(w2c_j1);
-  w2c_i1 = i32_load16_u(&instance->w2c_memory, (u64)(w2c_i1) + 1050557u);
+  w2c_i1 = i32_load16_u(&instance->w2c_memory, (u64)(w2c_i1) + 1050559u);
   i32_store16(&instance->w2c_memory, (u64)(w2c_i0) + 406, w2c_i1);
   w2c_j0 = w2c_l5;
   w2c_i0 = (u32)(w2c_j0);
   w2c_j1 = 0ull;
   w2c_i1 = (u32)(w2c_j1);
-  w2c_i1 = i32_load(&instance->w2c_memory, (u64)(w2c_i1) + 1050553u);
+  w2c_i1 = i32_load(&instance->w2c_memory, (u64)(w2c_i1) + 1050555u);
   i32_store(&instance->w2c_memory, (u64)(w2c_i0) + 402, w2c_i1);
   w2c_j0 = w2c_p4;
   w2c_j1 = w2c_l14;
@@ -49253,7 +49558,7 @@ static void w2c_kit_report__turns__push_turn_line(Machine * instance, u64 w2c_p0
     w2c_j2 = 1ull;
     w2c_j1 <<= (w2c_j2 & 63);
     w2c_i1 = (u32)(w2c_j1);
-    w2c_i1 = i32_load16_u(&instance->w2c_memory, (u64)(w2c_i1) + 1049910u);
+    w2c_i1 = i32_load16_u(&instance->w2c_memory, (u64)(w2c_i1) + 1049911u);
     i32_store16(&instance->w2c_memory, (u64)(w2c_i0), w2c_i1);
     w2c_j0 = w2c_l13;
     w2c_j1 = 18446744073709551614ull;
@@ -49270,7 +49575,7 @@ static void w2c_kit_report__turns__push_turn_line(Machine * instance, u64 w2c_p0
     w2c_j2 = 1ull;
     w2c_j1 <<= (w2c_j2 & 63);
     w2c_i1 = (u32)(w2c_j1);
-    w2c_i1 = i32_load16_u(&instance->w2c_memory, (u64)(w2c_i1) + 1049910u);
+    w2c_i1 = i32_load16_u(&instance->w2c_memory, (u64)(w2c_i1) + 1049911u);
     i32_store16(&instance->w2c_memory, (u64)(w2c_i0), w2c_i1);
     w2c_j0 = w2c_p2;
     w2c_j1 = 18446744073709551612ull;
@@ -49330,7 +49635,7 @@ static void w2c_kit_report__turns__push_turn_line(Machine * instance, u64 w2c_p0
   w2c_j2 = 1ull;
   w2c_j1 <<= (w2c_j2 & 63);
   w2c_i1 = (u32)(w2c_j1);
-  w2c_i1 = i32_load16_u(&instance->w2c_memory, (u64)(w2c_i1) + 1049910u);
+  w2c_i1 = i32_load16_u(&instance->w2c_memory, (u64)(w2c_i1) + 1049911u);
   i32_store16(&instance->w2c_memory, (u64)(w2c_i0), w2c_i1);
   goto w2c_B167;
   w2c_B168:;
@@ -49360,7 +49665,7 @@ static void w2c_kit_report__turns__push_turn_line(Machine * instance, u64 w2c_p0
   w2c_j2 = 1ull;
   w2c_j1 <<= (w2c_j2 & 63);
   w2c_i1 = (u32)(w2c_j1);
-  w2c_i1 = i32_load16_u(&instance->w2c_memory, (u64)(w2c_i1) + 1049910u);
+  w2c_i1 = i32_load16_u(&instance->w2c_memory, (u64)(w2c_i1) + 1049911u);
   i32_store16(&instance->w2c_memory, (u64)(w2c_i0), w2c_i1);
   w2c_j0 = w2c_p4;
   w2c_j1 = 999ull;
@@ -49395,7 +49700,7 @@ static void w2c_kit_report__turns__push_turn_line(Machine * instance, u64 w2c_p0
   w2c_j2 = 1ull;
   w2c_j1 <<= (w2c_j2 & 63);
   w2c_i1 = (u32)(w2c_j1);
-  w2c_i1 = i32_load16_u(&instance->w2c_memory, (u64)(w2c_i1) + 1049910u);
+  w2c_i1 = i32_load16_u(&instance->w2c_memory, (u64)(w2c_i1) + 1049911u);
   i32_store16(&instance->w2c_memory, (u64)(w2c_i0), w2c_i1);
   w2c_B167:;
   w2c_i0 = w2c_l26;
@@ -49422,13 +49727,13 @@ static void w2c_kit_report__turns__push_turn_line(Machine * instance, u64 w2c_p0
   w2c_i0 = (u32)(w2c_j0);
   w2c_j1 = 0ull;
   w2c_i1 = (u32)(w2c_j1);
-  w2c_i1 = i32_load16_u(&instance->w2c_memory, (u64)(w2c_i1) + 1050238u);
+  w2c_i1 = i32_load16_u(&instance->w2c_memory, (u64)(w2c_i1) + 1050240u);
   i32_store16(&instance->w2c_memory, (u64)(w2c_i0) + 4, w2c_i1);
   w2c_j0 = w2c_p3;
   w2c_i0 = (u32)(w2c_j0);
   w2c_j1 = 0ull;
   w2c_i1 = (u32)(w2c_j1);
-  w2c_i1 = i32_load(&instance->w2c_memory, (u64)(w2c_i1) + 1050234u);
+  w2c_i1 = i32_load(&instance->w2c_memory, (u64)(w2c_i1) + 1050236u);
   i32_store(&instance->w2c_memory, (u64)(w2c_i0), w2c_i1);
   w2c_i0 = w2c_l23;
   w2c_i1 = 65535u;
@@ -49464,7 +49769,7 @@ static void w2c_kit_report__turns__push_turn_line(Machine * instance, u64 w2c_p0
   w2c_j2 = 1ull;
   w2c_j1 <<= (w2c_j2 & 63);
   w2c_i1 = (u32)(w2c_j1);
-  w2c_i1 = i32_load16_u(&instance->w2c_memory, (u64)(w2c_i1) + 1049910u);
+  w2c_i1 = i32_load16_u(&instance->w2c_memory, (u64)(w2c_i1) + 1049911u);
   i32_store16(&instance->w2c_memory, (u64)(w2c_i0), w2c_i1);
   w2c_j0 = w2c_p3;
   w2c_j1 = 18446744073709551614ull;
@@ -49481,7 +49786,7 @@ static void w2c_kit_report__turns__push_turn_line(Machine * instance, u64 w2c_p0
   w2c_j2 = 1ull;
   w2c_j1 <<= (w2c_j2 & 63);
   w2c_i1 = (u32)(w2c_j1);
-  w2c_i1 = i32_load16_u(&instance->w2c_memory, (u64)(w2c_i1) + 1049910u);
+  w2c_i1 = i32_load16_u(&instance->w2c_memory, (u64)(w2c_i1) + 1049911u);
   i32_store16(&instance->w2c_memory, (u64)(w2c_i0), w2c_i1);
   goto w2c_B174;
   w2c_B175:;
@@ -49525,7 +49830,7 @@ static void w2c_kit_report__turns__push_turn_line(Machine * instance, u64 w2c_p0
   w2c_j2 = 1ull;
   w2c_j1 <<= (w2c_j2 & 63);
   w2c_i1 = (u32)(w2c_j1);
-  w2c_i1 = i32_load16_u(&instance->w2c_memory, (u64)(w2c_i1) + 1049910u);
+  w2c_i1 = i32_load16_u(&instance->w2c_memory, (u64)(w2c_i1) + 1049911u);
   i32_store16(&instance->w2c_memory, (u64)(w2c_i0), w2c_i1);
   goto w2c_B171;
   w2c_B172:;
@@ -49550,7 +49855,7 @@ static void w2c_kit_report__turns__push_turn_line(Machine * instance, u64 w2c_p0
   w2c_j2 = 1ull;
   w2c_j1 <<= (w2c_j2 & 63);
   w2c_i1 = (u32)(w2c_j1);
-  w2c_i1 = i32_load16_u(&instance->w2c_memory, (u64)(w2c_i1) + 1049910u);
+  w2c_i1 = i32_load16_u(&instance->w2c_memory, (u64)(w2c_i1) + 1049911u);
   i32_store16(&instance->w2c_memory, (u64)(w2c_i0), w2c_i1);
   w2c_i0 = w2c_l25;
   w2c_i1 = 999u;
@@ -49585,7 +49890,7 @@ static void w2c_kit_report__turns__push_turn_line(Machine * instance, u64 w2c_p0
   w2c_j2 = 1ull;
   w2c_j1 <<= (w2c_j2 & 63);
   w2c_i1 = (u32)(w2c_j1);
-  w2c_i1 = i32_load16_u(&instance->w2c_memory, (u64)(w2c_i1) + 1049910u);
+  w2c_i1 = i32_load16_u(&instance->w2c_memory, (u64)(w2c_i1) + 1049911u);
   i32_store16(&instance->w2c_memory, (u64)(w2c_i0), w2c_i1);
   w2c_B171:;
   w2c_i0 = w2c_l30;
@@ -49644,7 +49949,7 @@ static void w2c_kit_report__turns__push_turn_line(Machine * instance, u64 w2c_p0
     w2c_j2 = 1ull;
     w2c_j1 <<= (w2c_j2 & 63);
     w2c_i1 = (u32)(w2c_j1);
-    w2c_i1 = i32_load16_u(&instance->w2c_memory, (u64)(w2c_i1) + 1049910u);
+    w2c_i1 = i32_load16_u(&instance->w2c_memory, (u64)(w2c_i1) + 1049911u);
     i32_store16(&instance->w2c_memory, (u64)(w2c_i0), w2c_i1);
     w2c_j0 = w2c_l13;
     w2c_j1 = 2ull;
@@ -49661,7 +49966,7 @@ static void w2c_kit_report__turns__push_turn_line(Machine * instance, u64 w2c_p0
     w2c_j2 = 1ull;
     w2c_j1 <<= (w2c_j2 & 63);
     w2c_i1 = (u32)(w2c_j1);
-    w2c_i1 = i32_load16_u(&instance->w2c_memory, (u64)(w2c_i1) + 1049910u);
+    w2c_i1 = i32_load16_u(&instance->w2c_memory, (u64)(w2c_i1) + 1049911u);
     i32_store16(&instance->w2c_memory, (u64)(w2c_i0), w2c_i1);
     w2c_j0 = w2c_p2;
     w2c_j1 = 18446744073709551612ull;
@@ -49717,7 +50022,7 @@ static void w2c_kit_report__turns__push_turn_line(Machine * instance, u64 w2c_p0
   w2c_j2 = 1ull;
   w2c_j1 <<= (w2c_j2 & 63);
   w2c_i1 = (u32)(w2c_j1);
-  w2c_i1 = i32_load16_u(&instance->w2c_memory, (u64)(w2c_i1) + 1049910u);
+  w2c_i1 = i32_load16_u(&instance->w2c_memory, (u64)(w2c_i1) + 1049911u);
   i32_store16(&instance->w2c_memory, (u64)(w2c_i0), w2c_i1);
   goto w2c_B179;
   w2c_B180:;
@@ -49747,7 +50052,7 @@ static void w2c_kit_report__turns__push_turn_line(Machine * instance, u64 w2c_p0
   w2c_j2 = 1ull;
   w2c_j1 <<= (w2c_j2 & 63);
   w2c_i1 = (u32)(w2c_j1);
-  w2c_i1 = i32_load16_u(&instance->w2c_memory, (u64)(w2c_i1) + 1049910u);
+  w2c_i1 = i32_load16_u(&instance->w2c_memory, (u64)(w2c_i1) + 1049911u);
   i32_store16(&instance->w2c_memory, (u64)(w2c_i0), w2c_i1);
   w2c_j0 = w2c_p4;
   w2c_j1 = 999ull;
@@ -49782,7 +50087,7 @@ static void w2c_kit_report__turns__push_turn_line(Machine * instance, u64 w2c_p0
   w2c_j2 = 1ull;
   w2c_j1 <<= (w2c_j2 & 63);
   w2c_i1 = (u32)(w2c_j1);
-  w2c_i1 = i32_load16_u(&instance->w2c_memory, (u64)(w2c_i1) + 1049910u);
+  w2c_i1 = i32_load16_u(&instance->w2c_memory, (u64)(w2c_i1) + 1049911u);
   i32_store16(&instance->w2c_memory, (u64)(w2c_i0), w2c_i1);
   w2c_B179:;
   w2c_j0 = w2c_l5;
@@ -49797,13 +50102,13 @@ static void w2c_kit_report__turns__push_turn_line(Machine * instance, u64 w2c_p0
   w2c_i0 = (u32)(w2c_j0);
   w2c_j1 = 0ull;
   w2c_i1 = (u32)(w2c_j1);
-  w2c_i1 = i32_load8_u(&instance->w2c_memory, (u64)(w2c_i1) + 1049901u);
+  w2c_i1 = i32_load8_u(&instance->w2c_memory, (u64)(w2c_i1) + 1049902u);
   i32_store8(&instance->w2c_memory, (u64)(w2c_i0) + 4, w2c_i1);
   w2c_j0 = w2c_p4;
   w2c_i0 = (u32)(w2c_j0);
   w2c_j1 = 0ull;
   w2c_i1 = (u32)(w2c_j1);
-  w2c_i1 = i32_load(&instance->w2c_memory, (u64)(w2c_i1) + 1049897u);
+  w2c_i1 = i32_load(&instance->w2c_memory, (u64)(w2c_i1) + 1049898u);
   i32_store(&instance->w2c_memory, (u64)(w2c_i0), w2c_i1);
   w2c_i0 = w2c_l23;
   w2c_j0 = (u64)(w2c_i0);
@@ -49842,7 +50147,7 @@ static void w2c_kit_report__turns__push_turn_line(Machine * instance, u64 w2c_p0
     w2c_j2 = 1ull;
     w2c_j1 <<= (w2c_j2 & 63);
     w2c_i1 = (u32)(w2c_j1);
-    w2c_i1 = i32_load16_u(&instance->w2c_memory, (u64)(w2c_i1) + 1049910u);
+    w2c_i1 = i32_load16_u(&instance->w2c_memory, (u64)(w2c_i1) + 1049911u);
     i32_store16(&instance->w2c_memory, (u64)(w2c_i0), w2c_i1);
     w2c_j0 = w2c_l13;
     w2c_j1 = 2ull;
@@ -49859,7 +50164,7 @@ static void w2c_kit_report__turns__push_turn_line(Machine * instance, u64 w2c_p0
     w2c_j2 = 1ull;
     w2c_j1 <<= (w2c_j2 & 63);
     w2c_i1 = (u32)(w2c_j1);
-    w2c_i1 = i32_load16_u(&instance->w2c_memory, (u64)(w2c_i1) + 1049910u);
+    w2c_i1 = i32_load16_u(&instance->w2c_memory, (u64)(w2c_i1) + 1049911u);
     i32_store16(&instance->w2c_memory, (u64)(w2c_i0), w2c_i1);
     w2c_j0 = w2c_p2;
     w2c_j1 = 18446744073709551612ull;
@@ -49911,7 +50216,7 @@ static void w2c_kit_report__turns__push_turn_line(Machine * instance, u64 w2c_p0
   w2c_j2 = 1ull;
   w2c_j1 <<= (w2c_j2 & 63);
   w2c_i1 = (u32)(w2c_j1);
-  w2c_i1 = i32_load16_u(&instance->w2c_memory, (u64)(w2c_i1) + 1049910u);
+  w2c_i1 = i32_load16_u(&instance->w2c_memory, (u64)(w2c_i1) + 1049911u);
   i32_store16(&instance->w2c_memory, (u64)(w2c_i0), w2c_i1);
   goto w2c_B185;
   w2c_B186:;
@@ -49941,7 +50246,7 @@ static void w2c_kit_report__turns__push_turn_line(Machine * instance, u64 w2c_p0
   w2c_j2 = 1ull;
   w2c_j1 <<= (w2c_j2 & 63);
   w2c_i1 = (u32)(w2c_j1);
-  w2c_i1 = i32_load16_u(&instance->w2c_memory, (u64)(w2c_i1) + 1049910u);
+  w2c_i1 = i32_load16_u(&instance->w2c_memory, (u64)(w2c_i1) + 1049911u);
   i32_store16(&instance->w2c_memory, (u64)(w2c_i0), w2c_i1);
   w2c_j0 = w2c_p4;
   w2c_j1 = 999ull;
@@ -49976,7 +50281,7 @@ static void w2c_kit_report__turns__push_turn_line(Machine * instance, u64 w2c_p0
   w2c_j2 = 1ull;
   w2c_j1 <<= (w2c_j2 & 63);
   w2c_i1 = (u32)(w2c_j1);
-  w2c_i1 = i32_load16_u(&instance->w2c_memory, (u64)(w2c_i1) + 1049910u);
+  w2c_i1 = i32_load16_u(&instance->w2c_memory, (u64)(w2c_i1) + 1049911u);
   i32_store16(&instance->w2c_memory, (u64)(w2c_i0), w2c_i1);
   w2c_B185:;
   w2c_j0 = w2c_l5;
@@ -49991,13 +50296,13 @@ static void w2c_kit_report__turns__push_turn_line(Machine * instance, u64 w2c_p0
   w2c_i0 = (u32)(w2c_j0);
   w2c_j1 = 0ull;
   w2c_i1 = (u32)(w2c_j1);
-  w2c_i1 = i32_load8_u(&instance->w2c_memory, (u64)(w2c_i1) + 1049906u);
+  w2c_i1 = i32_load8_u(&instance->w2c_memory, (u64)(w2c_i1) + 1049907u);
   i32_store8(&instance->w2c_memory, (u64)(w2c_i0) + 4, w2c_i1);
   w2c_j0 = w2c_p3;
   w2c_i0 = (u32)(w2c_j0);
   w2c_j1 = 0ull;
   w2c_i1 = (u32)(w2c_j1);
-  w2c_i1 = i32_load(&instance->w2c_memory, (u64)(w2c_i1) + 1049902u);
+  w2c_i1 = i32_load(&instance->w2c_memory, (u64)(w2c_i1) + 1049903u);
   i32_store(&instance->w2c_memory, (u64)(w2c_i0), w2c_i1);
   w2c_j0 = 133ull;
   w2c_j1 = w2c_l11;
@@ -55512,11 +55817,11 @@ static u32 w2c_kit_report__events__push_event(Machine * instance, u64 w2c_p0, u6
   w2c_j0 <<= (w2c_j1 & 63);
   w2c_l2 = w2c_j0;
   w2c_i0 = (u32)(w2c_j0);
-  w2c_j0 = i64_load(&instance->w2c_memory, (u64)(w2c_i0) + 1051792u);
+  w2c_j0 = i64_load(&instance->w2c_memory, (u64)(w2c_i0) + 1054264u);
   w2c_l5 = w2c_j0;
   w2c_j0 = w2c_l2;
   w2c_i0 = (u32)(w2c_j0);
-  w2c_j0 = i64_load(&instance->w2c_memory, (u64)(w2c_i0) + 1051688u);
+  w2c_j0 = i64_load(&instance->w2c_memory, (u64)(w2c_i0) + 1054160u);
   w2c_l6 = w2c_j0;
   w2c_j1 = w2c_p0;
   w2c_j2 = 16ull;
@@ -55840,7 +56145,7 @@ static u32 w2c_kit_report__events__push_event(Machine * instance, u64 w2c_p0, u6
   }
   w2c_B13:;
   w2c_j0 = w2c_p0;
-  w2c_j1 = 1049896ull;
+  w2c_j1 = 1049897ull;
   w2c_j2 = 1ull;
   w2c_j3 = w2c_p1;
   w2c_j4 = 8ull;
@@ -55917,11 +56222,11 @@ static u32 w2c_kit_report__events__push_event(Machine * instance, u64 w2c_p0, u6
   w2c_j0 <<= (w2c_j1 & 63);
   w2c_l2 = w2c_j0;
   w2c_i0 = (u32)(w2c_j0);
-  w2c_j0 = i64_load(&instance->w2c_memory, (u64)(w2c_i0) + 1051920u);
+  w2c_j0 = i64_load(&instance->w2c_memory, (u64)(w2c_i0) + 1054392u);
   w2c_l5 = w2c_j0;
   w2c_j0 = w2c_l2;
   w2c_i0 = (u32)(w2c_j0);
-  w2c_j0 = i64_load(&instance->w2c_memory, (u64)(w2c_i0) + 1051896u);
+  w2c_j0 = i64_load(&instance->w2c_memory, (u64)(w2c_i0) + 1054368u);
   w2c_l2 = w2c_j0;
   w2c_j1 = w2c_l7;
   w2c_j2 = w2c_l6;
@@ -56093,7 +56398,7 @@ static u32 w2c_kit_report__events__push_event(Machine * instance, u64 w2c_p0, u6
   goto w2c_B1;
   w2c_B11:;
   w2c_j0 = w2c_p0;
-  w2c_j1 = 1049896ull;
+  w2c_j1 = 1049897ull;
   w2c_j2 = 1ull;
   w2c_j3 = w2c_p1;
   w2c_j4 = 8ull;
@@ -56112,7 +56417,7 @@ static u32 w2c_kit_report__events__push_event(Machine * instance, u64 w2c_p0, u6
   i64_store(&instance->w2c_memory, (u64)(w2c_i0) + 192, w2c_j1);
   w2c_j0 = w2c_l3;
   w2c_i0 = (u32)(w2c_j0);
-  w2c_j1 = 1049896ull;
+  w2c_j1 = 1049897ull;
   i64_store(&instance->w2c_memory, (u64)(w2c_i0) + 184, w2c_j1);
   w2c_j0 = w2c_l3;
   w2c_i0 = (u32)(w2c_j0);
@@ -56120,7 +56425,7 @@ static u32 w2c_kit_report__events__push_event(Machine * instance, u64 w2c_p0, u6
   i64_store(&instance->w2c_memory, (u64)(w2c_i0) + 168, w2c_j1);
   w2c_j0 = w2c_l3;
   w2c_i0 = (u32)(w2c_j0);
-  w2c_j1 = 1049896ull;
+  w2c_j1 = 1049897ull;
   i64_store(&instance->w2c_memory, (u64)(w2c_i0) + 160, w2c_j1);
   w2c_j0 = w2c_l3;
   w2c_i0 = (u32)(w2c_j0);
@@ -56128,7 +56433,7 @@ static u32 w2c_kit_report__events__push_event(Machine * instance, u64 w2c_p0, u6
   i64_store(&instance->w2c_memory, (u64)(w2c_i0) + 144, w2c_j1);
   w2c_j0 = w2c_l3;
   w2c_i0 = (u32)(w2c_j0);
-  w2c_j1 = 1049896ull;
+  w2c_j1 = 1049897ull;
   i64_store(&instance->w2c_memory, (u64)(w2c_i0) + 136, w2c_j1);
   w2c_j0 = w2c_l3;
   w2c_i0 = (u32)(w2c_j0);
@@ -56323,7 +56628,7 @@ static u32 w2c_kit_report__events__push_event(Machine * instance, u64 w2c_p0, u6
   w2c_j0 = w2c_l3;
   w2c_j1 = 64ull;
   w2c_j0 += w2c_j1;
-  w2c_j1 = 1049896ull;
+  w2c_j1 = 1049897ull;
   w2c_j2 = 1ull;
   w2c_i0 = w2c_core__fmt__formatter__Formatter__write_indented____66b2f40cbd927778_(instance, w2c_j0, w2c_j1, w2c_j2);
   w2c_i1 = 255u;
@@ -56411,7 +56716,7 @@ static u32 w2c_kit_report__events__push_event(Machine * instance, u64 w2c_p0, u6
   w2c_j0 = w2c_l3;
   w2c_j1 = 64ull;
   w2c_j0 += w2c_j1;
-  w2c_j1 = 1049896ull;
+  w2c_j1 = 1049897ull;
   w2c_j2 = 1ull;
   w2c_i0 = w2c_core__fmt__formatter__Formatter__write_indented____66b2f40cbd927778_(instance, w2c_j0, w2c_j1, w2c_j2);
   w2c_i1 = 255u;
@@ -57770,7 +58075,7 @@ static u32 w2c_kit_text__numbers__push_number_word(Machine * instance, u64 w2c_p
     w2c_j2 = 1ull;
     w2c_j1 <<= (w2c_j2 & 63);
     w2c_i1 = (u32)(w2c_j1);
-    w2c_i1 = i32_load16_u(&instance->w2c_memory, (u64)(w2c_i1) + 1049910u);
+    w2c_i1 = i32_load16_u(&instance->w2c_memory, (u64)(w2c_i1) + 1049911u);
     i32_store16(&instance->w2c_memory, (u64)(w2c_i0), w2c_i1);
     w2c_j0 = w2c_l4;
     w2c_j1 = 18446744073709551614ull;
@@ -57787,7 +58092,7 @@ static u32 w2c_kit_text__numbers__push_number_word(Machine * instance, u64 w2c_p
     w2c_j2 = 1ull;
     w2c_j1 <<= (w2c_j2 & 63);
     w2c_i1 = (u32)(w2c_j1);
-    w2c_i1 = i32_load16_u(&instance->w2c_memory, (u64)(w2c_i1) + 1049910u);
+    w2c_i1 = i32_load16_u(&instance->w2c_memory, (u64)(w2c_i1) + 1049911u);
     i32_store16(&instance->w2c_memory, (u64)(w2c_i0), w2c_i1);
     w2c_j0 = w2c_l2;
     w2c_j1 = 18446744073709551612ull;
@@ -57831,7 +58136,7 @@ static u32 w2c_kit_text__numbers__push_number_word(Machine * instance, u64 w2c_p
   w2c_j2 = 1ull;
   w2c_j1 <<= (w2c_j2 & 63);
   w2c_i1 = (u32)(w2c_j1);
-  w2c_i1 = i32_load16_u(&instance->w2c_memory, (u64)(w2c_i1) + 1049910u);
+  w2c_i1 = i32_load16_u(&instance->w2c_memory, (u64)(w2c_i1) + 1049911u);
   i32_store16(&instance->w2c_memory, (u64)(w2c_i0), w2c_i1);
   goto w2c_B3;
   w2c_B4:;
@@ -57859,7 +58164,7 @@ static u32 w2c_kit_text__numbers__push_number_word(Machine * instance, u64 w2c_p
   w2c_j2 = 1ull;
   w2c_j1 <<= (w2c_j2 & 63);
   w2c_i1 = (u32)(w2c_j1);
-  w2c_i1 = i32_load16_u(&instance->w2c_memory, (u64)(w2c_i1) + 1049910u);
+  w2c_i1 = i32_load16_u(&instance->w2c_memory, (u64)(w2c_i1) + 1049911u);
   i32_store16(&instance->w2c_memory, (u64)(w2c_i0), w2c_i1);
   w2c_j0 = w2c_p1;
   w2c_j1 = 999ull;
@@ -57890,7 +58195,7 @@ static u32 w2c_kit_text__numbers__push_number_word(Machine * instance, u64 w2c_p
   w2c_j2 = 1ull;
   w2c_j1 <<= (w2c_j2 & 63);
   w2c_i1 = (u32)(w2c_j1);
-  w2c_i1 = i32_load16_u(&instance->w2c_memory, (u64)(w2c_i1) + 1049910u);
+  w2c_i1 = i32_load16_u(&instance->w2c_memory, (u64)(w2c_i1) + 1049911u);
   i32_store16(&instance->w2c_memory, (u64)(w2c_i0), w2c_i1);
   w2c_B3:;
   w2c_j0 = 128ull;
@@ -58041,7 +58346,7 @@ static u32 w2c_kit_text__numbers__push_word_number(Machine * instance, u64 w2c_p
     w2c_j2 = 1ull;
     w2c_j1 <<= (w2c_j2 & 63);
     w2c_i1 = (u32)(w2c_j1);
-    w2c_i1 = i32_load16_u(&instance->w2c_memory, (u64)(w2c_i1) + 1049910u);
+    w2c_i1 = i32_load16_u(&instance->w2c_memory, (u64)(w2c_i1) + 1049911u);
     i32_store16(&instance->w2c_memory, (u64)(w2c_i0), w2c_i1);
     w2c_j0 = w2c_l6;
     w2c_j1 = 18446744073709551614ull;
@@ -58058,7 +58363,7 @@ static u32 w2c_kit_text__numbers__push_word_number(Machine * instance, u64 w2c_p
     w2c_j2 = 1ull;
     w2c_j1 <<= (w2c_j2 & 63);
     w2c_i1 = (u32)(w2c_j1);
-    w2c_i1 = i32_load16_u(&instance->w2c_memory, (u64)(w2c_i1) + 1049910u);
+    w2c_i1 = i32_load16_u(&instance->w2c_memory, (u64)(w2c_i1) + 1049911u);
     i32_store16(&instance->w2c_memory, (u64)(w2c_i0), w2c_i1);
     w2c_j0 = w2c_l4;
     w2c_j1 = 18446744073709551612ull;
@@ -58102,7 +58407,7 @@ static u32 w2c_kit_text__numbers__push_word_number(Machine * instance, u64 w2c_p
   w2c_j2 = 1ull;
   w2c_j1 <<= (w2c_j2 & 63);
   w2c_i1 = (u32)(w2c_j1);
-  w2c_i1 = i32_load16_u(&instance->w2c_memory, (u64)(w2c_i1) + 1049910u);
+  w2c_i1 = i32_load16_u(&instance->w2c_memory, (u64)(w2c_i1) + 1049911u);
   i32_store16(&instance->w2c_memory, (u64)(w2c_i0), w2c_i1);
   goto w2c_B3;
   w2c_B4:;
@@ -58130,7 +58435,7 @@ static u32 w2c_kit_text__numbers__push_word_number(Machine * instance, u64 w2c_p
   w2c_j2 = 1ull;
   w2c_j1 <<= (w2c_j2 & 63);
   w2c_i1 = (u32)(w2c_j1);
-  w2c_i1 = i32_load16_u(&instance->w2c_memory, (u64)(w2c_i1) + 1049910u);
+  w2c_i1 = i32_load16_u(&instance->w2c_memory, (u64)(w2c_i1) + 1049911u);
   i32_store16(&instance->w2c_memory, (u64)(w2c_i0), w2c_i1);
   w2c_j0 = w2c_p3;
   w2c_j1 = 999ull;
@@ -58161,7 +58466,7 @@ static u32 w2c_kit_text__numbers__push_word_number(Machine * instance, u64 w2c_p
   w2c_j2 = 1ull;
   w2c_j1 <<= (w2c_j2 & 63);
   w2c_i1 = (u32)(w2c_j1);
-  w2c_i1 = i32_load16_u(&instance->w2c_memory, (u64)(w2c_i1) + 1049910u);
+  w2c_i1 = i32_load16_u(&instance->w2c_memory, (u64)(w2c_i1) + 1049911u);
   i32_store16(&instance->w2c_memory, (u64)(w2c_i0), w2c_i1);
   w2c_B3:;
   w2c_j0 = w2c_l5;
@@ -58423,7 +58728,7 @@ static u32 w2c_kit_report__answers__push_refused(Machine * instance, u64 w2c_p0,
   w2c_j1 = w2c_l3;
   w2c_j0 += w2c_j1;
   w2c_l3 = w2c_j0;
-  w2c_j1 = 1050680ull;
+  w2c_j1 = 1050682ull;
   w2c_j0 -= w2c_j1;
   w2c_j1 = 7ull;
   w2c_i0 = w2c_j0 > w2c_j1;
@@ -58721,7 +59026,7 @@ static u32 w2c_kit_text__faults__push_fault(Machine * instance, u64 w2c_p0, u32 
   w2c_j1 = w2c_l3;
   w2c_j0 += w2c_j1;
   w2c_l3 = w2c_j0;
-  w2c_j1 = 1050245ull;
+  w2c_j1 = 1050247ull;
   w2c_j0 -= w2c_j1;
   w2c_j1 = 9ull;
   w2c_i0 = w2c_j0 > w2c_j1;
@@ -58740,13 +59045,13 @@ static u32 w2c_kit_text__faults__push_fault(Machine * instance, u64 w2c_p0, u32 
   w2c_i0 = (u32)(w2c_j0);
   w2c_j1 = 0ull;
   w2c_i1 = (u32)(w2c_j1);
-  w2c_i1 = i32_load16_u(&instance->w2c_memory, (u64)(w2c_i1) + 1050253u);
+  w2c_i1 = i32_load16_u(&instance->w2c_memory, (u64)(w2c_i1) + 1050255u);
   i32_store16(&instance->w2c_memory, (u64)(w2c_i0) + 8, w2c_i1);
   w2c_j0 = w2c_l3;
   w2c_i0 = (u32)(w2c_j0);
   w2c_j1 = 0ull;
   w2c_i1 = (u32)(w2c_j1);
-  w2c_j1 = i64_load(&instance->w2c_memory, (u64)(w2c_i1) + 1050245u);
+  w2c_j1 = i64_load(&instance->w2c_memory, (u64)(w2c_i1) + 1050247u);
   i64_store(&instance->w2c_memory, (u64)(w2c_i0), w2c_j1);
   w2c_B5:;
   w2c_j0 = w2c_l2;
@@ -58939,7 +59244,7 @@ static u32 w2c_kit_text__options__push_block____fc995fe602e3aacb_(Machine * inst
     w2c_j2 = 1ull;
     w2c_j1 <<= (w2c_j2 & 63);
     w2c_i1 = (u32)(w2c_j1);
-    w2c_i1 = i32_load16_u(&instance->w2c_memory, (u64)(w2c_i1) + 1049910u);
+    w2c_i1 = i32_load16_u(&instance->w2c_memory, (u64)(w2c_i1) + 1049911u);
     i32_store16(&instance->w2c_memory, (u64)(w2c_i0), w2c_i1);
     w2c_j0 = w2c_l5;
     w2c_j1 = 18446744073709551614ull;
@@ -58956,7 +59261,7 @@ static u32 w2c_kit_text__options__push_block____fc995fe602e3aacb_(Machine * inst
     w2c_j2 = 1ull;
     w2c_j1 <<= (w2c_j2 & 63);
     w2c_i1 = (u32)(w2c_j1);
-    w2c_i1 = i32_load16_u(&instance->w2c_memory, (u64)(w2c_i1) + 1049910u);
+    w2c_i1 = i32_load16_u(&instance->w2c_memory, (u64)(w2c_i1) + 1049911u);
     i32_store16(&instance->w2c_memory, (u64)(w2c_i0), w2c_i1);
     w2c_j0 = w2c_l2;
     w2c_j1 = 18446744073709551612ull;
@@ -59000,7 +59305,7 @@ static u32 w2c_kit_text__options__push_block____fc995fe602e3aacb_(Machine * inst
   w2c_j2 = 1ull;
   w2c_j1 <<= (w2c_j2 & 63);
   w2c_i1 = (u32)(w2c_j1);
-  w2c_i1 = i32_load16_u(&instance->w2c_memory, (u64)(w2c_i1) + 1049910u);
+  w2c_i1 = i32_load16_u(&instance->w2c_memory, (u64)(w2c_i1) + 1049911u);
   i32_store16(&instance->w2c_memory, (u64)(w2c_i0), w2c_i1);
   goto w2c_B3;
   w2c_B4:;
@@ -59028,7 +59333,7 @@ static u32 w2c_kit_text__options__push_block____fc995fe602e3aacb_(Machine * inst
   w2c_j2 = 1ull;
   w2c_j1 <<= (w2c_j2 & 63);
   w2c_i1 = (u32)(w2c_j1);
-  w2c_i1 = i32_load16_u(&instance->w2c_memory, (u64)(w2c_i1) + 1049910u);
+  w2c_i1 = i32_load16_u(&instance->w2c_memory, (u64)(w2c_i1) + 1049911u);
   i32_store16(&instance->w2c_memory, (u64)(w2c_i0), w2c_i1);
   w2c_j0 = w2c_l4;
   w2c_j1 = 999ull;
@@ -59059,7 +59364,7 @@ static u32 w2c_kit_text__options__push_block____fc995fe602e3aacb_(Machine * inst
   w2c_j2 = 1ull;
   w2c_j1 <<= (w2c_j2 & 63);
   w2c_i1 = (u32)(w2c_j1);
-  w2c_i1 = i32_load16_u(&instance->w2c_memory, (u64)(w2c_i1) + 1049910u);
+  w2c_i1 = i32_load16_u(&instance->w2c_memory, (u64)(w2c_i1) + 1049911u);
   i32_store16(&instance->w2c_memory, (u64)(w2c_i0), w2c_i1);
   w2c_B3:;
   w2c_j0 = w2c_l3;
@@ -59108,7 +59413,7 @@ static u32 w2c_kit_text__options__push_block____fc995fe602e3aacb_(Machine * inst
     w2c_j2 = 1ull;
     w2c_j1 <<= (w2c_j2 & 63);
     w2c_i1 = (u32)(w2c_j1);
-    w2c_i1 = i32_load16_u(&instance->w2c_memory, (u64)(w2c_i1) + 1049910u);
+    w2c_i1 = i32_load16_u(&instance->w2c_memory, (u64)(w2c_i1) + 1049911u);
     i32_store16(&instance->w2c_memory, (u64)(w2c_i0), w2c_i1);
     w2c_j0 = w2c_l5;
     w2c_j1 = 2ull;
@@ -59125,7 +59430,7 @@ static u32 w2c_kit_text__options__push_block____fc995fe602e3aacb_(Machine * inst
     w2c_j2 = 1ull;
     w2c_j1 <<= (w2c_j2 & 63);
     w2c_i1 = (u32)(w2c_j1);
-    w2c_i1 = i32_load16_u(&instance->w2c_memory, (u64)(w2c_i1) + 1049910u);
+    w2c_i1 = i32_load16_u(&instance->w2c_memory, (u64)(w2c_i1) + 1049911u);
     i32_store16(&instance->w2c_memory, (u64)(w2c_i0), w2c_i1);
     w2c_j0 = w2c_l2;
     w2c_j1 = 18446744073709551612ull;
@@ -59173,7 +59478,7 @@ static u32 w2c_kit_text__options__push_block____fc995fe602e3aacb_(Machine * inst
   w2c_j2 = 1ull;
   w2c_j1 <<= (w2c_j2 & 63);
   w2c_i1 = (u32)(w2c_j1);
-  w2c_i1 = i32_load16_u(&instance->w2c_memory, (u64)(w2c_i1) + 1049910u);
+  w2c_i1 = i32_load16_u(&instance->w2c_memory, (u64)(w2c_i1) + 1049911u);
   i32_store16(&instance->w2c_memory, (u64)(w2c_i0), w2c_i1);
   goto w2c_B9;
   w2c_B10:;
@@ -59201,7 +59506,7 @@ static u32 w2c_kit_text__options__push_block____fc995fe602e3aacb_(Machine * inst
   w2c_j2 = 1ull;
   w2c_j1 <<= (w2c_j2 & 63);
   w2c_i1 = (u32)(w2c_j1);
-  w2c_i1 = i32_load16_u(&instance->w2c_memory, (u64)(w2c_i1) + 1049910u);
+  w2c_i1 = i32_load16_u(&instance->w2c_memory, (u64)(w2c_i1) + 1049911u);
   i32_store16(&instance->w2c_memory, (u64)(w2c_i0), w2c_i1);
   w2c_j0 = w2c_l4;
   w2c_j1 = 999ull;
@@ -59232,7 +59537,7 @@ static u32 w2c_kit_text__options__push_block____fc995fe602e3aacb_(Machine * inst
   w2c_j2 = 1ull;
   w2c_j1 <<= (w2c_j2 & 63);
   w2c_i1 = (u32)(w2c_j1);
-  w2c_i1 = i32_load16_u(&instance->w2c_memory, (u64)(w2c_i1) + 1049910u);
+  w2c_i1 = i32_load16_u(&instance->w2c_memory, (u64)(w2c_i1) + 1049911u);
   i32_store16(&instance->w2c_memory, (u64)(w2c_i0), w2c_i1);
   w2c_B9:;
   w2c_j0 = 128ull;
@@ -85047,7 +85352,7 @@ static u32 w2c_tcp_web__exports__put_fault(Machine * instance, u64 w2c_p0, u64 w
   w2c_j1 = w2c_p1;
   w2c_j0 += w2c_j1;
   w2c_p1 = w2c_j0;
-  w2c_j1 = 1050812ull;
+  w2c_j1 = 1050814ull;
   w2c_j0 -= w2c_j1;
   w2c_j1 = 15ull;
   w2c_i0 = w2c_j0 > w2c_j1;
@@ -85066,13 +85371,13 @@ static u32 w2c_tcp_web__exports__put_fault(Machine * instance, u64 w2c_p0, u64 w
   w2c_i0 = (u32)(w2c_j0);
   w2c_j1 = 0ull;
   w2c_i1 = (u32)(w2c_j1);
-  w2c_j1 = i64_load(&instance->w2c_memory, (u64)(w2c_i1) + 1050820u);
+  w2c_j1 = i64_load(&instance->w2c_memory, (u64)(w2c_i1) + 1050822u);
   i64_store(&instance->w2c_memory, (u64)(w2c_i0) + 8, w2c_j1);
   w2c_j0 = w2c_p1;
   w2c_i0 = (u32)(w2c_j0);
   w2c_j1 = 0ull;
   w2c_i1 = (u32)(w2c_j1);
-  w2c_j1 = i64_load(&instance->w2c_memory, (u64)(w2c_i1) + 1050812u);
+  w2c_j1 = i64_load(&instance->w2c_memory, (u64)(w2c_i1) + 1050814u);
   i64_store(&instance->w2c_memory, (u64)(w2c_i0), w2c_j1);
   w2c_B5:;
   w2c_j0 = w2c_l7;
@@ -85444,7 +85749,7 @@ static u32 w2c_tcp_web__exports__put_fault(Machine * instance, u64 w2c_p0, u64 w
   w2c_j1 = w2c_p0;
   w2c_j0 += w2c_j1;
   w2c_p0 = w2c_j0;
-  w2c_j1 = 1050828ull;
+  w2c_j1 = 1050830ull;
   w2c_j0 -= w2c_j1;
   w2c_j1 = 14ull;
   w2c_i0 = w2c_j0 > w2c_j1;
@@ -85471,13 +85776,13 @@ static u32 w2c_tcp_web__exports__put_fault(Machine * instance, u64 w2c_p0, u64 w
   w2c_i0 = (u32)(w2c_j0);
   w2c_j1 = 0ull;
   w2c_i1 = (u32)(w2c_j1);
-  w2c_j1 = i64_load(&instance->w2c_memory, (u64)(w2c_i1) + 1050835u);
+  w2c_j1 = i64_load(&instance->w2c_memory, (u64)(w2c_i1) + 1050837u);
   i64_store(&instance->w2c_memory, (u64)(w2c_i0) + 7, w2c_j1);
   w2c_j0 = w2c_p0;
   w2c_i0 = (u32)(w2c_j0);
   w2c_j1 = 0ull;
   w2c_i1 = (u32)(w2c_j1);
-  w2c_j1 = i64_load(&instance->w2c_memory, (u64)(w2c_i1) + 1050828u);
+  w2c_j1 = i64_load(&instance->w2c_memory, (u64)(w2c_i1) + 1050830u);
   i64_store(&instance->w2c_memory, (u64)(w2c_i0), w2c_j1);
   w2c_B17:;
   w2c_j0 = w2c_p1;
@@ -85500,8 +85805,8 @@ static u32 w2c_tcp_web__exports__put_fault(Machine * instance, u64 w2c_p0, u64 w
   w2c_i0 = (u32)(w2c_j0);
   w2c_j1 = 18446744073709551615ull;
   i64_store(&instance->w2c_memory, (u64)(w2c_i0) + 56, w2c_j1);
-  w2c_j0 = 1050372ull;
-  w2c_j1 = 1050371ull;
+  w2c_j0 = 1050374ull;
+  w2c_j1 = 1050373ull;
   w2c_i2 = w2c_l13;
   w2c_i3 = 255u;
   w2c_i2 &= w2c_i3;
@@ -85642,7 +85947,7 @@ static u32 w2c_tcp_web__exports__put_fault(Machine * instance, u64 w2c_p0, u64 w
   w2c_j0 = w2c_l5;
   w2c_j1 = 8ull;
   w2c_j0 += w2c_j1;
-  w2c_j1 = 1049896ull;
+  w2c_j1 = 1049897ull;
   w2c_j2 = 1ull;
   w2c_i0 = w2c_core__fmt__formatter__Formatter__write_indented____b0b7e8f0682f909d_(instance, w2c_j0, w2c_j1, w2c_j2);
   w2c_i1 = 255u;
@@ -86823,7 +87128,7 @@ static u32 w2c_kit_report__report__push_end_line(Machine * instance, u64 w2c_p0,
   i64_store(&instance->w2c_memory, (u64)(w2c_i0) + 56, w2c_j1);
   w2c_j0 = w2c_l3;
   w2c_i0 = (u32)(w2c_j0);
-  w2c_j1 = 1049896ull;
+  w2c_j1 = 1049897ull;
   i64_store(&instance->w2c_memory, (u64)(w2c_i0) + 48, w2c_j1);
   w2c_j0 = w2c_l3;
   w2c_i0 = (u32)(w2c_j0);
@@ -86831,7 +87136,7 @@ static u32 w2c_kit_report__report__push_end_line(Machine * instance, u64 w2c_p0,
   i64_store(&instance->w2c_memory, (u64)(w2c_i0) + 32, w2c_j1);
   w2c_j0 = w2c_l3;
   w2c_i0 = (u32)(w2c_j0);
-  w2c_j1 = 1049896ull;
+  w2c_j1 = 1049897ull;
   i64_store(&instance->w2c_memory, (u64)(w2c_i0) + 24, w2c_j1);
   w2c_j0 = w2c_l3;
   w2c_i0 = (u32)(w2c_j0);
@@ -86839,7 +87144,7 @@ static u32 w2c_kit_report__report__push_end_line(Machine * instance, u64 w2c_p0,
   i64_store(&instance->w2c_memory, (u64)(w2c_i0) + 8, w2c_j1);
   w2c_j0 = w2c_l3;
   w2c_i0 = (u32)(w2c_j0);
-  w2c_j1 = 1050843ull;
+  w2c_j1 = 1050845ull;
   i64_store(&instance->w2c_memory, (u64)(w2c_i0), w2c_j1);
   w2c_j0 = w2c_l3;
   w2c_i0 = (u32)(w2c_j0);
@@ -87271,8 +87576,8 @@ static u32 w2c_std_alloc__string__String__write_fmt____63f633939ab7fc33_(Machine
   w2c_i0 = (u32)(w2c_j0);
   w2c_j1 = 18446744073709551615ull;
   i64_store(&instance->w2c_memory, (u64)(w2c_i0) + 88, w2c_j1);
-  w2c_j0 = 1050372ull;
-  w2c_j1 = 1050371ull;
+  w2c_j0 = 1050374ull;
+  w2c_j1 = 1050373ull;
   w2c_j2 = w2c_l9;
   w2c_i2 = (u32)(w2c_j2);
   w2c_i2 = i32_load8_u(&instance->w2c_memory, (u64)(w2c_i2));
@@ -87569,11 +87874,11 @@ static u32 w2c_std_alloc__string__String__write_fmt____63f633939ab7fc33_(Machine
   w2c_j0 <<= (w2c_j1 & 63);
   w2c_p1 = w2c_j0;
   w2c_i0 = (u32)(w2c_j0);
-  w2c_j0 = i64_load(&instance->w2c_memory, (u64)(w2c_i0) + 1052032u);
+  w2c_j0 = i64_load(&instance->w2c_memory, (u64)(w2c_i0) + 1054504u);
   w2c_l19 = w2c_j0;
   w2c_j0 = w2c_p1;
   w2c_i0 = (u32)(w2c_j0);
-  w2c_j0 = i64_load(&instance->w2c_memory, (u64)(w2c_i0) + 1051944u);
+  w2c_j0 = i64_load(&instance->w2c_memory, (u64)(w2c_i0) + 1054416u);
   w2c_p1 = w2c_j0;
   w2c_j0 = w2c_l2;
   w2c_i0 = (u32)(w2c_j0);
@@ -87985,11 +88290,11 @@ static u32 w2c_std_alloc__string__String__write_fmt____63f633939ab7fc33_(Machine
   w2c_j0 <<= (w2c_j1 & 63);
   w2c_p1 = w2c_j0;
   w2c_i0 = (u32)(w2c_j0);
-  w2c_j0 = i64_load(&instance->w2c_memory, (u64)(w2c_i0) + 1052152u);
+  w2c_j0 = i64_load(&instance->w2c_memory, (u64)(w2c_i0) + 1054624u);
   w2c_l11 = w2c_j0;
   w2c_j0 = w2c_p1;
   w2c_i0 = (u32)(w2c_j0);
-  w2c_j0 = i64_load(&instance->w2c_memory, (u64)(w2c_i0) + 1052120u);
+  w2c_j0 = i64_load(&instance->w2c_memory, (u64)(w2c_i0) + 1054592u);
   w2c_p1 = w2c_j0;
   w2c_j0 = w2c_l2;
   w2c_i0 = (u32)(w2c_j0);
@@ -88474,8 +88779,8 @@ static u32 w2c_kit_report__report__push_counts(Machine * instance, u64 w2c_p0, u
   i64_store(&instance->w2c_memory, (u64)(w2c_i0) + 328, w2c_j1);
   w2c_j0 = w2c_l3;
   w2c_i0 = (u32)(w2c_j0);
-  w2c_j1 = 1050542ull;
-  w2c_j2 = 1050545ull;
+  w2c_j1 = 1050544ull;
+  w2c_j2 = 1050547ull;
   w2c_i3 = w2c_l11;
   w2c_j1 = w2c_i3 ? w2c_j1 : w2c_j2;
   w2c_l5 = w2c_j1;
@@ -88486,7 +88791,7 @@ static u32 w2c_kit_report__report__push_counts(Machine * instance, u64 w2c_p0, u
   i64_store(&instance->w2c_memory, (u64)(w2c_i0) + 312, w2c_j1);
   w2c_j0 = w2c_l3;
   w2c_i0 = (u32)(w2c_j0);
-  w2c_j1 = 1050921ull;
+  w2c_j1 = 1050923ull;
   i64_store(&instance->w2c_memory, (u64)(w2c_i0) + 304, w2c_j1);
   w2c_j0 = w2c_l3;
   w2c_i0 = (u32)(w2c_j0);
@@ -88494,11 +88799,11 @@ static u32 w2c_kit_report__report__push_counts(Machine * instance, u64 w2c_p0, u
   i64_store(&instance->w2c_memory, (u64)(w2c_i0) + 288, w2c_j1);
   w2c_j0 = w2c_l3;
   w2c_i0 = (u32)(w2c_j0);
-  w2c_j1 = 1050915ull;
+  w2c_j1 = 1050917ull;
   i64_store(&instance->w2c_memory, (u64)(w2c_i0) + 280, w2c_j1);
   w2c_j0 = w2c_l3;
   w2c_i0 = (u32)(w2c_j0);
-  w2c_j1 = 1050906ull;
+  w2c_j1 = 1050908ull;
   i64_store(&instance->w2c_memory, (u64)(w2c_i0) + 256, w2c_j1);
   w2c_j0 = w2c_l3;
   w2c_i0 = (u32)(w2c_j0);
@@ -88506,7 +88811,7 @@ static u32 w2c_kit_report__report__push_counts(Machine * instance, u64 w2c_p0, u
   i64_store(&instance->w2c_memory, (u64)(w2c_i0) + 240, w2c_j1);
   w2c_j0 = w2c_l3;
   w2c_i0 = (u32)(w2c_j0);
-  w2c_j1 = 1050896ull;
+  w2c_j1 = 1050898ull;
   i64_store(&instance->w2c_memory, (u64)(w2c_i0) + 232, w2c_j1);
   w2c_j0 = w2c_l3;
   w2c_i0 = (u32)(w2c_j0);
@@ -88514,7 +88819,7 @@ static u32 w2c_kit_report__report__push_counts(Machine * instance, u64 w2c_p0, u
   i64_store(&instance->w2c_memory, (u64)(w2c_i0) + 216, w2c_j1);
   w2c_j0 = w2c_l3;
   w2c_i0 = (u32)(w2c_j0);
-  w2c_j1 = 1050885ull;
+  w2c_j1 = 1050887ull;
   i64_store(&instance->w2c_memory, (u64)(w2c_i0) + 208, w2c_j1);
   w2c_j0 = w2c_l3;
   w2c_i0 = (u32)(w2c_j0);
@@ -88522,7 +88827,7 @@ static u32 w2c_kit_report__report__push_counts(Machine * instance, u64 w2c_p0, u
   i64_store(&instance->w2c_memory, (u64)(w2c_i0) + 192, w2c_j1);
   w2c_j0 = w2c_l3;
   w2c_i0 = (u32)(w2c_j0);
-  w2c_j1 = 1050875ull;
+  w2c_j1 = 1050877ull;
   i64_store(&instance->w2c_memory, (u64)(w2c_i0) + 184, w2c_j1);
   w2c_j0 = w2c_l3;
   w2c_i0 = (u32)(w2c_j0);
@@ -88690,7 +88995,7 @@ static u32 w2c_kit_report__report__push_counts(Machine * instance, u64 w2c_p0, u
   w2c_j1 = w2c_l6;
   w2c_j0 += w2c_j1;
   w2c_l6 = w2c_j0;
-  w2c_j1 = 1050875ull;
+  w2c_j1 = 1050877ull;
   w2c_j0 -= w2c_j1;
   w2c_j1 = 9ull;
   w2c_i0 = w2c_j0 > w2c_j1;
@@ -88709,13 +89014,13 @@ static u32 w2c_kit_report__report__push_counts(Machine * instance, u64 w2c_p0, u
   w2c_i0 = (u32)(w2c_j0);
   w2c_j1 = 0ull;
   w2c_i1 = (u32)(w2c_j1);
-  w2c_i1 = i32_load16_u(&instance->w2c_memory, (u64)(w2c_i1) + 1050883u);
+  w2c_i1 = i32_load16_u(&instance->w2c_memory, (u64)(w2c_i1) + 1050885u);
   i32_store16(&instance->w2c_memory, (u64)(w2c_i0) + 8, w2c_i1);
   w2c_j0 = w2c_l6;
   w2c_i0 = (u32)(w2c_j0);
   w2c_j1 = 0ull;
   w2c_i1 = (u32)(w2c_j1);
-  w2c_j1 = i64_load(&instance->w2c_memory, (u64)(w2c_i1) + 1050875u);
+  w2c_j1 = i64_load(&instance->w2c_memory, (u64)(w2c_i1) + 1050877u);
   i64_store(&instance->w2c_memory, (u64)(w2c_i0), w2c_j1);
   w2c_B5:;
   w2c_j0 = w2c_l3;
@@ -88802,7 +89107,7 @@ static u32 w2c_kit_report__report__push_counts(Machine * instance, u64 w2c_p0, u
   w2c_j1 = w2c_l6;
   w2c_j0 += w2c_j1;
   w2c_l6 = w2c_j0;
-  w2c_j1 = 1050885ull;
+  w2c_j1 = 1050887ull;
   w2c_j0 -= w2c_j1;
   w2c_j1 = 10ull;
   w2c_i0 = w2c_j0 > w2c_j1;
@@ -88825,13 +89130,13 @@ static u32 w2c_kit_report__report__push_counts(Machine * instance, u64 w2c_p0, u
   w2c_i0 = (u32)(w2c_j0);
   w2c_j1 = 0ull;
   w2c_i1 = (u32)(w2c_j1);
-  w2c_i1 = i32_load(&instance->w2c_memory, (u64)(w2c_i1) + 1050892u);
+  w2c_i1 = i32_load(&instance->w2c_memory, (u64)(w2c_i1) + 1050894u);
   i32_store(&instance->w2c_memory, (u64)(w2c_i0) + 7, w2c_i1);
   w2c_j0 = w2c_l6;
   w2c_i0 = (u32)(w2c_j0);
   w2c_j1 = 0ull;
   w2c_i1 = (u32)(w2c_j1);
-  w2c_j1 = i64_load(&instance->w2c_memory, (u64)(w2c_i1) + 1050885u);
+  w2c_j1 = i64_load(&instance->w2c_memory, (u64)(w2c_i1) + 1050887u);
   i64_store(&instance->w2c_memory, (u64)(w2c_i0), w2c_j1);
   w2c_B10:;
   w2c_j0 = w2c_l3;
@@ -88851,7 +89156,7 @@ static u32 w2c_kit_report__report__push_counts(Machine * instance, u64 w2c_p0, u
   w2c_j0 = w2c_l3;
   w2c_j1 = 112ull;
   w2c_j0 += w2c_j1;
-  w2c_j1 = 1050885ull;
+  w2c_j1 = 1050887ull;
   w2c_j2 = 11ull;
   w2c_i0 = w2c_core__fmt__formatter__Formatter__write_indented____66b2f40cbd927778_(instance, w2c_j0, w2c_j1, w2c_j2);
   w2c_i1 = 255u;
@@ -88929,7 +89234,7 @@ static u32 w2c_kit_report__report__push_counts(Machine * instance, u64 w2c_p0, u
   w2c_j1 = w2c_l6;
   w2c_j0 += w2c_j1;
   w2c_l6 = w2c_j0;
-  w2c_j1 = 1050896ull;
+  w2c_j1 = 1050898ull;
   w2c_j0 -= w2c_j1;
   w2c_j1 = 9ull;
   w2c_i0 = w2c_j0 > w2c_j1;
@@ -88948,13 +89253,13 @@ static u32 w2c_kit_report__report__push_counts(Machine * instance, u64 w2c_p0, u
   w2c_i0 = (u32)(w2c_j0);
   w2c_j1 = 0ull;
   w2c_i1 = (u32)(w2c_j1);
-  w2c_i1 = i32_load16_u(&instance->w2c_memory, (u64)(w2c_i1) + 1050904u);
+  w2c_i1 = i32_load16_u(&instance->w2c_memory, (u64)(w2c_i1) + 1050906u);
   i32_store16(&instance->w2c_memory, (u64)(w2c_i0) + 8, w2c_i1);
   w2c_j0 = w2c_l6;
   w2c_i0 = (u32)(w2c_j0);
   w2c_j1 = 0ull;
   w2c_i1 = (u32)(w2c_j1);
-  w2c_j1 = i64_load(&instance->w2c_memory, (u64)(w2c_i1) + 1050896u);
+  w2c_j1 = i64_load(&instance->w2c_memory, (u64)(w2c_i1) + 1050898u);
   i64_store(&instance->w2c_memory, (u64)(w2c_i0), w2c_j1);
   w2c_B15:;
   w2c_j0 = w2c_l3;
@@ -88974,7 +89279,7 @@ static u32 w2c_kit_report__report__push_counts(Machine * instance, u64 w2c_p0, u
   w2c_j0 = w2c_l3;
   w2c_j1 = 112ull;
   w2c_j0 += w2c_j1;
-  w2c_j1 = 1050896ull;
+  w2c_j1 = 1050898ull;
   w2c_j2 = 10ull;
   w2c_i0 = w2c_core__fmt__formatter__Formatter__write_indented____66b2f40cbd927778_(instance, w2c_j0, w2c_j1, w2c_j2);
   w2c_i1 = 255u;
@@ -89052,7 +89357,7 @@ static u32 w2c_kit_report__report__push_counts(Machine * instance, u64 w2c_p0, u
   w2c_j1 = w2c_l6;
   w2c_j0 += w2c_j1;
   w2c_l6 = w2c_j0;
-  w2c_j1 = 1050906ull;
+  w2c_j1 = 1050908ull;
   w2c_j0 -= w2c_j1;
   w2c_j1 = 8ull;
   w2c_i0 = w2c_j0 > w2c_j1;
@@ -89071,13 +89376,13 @@ static u32 w2c_kit_report__report__push_counts(Machine * instance, u64 w2c_p0, u
   w2c_i0 = (u32)(w2c_j0);
   w2c_j1 = 0ull;
   w2c_i1 = (u32)(w2c_j1);
-  w2c_i1 = i32_load8_u(&instance->w2c_memory, (u64)(w2c_i1) + 1050914u);
+  w2c_i1 = i32_load8_u(&instance->w2c_memory, (u64)(w2c_i1) + 1050916u);
   i32_store8(&instance->w2c_memory, (u64)(w2c_i0) + 8, w2c_i1);
   w2c_j0 = w2c_l6;
   w2c_i0 = (u32)(w2c_j0);
   w2c_j1 = 0ull;
   w2c_i1 = (u32)(w2c_j1);
-  w2c_j1 = i64_load(&instance->w2c_memory, (u64)(w2c_i1) + 1050906u);
+  w2c_j1 = i64_load(&instance->w2c_memory, (u64)(w2c_i1) + 1050908u);
   i64_store(&instance->w2c_memory, (u64)(w2c_i0), w2c_j1);
   w2c_B20:;
   w2c_j0 = w2c_l3;
@@ -89097,7 +89402,7 @@ static u32 w2c_kit_report__report__push_counts(Machine * instance, u64 w2c_p0, u
   w2c_j0 = w2c_l3;
   w2c_j1 = 112ull;
   w2c_j0 += w2c_j1;
-  w2c_j1 = 1050906ull;
+  w2c_j1 = 1050908ull;
   w2c_j2 = 9ull;
   w2c_i0 = w2c_core__fmt__formatter__Formatter__write_indented____66b2f40cbd927778_(instance, w2c_j0, w2c_j1, w2c_j2);
   w2c_i1 = 255u;
@@ -89175,7 +89480,7 @@ static u32 w2c_kit_report__report__push_counts(Machine * instance, u64 w2c_p0, u
   w2c_j1 = w2c_l6;
   w2c_j0 += w2c_j1;
   w2c_l6 = w2c_j0;
-  w2c_j1 = 1050915ull;
+  w2c_j1 = 1050917ull;
   w2c_j0 -= w2c_j1;
   w2c_j1 = 5ull;
   w2c_i0 = w2c_j0 > w2c_j1;
@@ -89194,13 +89499,13 @@ static u32 w2c_kit_report__report__push_counts(Machine * instance, u64 w2c_p0, u
   w2c_i0 = (u32)(w2c_j0);
   w2c_j1 = 0ull;
   w2c_i1 = (u32)(w2c_j1);
-  w2c_i1 = i32_load16_u(&instance->w2c_memory, (u64)(w2c_i1) + 1050919u);
+  w2c_i1 = i32_load16_u(&instance->w2c_memory, (u64)(w2c_i1) + 1050921u);
   i32_store16(&instance->w2c_memory, (u64)(w2c_i0) + 4, w2c_i1);
   w2c_j0 = w2c_l6;
   w2c_i0 = (u32)(w2c_j0);
   w2c_j1 = 0ull;
   w2c_i1 = (u32)(w2c_j1);
-  w2c_i1 = i32_load(&instance->w2c_memory, (u64)(w2c_i1) + 1050915u);
+  w2c_i1 = i32_load(&instance->w2c_memory, (u64)(w2c_i1) + 1050917u);
   i32_store(&instance->w2c_memory, (u64)(w2c_i0), w2c_i1);
   w2c_B25:;
   w2c_j0 = w2c_l3;
@@ -89220,7 +89525,7 @@ static u32 w2c_kit_report__report__push_counts(Machine * instance, u64 w2c_p0, u
   w2c_j0 = w2c_l3;
   w2c_j1 = 112ull;
   w2c_j0 += w2c_j1;
-  w2c_j1 = 1050915ull;
+  w2c_j1 = 1050917ull;
   w2c_j2 = 6ull;
   w2c_i0 = w2c_core__fmt__formatter__Formatter__write_indented____66b2f40cbd927778_(instance, w2c_j0, w2c_j1, w2c_j2);
   w2c_i1 = 255u;
@@ -89298,7 +89603,7 @@ static u32 w2c_kit_report__report__push_counts(Machine * instance, u64 w2c_p0, u
   w2c_j1 = w2c_l6;
   w2c_j0 += w2c_j1;
   w2c_l6 = w2c_j0;
-  w2c_j1 = 1050921ull;
+  w2c_j1 = 1050923ull;
   w2c_j0 -= w2c_j1;
   w2c_j1 = 6ull;
   w2c_i0 = w2c_j0 > w2c_j1;
@@ -89321,13 +89626,13 @@ static u32 w2c_kit_report__report__push_counts(Machine * instance, u64 w2c_p0, u
   w2c_i0 = (u32)(w2c_j0);
   w2c_j1 = 0ull;
   w2c_i1 = (u32)(w2c_j1);
-  w2c_i1 = i32_load(&instance->w2c_memory, (u64)(w2c_i1) + 1050924u);
+  w2c_i1 = i32_load(&instance->w2c_memory, (u64)(w2c_i1) + 1050926u);
   i32_store(&instance->w2c_memory, (u64)(w2c_i0) + 3, w2c_i1);
   w2c_j0 = w2c_l6;
   w2c_i0 = (u32)(w2c_j0);
   w2c_j1 = 0ull;
   w2c_i1 = (u32)(w2c_j1);
-  w2c_i1 = i32_load(&instance->w2c_memory, (u64)(w2c_i1) + 1050921u);
+  w2c_i1 = i32_load(&instance->w2c_memory, (u64)(w2c_i1) + 1050923u);
   i32_store(&instance->w2c_memory, (u64)(w2c_i0), w2c_i1);
   w2c_B30:;
   w2c_j0 = w2c_l3;
@@ -89347,7 +89652,7 @@ static u32 w2c_kit_report__report__push_counts(Machine * instance, u64 w2c_p0, u
   w2c_j0 = w2c_l3;
   w2c_j1 = 112ull;
   w2c_j0 += w2c_j1;
-  w2c_j1 = 1050921ull;
+  w2c_j1 = 1050923ull;
   w2c_j2 = 7ull;
   w2c_i0 = w2c_core__fmt__formatter__Formatter__write_indented____66b2f40cbd927778_(instance, w2c_j0, w2c_j1, w2c_j2);
   w2c_i1 = 255u;
@@ -90522,7 +90827,7 @@ static u32 w2c_rattle__export_tcp_web_list(Machine * instance, u64 w2c_p0, u64 w
     i64_store(&instance->w2c_memory, (u64)(w2c_i0) + 192, w2c_j1);
     w2c_j0 = w2c_l9;
     w2c_i0 = (u32)(w2c_j0);
-    w2c_j1 = 1049896ull;
+    w2c_j1 = 1049897ull;
     i64_store(&instance->w2c_memory, (u64)(w2c_i0) + 232, w2c_j1);
     w2c_j0 = w2c_l9;
     w2c_i0 = (u32)(w2c_j0);
@@ -90674,7 +90979,7 @@ static u32 w2c_rattle__export_tcp_web_list(Machine * instance, u64 w2c_p0, u64 w
     w2c_j0 = w2c_l9;
     w2c_j1 = 256ull;
     w2c_j0 += w2c_j1;
-    w2c_j1 = 1049896ull;
+    w2c_j1 = 1049897ull;
     w2c_j2 = 1ull;
     w2c_i0 = w2c_core__fmt__formatter__Formatter__write_indented____bc6dd3c8388e7ac9_(instance, w2c_j0, w2c_j1, w2c_j2);
     w2c_l23 = w2c_i0;
@@ -90968,7 +91273,7 @@ static u32 w2c_rattle__export_tcp_web_list(Machine * instance, u64 w2c_p0, u64 w
   i64_store(&instance->w2c_memory, (u64)(w2c_i0) + 360, w2c_j1);
   w2c_j0 = w2c_l9;
   w2c_i0 = (u32)(w2c_j0);
-  w2c_j1 = 1050323ull;
+  w2c_j1 = 1050325ull;
   i64_store(&instance->w2c_memory, (u64)(w2c_i0) + 352, w2c_j1);
   w2c_j0 = w2c_l9;
   w2c_i0 = (u32)(w2c_j0);
@@ -90976,7 +91281,7 @@ static u32 w2c_rattle__export_tcp_web_list(Machine * instance, u64 w2c_p0, u64 w
   i64_store(&instance->w2c_memory, (u64)(w2c_i0) + 336, w2c_j1);
   w2c_j0 = w2c_l9;
   w2c_i0 = (u32)(w2c_j0);
-  w2c_j1 = 1050317ull;
+  w2c_j1 = 1050319ull;
   i64_store(&instance->w2c_memory, (u64)(w2c_i0) + 328, w2c_j1);
   w2c_j0 = w2c_l9;
   w2c_i0 = (u32)(w2c_j0);
@@ -91076,7 +91381,7 @@ static u32 w2c_rattle__export_tcp_web_list(Machine * instance, u64 w2c_p0, u64 w
   w2c_j1 = w2c_l8;
   w2c_j0 += w2c_j1;
   w2c_l8 = w2c_j0;
-  w2c_j1 = 1050317ull;
+  w2c_j1 = 1050319ull;
   w2c_j0 -= w2c_j1;
   w2c_j1 = 5ull;
   w2c_i0 = w2c_j0 > w2c_j1;
@@ -91095,13 +91400,13 @@ static u32 w2c_rattle__export_tcp_web_list(Machine * instance, u64 w2c_p0, u64 w
   w2c_i0 = (u32)(w2c_j0);
   w2c_j1 = 0ull;
   w2c_i1 = (u32)(w2c_j1);
-  w2c_i1 = i32_load16_u(&instance->w2c_memory, (u64)(w2c_i1) + 1050321u);
+  w2c_i1 = i32_load16_u(&instance->w2c_memory, (u64)(w2c_i1) + 1050323u);
   i32_store16(&instance->w2c_memory, (u64)(w2c_i0) + 4, w2c_i1);
   w2c_j0 = w2c_l8;
   w2c_i0 = (u32)(w2c_j0);
   w2c_j1 = 0ull;
   w2c_i1 = (u32)(w2c_j1);
-  w2c_i1 = i32_load(&instance->w2c_memory, (u64)(w2c_i1) + 1050317u);
+  w2c_i1 = i32_load(&instance->w2c_memory, (u64)(w2c_i1) + 1050319u);
   i32_store(&instance->w2c_memory, (u64)(w2c_i0), w2c_i1);
   w2c_B29:;
   w2c_j0 = w2c_l9;
@@ -91183,7 +91488,7 @@ static u32 w2c_rattle__export_tcp_web_list(Machine * instance, u64 w2c_p0, u64 w
   w2c_j1 = w2c_l8;
   w2c_j0 += w2c_j1;
   w2c_l8 = w2c_j0;
-  w2c_j1 = 1050323ull;
+  w2c_j1 = 1050325ull;
   w2c_j0 -= w2c_j1;
   w2c_j1 = 10ull;
   w2c_i0 = w2c_j0 > w2c_j1;
@@ -91206,13 +91511,13 @@ static u32 w2c_rattle__export_tcp_web_list(Machine * instance, u64 w2c_p0, u64 w
   w2c_i0 = (u32)(w2c_j0);
   w2c_j1 = 0ull;
   w2c_i1 = (u32)(w2c_j1);
-  w2c_i1 = i32_load(&instance->w2c_memory, (u64)(w2c_i1) + 1050330u);
+  w2c_i1 = i32_load(&instance->w2c_memory, (u64)(w2c_i1) + 1050332u);
   i32_store(&instance->w2c_memory, (u64)(w2c_i0) + 7, w2c_i1);
   w2c_j0 = w2c_l8;
   w2c_i0 = (u32)(w2c_j0);
   w2c_j1 = 0ull;
   w2c_i1 = (u32)(w2c_j1);
-  w2c_j1 = i64_load(&instance->w2c_memory, (u64)(w2c_i1) + 1050323u);
+  w2c_j1 = i64_load(&instance->w2c_memory, (u64)(w2c_i1) + 1050325u);
   i64_store(&instance->w2c_memory, (u64)(w2c_i0), w2c_j1);
   w2c_B34:;
   w2c_j0 = w2c_l9;
@@ -91228,7 +91533,7 @@ static u32 w2c_rattle__export_tcp_web_list(Machine * instance, u64 w2c_p0, u64 w
   w2c_j0 = w2c_l9;
   w2c_j1 = 256ull;
   w2c_j0 += w2c_j1;
-  w2c_j1 = 1050323ull;
+  w2c_j1 = 1050325ull;
   w2c_j2 = 11ull;
   w2c_i0 = w2c_core__fmt__formatter__Formatter__write_indented____bc6dd3c8388e7ac9_(instance, w2c_j0, w2c_j1, w2c_j2);
   w2c_i1 = 255u;
@@ -92338,10 +92643,10 @@ static u32 w2c_rattle__export_tcp_web_replay(Machine * instance, u64 w2c_p0, u64
 #endif
 
 /*
- * A call of the module in C. Its memory is one piece: its stack and its data, the records of the call, the input, room for what is
- * written, and the block that the call works in.
+ * A call of the module in C. Its memory is one piece: its stack and its data, the records of the call, a word of at most 64 bytes,
+ * the input, room for what is written, and the block that the call works in.
  */
-enum { AT_BLOCK = (HEAP_BASE + 15) / 16 * 16, AT_COUNT = AT_BLOCK + 16, AT_LINE = AT_COUNT + 8, AT_INPUT = AT_LINE + 8 };
+enum { AT_BLOCK = (HEAP_BASE + 15) / 16 * 16, AT_COUNT = AT_BLOCK + 16, AT_LINE = AT_COUNT + 8, AT_WORD = AT_LINE + 8, AT_INPUT = AT_WORD + 64 };
 
 struct work {
     Machine machine;
@@ -92357,6 +92662,7 @@ struct work {
 #define MODULE(name) w2c_tcp_web_##name
 #define BLOCK(work) &(work)->machine, AT_BLOCK
 #define INPUT(work) AT_INPUT, (work)->length
+#define WORD(work, word) (memcpy((work)->memory + AT_WORD, word, strlen(word)), AT_WORD), strlen(word)
 #define OUTPUT(work) (work)->out, (work)->room
 #define COUNT(work) AT_COUNT
 #define LINE(work) AT_LINE
@@ -92401,7 +92707,7 @@ static void end(struct work *work) { free(work->memory); }
 #endif
 
 /* What the programs share around the module's calls: words, a file's bytes, and what becomes of an answer. PROGRAM is the program's name. */
-enum { STATUS_OF_FAULT = 2, WELL = 0, REFUSED = 1, FAULT = 2 };
+enum { STATUS_OF_FAULT = 2, WELL = 0, REFUSED = 1, FAULT = 2, LITTLE_MEMORY = 3, LITTLE_ROOM = 4 };
 enum { WORDS = 40, BAD_LINE = 41, NO_MEMORY = 42, NO_INPUT = 43, NO_OUTPUT = 44 };
 
 /* A text that grows. */
@@ -92494,7 +92800,7 @@ static int run(module_call *call, const struct text *input, outcome *report)
             break;
         u32 answer = call(&work);
         look(&work);
-        if (answer <= FAULT)
+        if (answer != LITTLE_MEMORY && answer != LITTLE_ROOM)
             status = report(answer, &work);
         end(&work);
         wanted = size == wanted ? size_after(wanted, input->length) : 0;
