@@ -240,7 +240,7 @@ enum {
 
 /* The bytes of stack that a call takes at most; and of the portable file, on any machine that it was tried on. */
 #define TCPCORE_STACK 2048
-#define TCPCORE_PORTABLE_STACK 6144
+#define TCPCORE_PORTABLE_STACK 7168
 
 /* The bytes of stack that tcpcore_connection_connect and tcpcore_connection_listen take at most; a connection's other calls take less
    than TCPCORE_STACK. */
