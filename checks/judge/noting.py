@@ -379,7 +379,7 @@ def compare(cases, program, name, data, address):
 
 # tshark's name of each note that it has too. Where the packets differ, those that are noted here alone, and by tshark 4.0 alone: it guesses by
 # times whether what fills a gap, or is sent again, was late, calls a segment with new and old text out of order, wants two duplicates before a
-# fast retransmission, and each within 20 ms of one, counts a duplicate where nothing is outstanding, and a keep-alive where a byte is.
+# fast retransmission, and each within 20 ms of one, counts a duplicate where nothing is outstanding, and a keep-alive where a number is.
 ANALYSED = {"Retransmission": "retransmission", "FastRetransmission": "fast_retransmission", "OutOfOrder": "out_of_order",
             "PreviousNotSeen": "lost_segment", "DuplicateAck": "duplicate_ack", "ZeroWindow": "zero_window", "WindowFull": "window_full",
             "KeepAlive": "keep_alive"}
@@ -394,6 +394,8 @@ DIFFERENT = {
     "no duplicate acknowledgements": {"DuplicateAck": ([], [4])},
     "a gap that is filled from its middle": {"Retransmission": ([], [7, 8]), "OutOfOrder": ([7, 8], [])},
     "keep-alives": {"Retransmission": ([10], []), "KeepAlive": ([], [10])},
+    "segments without text before SND.NXT": {"KeepAlive": ([], [8, 11])},
+    "blocks before the acknowledgement": {"DuplicateAck": ([], [7])},
 }
 
 
