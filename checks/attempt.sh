@@ -1,5 +1,5 @@
 #!/usr/bin/env bash
-# checks/attempt.sh [--again] WORDS.. runs one check of behind.mk, within 40 minutes, so that one that waits for ever is seen as such, and
+# checks/attempt.sh [--again] WORDS.. runs one check of behind.mk, within an hour, so that one that waits for ever is seen as such, and
 # says how long it took. One that fails is named, with its status; with --again it is run once more. Each that passes is a line of
 # the file that PASSED_FILE names.
 set -euo pipefail
@@ -12,7 +12,7 @@ if [[ $1 == --again ]]; then
 fi
 for ((turn = 1; turn <= turns; turn++)); do
     start=$SECONDS status=0 told=$(wc -c 2>/dev/null <"${LEFT_OUT_FILE-/dev/null}" || echo 0)
-    timeout --kill-after=1m 40m "$@" </dev/null || status=$?
+    timeout --kill-after=1m 60m "$@" </dev/null || status=$?
     if ((status == 0)); then
         echo "behind: '$*' passed in $((SECONDS - start)) seconds"
         echo "$*" >>"$PASSED_FILE"

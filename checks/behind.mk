@@ -11,12 +11,16 @@ timed := checks/attempt.sh --again
 
 builds := prebuilt module portable_file program_files
 steady := debian portable machine tcpcore companions dist rust bindings bench tcpkit aarch64 lwip segments \
-    statuses memory readme paste lint lib_test differential
+    statuses memory readme paste lint lib_test gate_test programs differential
 clocked := examples live usernet capture tcptest
 beside := release judge page site
 
-.PHONY: all $(builds) $(steady) $(clocked) $(beside)
-all: $(builds) $(steady) $(clocked) $(beside)
+.PHONY: all wrong_bodies $(builds) $(steady) $(clocked) $(beside)
+all: wrong_bodies $(builds) $(steady) $(clocked) $(beside)
+
+# Beside all others, on what they leave of the processors, since nothing waits for it: but behind the builds, which prove the libraries for C
+# that it goes on with.
+wrong_bodies: | $(builds) ; nice -n 19 python3 checks/gate/wrong_bodies.py
 
 # The libraries and the module are built over what the gate has proved, one after another, since each takes all processors.
 prebuilt: ; c/dist/prebuilt.sh
@@ -30,6 +34,8 @@ readme: ; $(once) python3 checks/docs/readme.py
 paste: ; $(once) python3 checks/docs/paste.py
 lint: ; $(once) checks/lint.sh
 lib_test: ; $(once) checks/lib_test.sh
+gate_test: ; $(once) python3 checks/gate/bodies_test.py
+programs: ; $(once) checks/programs/test.sh
 differential: ; $(once) checks/differential/test.sh
 debian: ; $(once) checks/release/debian.sh
 
@@ -57,5 +63,5 @@ tcptest: capture ; $(timed) apps/tcptest/test.sh
 # What it installs for 32 bits takes the compilers for other machines away, which those before it want.
 release: ; $(once) checks/release/test.sh "$(library)"
 judge: ; $(timed) checks/judge/test.sh "$(top)/crates/tcpjudge/out/tcpjudge" "$(library)" --short
-page: judge ; $(once) apps/web/test.sh apps/web/out/tcp_web.wasm
+page: ; $(timed) apps/web/test.sh apps/web/out/tcp_web.wasm
 site: page ; $(once) docs/site/test.sh

@@ -92,6 +92,10 @@ if command -v rt >/dev/null; then
             queue "$name" run_stored "$crate"
         fi
     done
+    for name in $(sed -nE 's/^(\w+):.*/\1/p' checks/programs/programs.txt); do
+        (($# == 0)) || [[ " $* " == *" $name "* ]] || continue
+        queue "$name" checks/programs/test.sh "$name"
+    done
 else
     left_out=$((left_out + 1))
     echo "quick: left out: the programs of crates/: no kit here"

@@ -1,6 +1,6 @@
-// An echo server for many clients on a TUN device of Linux: a connection for each, which keeps its own times. Without congestion control and
-// delayed acknowledgements, and for a network that is trusted: who sends SYNs from many addresses takes all places for the three minutes
-// that a SYN may be without an answer. tun_http.c has all three.
+// An echo server for many clients on a TUN device of Linux: a connection for each, which keeps its own times, under CUBIC's window, with
+// delayed acknowledgements. It is for a network that is trusted: who sends SYNs from many addresses takes all places for the three minutes
+// that a SYN may be without an answer, and a client that has vanished keeps its own. tun_http.c has limits for both.
 //
 //     cc -std=c11 -O2 -Irelease -Ic/companions examples/tun_echo.c c/companions/ip.c release/tcpcore.c -o tun_echo
 //     sudo ./tun_echo tun0 10.9.0.2/24 7 &
@@ -35,6 +35,7 @@ static struct client clients[CLIENTS];
 static struct ip_net own;
 static tcpcore_config config = TCPCORE_CONFIG_DEFAULT;
 static struct tcpcore_connection_rules rules = TCPCORE_CONNECTION_RULES_DEFAULT;
+static const struct tcpcore_policy policy = TCPCORE_POLICY_DEFAULT;
 
 static uint64_t microseconds(void)
 {
@@ -68,7 +69,11 @@ static struct client *client_of(tcpcore_addr src, const unsigned char *segment, 
     client->addr = src;
     memcpy(client->port, segment, 2);
     client->is_used = tcpcore_connection_listen(&client->connection, &config, &rules, now, client->memory, sizeof client->memory) == TCPCORE_DONE;
-    return client->is_used ? client : NULL;
+    if (!client->is_used)
+        return NULL;
+    tcpcore_connection_set_congestion(&client->connection, TCPCORE_CONGESTION_CUBIC);
+    tcpcore_connection_set_policy(&client->connection, &policy);
+    return client;
 }
 
 /* Sends back what came, as far as there is room; behind the last of it closes. */

@@ -2,7 +2,7 @@
 # C++'s header over the portable file, which c/portable/build.sh makes; Go's package over release/tcpcore.c and over the native library
 # (the first argument, or crates/tcp_c's own); and Python's package as it is installed, over release/tcpcore.c, which has machine code on
 # this machine, the same in C, and the native library: one test each. Each language, and C, runs the scripted world of
-# crates/test_connections, too, and prints the same; hostile.sh is the long form of their tests by hostile calls. It installs g++, golang-go
+# checks/programs/test_connections, too, and prints the same; hostile.sh is the long form of their tests by hostile calls. It installs g++, golang-go
 # and Python's own by apt-get where this machine lacks them; where that fails it fails, or, with LEAVE_OUT=1 in the environment, says what it
 # leaves out.
 set -euo pipefail
@@ -28,7 +28,7 @@ is_native() {
 }
 
 # A program that reads the script of one world of two connections prints what the proved ends themselves do in Rattle.
-world=$PWD/../../crates/test_connections
+world=$PWD/../../checks/programs/test_connections
 in_world() {
     if ! timeout 60 "$@" <"$world/stdin" >out/world || ! diff out/world "$world/stdout" >out/differs; then
         echo "bindings: '$*' prints another world:"

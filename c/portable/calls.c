@@ -352,6 +352,12 @@ static uint32_t tcp_c_resend_first(struct handle *handle)
     ANSWER(handle, w2c_tcp_c_resend_first(M, AT_HANDLE));
 }
 
+static uint32_t tcp_c_resend(struct handle *handle, uint64_t from, uint64_t to)
+{
+    WITH_END(handle);
+    ANSWER(handle, w2c_tcp_c_resend(M, AT_HANDLE, from, to));
+}
+
 static uint32_t tcp_c_parts(struct handle *handle, uint8_t *header, size_t room, struct parts *parts)
 {
     WITH_END(handle);

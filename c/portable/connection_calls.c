@@ -3,12 +3,13 @@
 
 /* crates/tcp_c: the mark of a handle that holds a connection, and how many bytes of the block it takes from its address on. */
 #define MARK_OF_CONNECTION UINT64_C(0x764350526174746c)
-#define CONNECTION_SIZE 880
+#define CONNECTION_SIZE 1088
 #define CONNECTION_MARK UINT32_C(0x70636f6e)
 
 static const u8 OF_CONNECTION_RULES[] = {8, 8, 8, 8, 8, 8, 8, 8, 8, 4, 4, 0};
 static const u8 OF_CONNECTION_SEGMENT[] = {8, 8, 8, 1, 1, 1, 1, 0};
 static const u8 OF_CONGESTION[] = {8, 8, 8, 4, 4, 0};
+static const u8 OF_POLICY[] = {8, 8, 8, 4, 0};
 
 #define WITH_CONNECTION(handle) \
     struct call call; \
@@ -238,6 +239,12 @@ static uint32_t tcp_c_connection_resend_first(struct handle *handle, uint64_t no
     ANSWER_OF_CONNECTION(handle, w2c_tcp_c_connection_resend_first(M, AT_HANDLE, now));
 }
 
+static uint32_t tcp_c_connection_resend(struct handle *handle, uint64_t now, uint64_t from, uint64_t to)
+{
+    WITH_CONNECTION(handle);
+    ANSWER_OF_CONNECTION(handle, w2c_tcp_c_connection_resend(M, AT_HANDLE, now, from, to));
+}
+
 static uint32_t tcp_c_connection_set_congestion(struct handle *handle, uint32_t congestion)
 {
     WITH_CONNECTION(handle);
@@ -252,4 +259,11 @@ static uint32_t tcp_c_connection_congestion(struct handle *handle, struct tcpcor
     carry_record(congestion, call.frame + AT_RECORD, OF_CONGESTION);
     END_OF_CONNECTION(handle);
     return answer;
+}
+
+static uint32_t tcp_c_connection_set_policy(struct handle *handle, const struct tcpcore_policy *policy)
+{
+    WITH_CONNECTION(handle);
+    carry_record(call.frame + AT_RECORD, policy, OF_POLICY);
+    ANSWER_OF_CONNECTION(handle, w2c_tcp_c_connection_set_policy(M, AT_HANDLE, AT_RECORD));
 }

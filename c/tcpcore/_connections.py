@@ -8,11 +8,12 @@ from typing import Optional
 
 from tcpcore._ends import Held, config_struct
 from tcpcore._library import (
-    EMIT_FIRST, REFUSALS, Answer, ArriveReportStruct, CongestionStruct, ConnectionRulesStruct, ConnectionSegmentStruct, EndStruct, Refused,
-    TrainStruct, address, arrive_report_of, library, microseconds, number, octets, reach, train_of,
+    EMIT_FIRST, REFUSALS, Answer, ArriveReportStruct, CongestionStruct, ConnectionRulesStruct, ConnectionSegmentStruct, EndStruct, PolicyStruct,
+    Refused, TrainStruct, address, arrive_report_of, library, microseconds, number, octets, reach, train_of,
 )
 from tcpcore._records import (
-    EMIT_ROOM, NEVER, TRAIN_ROOM, Address, ArriveReport, Buffer, Config, Congestion, CongestionWindow, Emission, Rules, Timer, Train,
+    EMIT_ROOM, NEVER, TRAIN_ROOM, Address, ArriveReport, Buffer, Config, Congestion, CongestionWindow, Emission, Policy, Rules, Timer,
+    Train,
 )
 
 
@@ -56,7 +57,7 @@ class Connection(Held):
     Threads, `room` and freeing are as of an End.
 
     Where the path may be congested `connection.set_congestion(Congestion.CUBIC)` behind its making has it hold back by itself what that lets
-    no further (RFC 9438). A program with congestion control of its own sets `window`: `emit` holds back what ends more than so many numbers
+    no further (RFC 9438), and `connection.set_policy(Policy())` has acknowledgements and small segments wait (RFC 9293, 3.7.4 and 3.8.6). A program with congestion control of its own sets `window`: `emit` holds back what ends more than so many numbers
     past SND.UNA, unless nothing before it is in flight. None, the default, holds nothing back."""
 
     noun = "a connection"
@@ -212,7 +213,19 @@ class Connection(Held):
         self.ask("congestion", told)
         return CongestionWindow(Congestion(told.congestion), told.cwnd, told.ssthresh, told.smss, told.is_recovering == 1)
 
+    def set_policy(self, policy: Policy = Policy()) -> None:
+        """Chooses when an acknowledgement and a small segment go out, at any time: at once where this isn't called. From then on `emit` passes
+        over what waits, and `poll_at` says when it no longer does. An acknowledgement that waited is due then, and text begins to wait
+        anew."""
+        delay, interval = microseconds(policy.ack_delay), microseconds(policy.answer_interval)
+        self.ask("set_policy", PolicyStruct(delay, limit(policy.override_timeout), interval, int(policy.nagle)))
+
     def resend_first(self, now: float) -> bool:
         """Whether anything is in flight: then the first segment of it must be sent again at once, for a program that finds losses before the
         timers do (RFC 5681, 3.2; RFC 6675, 5)."""
         return self.finds("resend_first", microseconds(now))
+
+    def resend(self, now: float, start: int, stop: int) -> bool:
+        """Whether anything in flight lies from the position `start` on and before `stop`: then that must be sent again at once, and nothing
+        else, for a program that knows which stretch is lost (RFC 6675, 5; RFC 8985, 6.2). Positions are those of an Emission."""
+        return self.finds("resend", microseconds(now), number("a position", start, 64), number("a position", stop, 64))

@@ -365,6 +365,11 @@ class End(Held):
         FIN, which goes out by itself. Whether anything is in flight."""
         return self.finds("resend_first")
 
+    def resend(self, start: int, stop: int) -> bool:
+        """Whether anything in flight lies from the position `start` on and before `stop`: then that must be sent again, and nothing else, but
+        for what the peer has reported (RFC 6675, 5; RFC 8985, 6.2). The SYN is at 0, and byte i at 1 + i."""
+        return self.finds("resend", number("a position", start, 64), number("a position", stop, 64))
+
     def transmit(self) -> Optional[tuple[Transmit, bytes]]:
         """What a segment is, and its bytes, or None."""
         told = TransmitStruct()

@@ -189,6 +189,16 @@ class CongestionStruct(ctypes.Structure):
     ]
 
 
+class PolicyStruct(ctypes.Structure):
+    _fields_ = [
+        ("ack_delay", ctypes.c_uint64),
+        ("override_timeout", ctypes.c_uint64),
+        ("answer_interval", ctypes.c_uint64),
+        ("nagle", ctypes.c_uint32),
+        ("reserved", ctypes.c_uint32 * 9),
+    ]
+
+
 class PieceStruct(ctypes.Structure):
     _fields_ = [("at", ctypes.c_void_p), ("length", ctypes.c_size_t)]
 
@@ -249,6 +259,7 @@ CALLS = {
     "emit_train": [END, ctypes.c_char_p, SIZE, SIZE, ctypes.POINTER(TrainStruct)],
     "emit_acknowledgement": [END, ctypes.c_char_p, SIZE, ctypes.POINTER(AddrStruct), OUT],
     "resend_first": [END],
+    "resend": [END, ctypes.c_uint64, ctypes.c_uint64],
     "transmit": [END, ctypes.c_char_p, SIZE, ctypes.POINTER(TransmitStruct)],
     "next": [END, ctypes.POINTER(TransmitStruct)],
     "pending": [END, ctypes.POINTER(ctypes.c_uint32)],
@@ -285,8 +296,10 @@ CALLS = {
     "connection_peer": [END, ctypes.POINTER(AddrStruct), ctypes.POINTER(ctypes.c_uint16)],
     "connection_set_user_timeout": [END, TIME],
     "connection_resend_first": [END, TIME],
+    "connection_resend": [END, TIME, ctypes.c_uint64, ctypes.c_uint64],
     "connection_set_congestion": [END, ctypes.c_uint32],
     "connection_congestion": [END, ctypes.POINTER(CongestionStruct)],
+    "connection_set_policy": [END, ctypes.POINTER(PolicyStruct)],
     "strerror": [ctypes.c_uint32],
     "version": [],
     "build": [],

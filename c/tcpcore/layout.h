@@ -162,6 +162,13 @@ FIELD(struct tcpcore_congestion, is_recovering, 28, 4);
 /* The library writes nothing behind these. */
 FIELD(struct tcpcore_congestion, reserved, 32, 32);
 _Static_assert(sizeof(struct tcpcore_congestion) == 64, "the size of struct tcpcore_congestion");
+FIELD(struct tcpcore_policy, ack_delay, 0, 8);
+FIELD(struct tcpcore_policy, override_timeout, 8, 8);
+FIELD(struct tcpcore_policy, answer_interval, 16, 8);
+FIELD(struct tcpcore_policy, nagle, 24, 4);
+/* The library writes nothing behind these. */
+FIELD(struct tcpcore_policy, reserved, 28, 36);
+_Static_assert(sizeof(struct tcpcore_policy) == 64, "the size of struct tcpcore_policy");
 FIELD(struct tcpcore_connection_segment, length, 0, 8);
 FIELD(struct tcpcore_connection_segment, position, 8, 8);
 FIELD(struct tcpcore_connection_segment, count, 16, 8);

@@ -68,6 +68,7 @@ STRUCTS = {
     "CParts": Struct("struct parts", inner=True),
     "CConnectionRules": Struct("struct tcpcore_connection_rules", 128, bound=False),
     "CCongestion": Struct("struct tcpcore_congestion", 64, bound=False),
+    "CPolicy": Struct("struct tcpcore_policy", 64, bound=False),
     "CConnectionSegment": Struct("struct tcpcore_connection_segment", 64, bound=False),
 }
 LAYOUT_HEAD = """\

@@ -118,7 +118,7 @@ class Side:
         self.phase = Phase.CLOSED
         self.greatest = 0
         self.waits_for_link = False
-        # Whether a timer has expired, and not all is sent yet that was due then: until then no other one expires.
+        # Whether a timer has expired, or what waited is due, and not all is sent yet that was due then: until then no timer expires.
         self.is_bursting = False
 
     def send(self, text: Buffer) -> None:
@@ -276,6 +276,11 @@ class Simulator:
         while (timer := side.connection.timeout(self.now)) is not None:
             side.is_bursting = True
             self.note(side, "timeout", timer=timer)
+            self.turn(side)
+        # What a policy had wait is due without a timer.
+        due = side.connection.poll_at()
+        if due is not None and due <= self.now:
+            side.is_bursting = True
             self.turn(side)
 
     def save(self, path: str, at: Optional[str] = None) -> None:

@@ -66,6 +66,7 @@ uint32_t tcp_c_emit_partial(struct handle *, uint8_t *, size_t, tcpcore_addr *, 
 uint32_t tcp_c_emit_train(struct handle *, uint8_t *, size_t, size_t, struct train *);
 uint32_t tcp_c_emit_acknowledgement(struct handle *, uint8_t *, size_t, tcpcore_addr *, size_t *);
 uint32_t tcp_c_resend_first(struct handle *);
+uint32_t tcp_c_resend(struct handle *, uint64_t, uint64_t);
 uint32_t tcp_c_parts(struct handle *, uint8_t *, size_t, struct parts *);
 uint32_t tcp_c_sent(struct handle *);
 uint32_t tcp_c_transmit(struct handle *, uint8_t *, size_t, struct tcpcore_transmit *);
@@ -107,8 +108,10 @@ uint32_t tcp_c_connection_status(struct handle *, struct tcpcore_status *);
 uint32_t tcp_c_connection_peer(struct handle *, tcpcore_addr *, uint16_t *);
 uint32_t tcp_c_connection_set_user_timeout(struct handle *, uint64_t);
 uint32_t tcp_c_connection_resend_first(struct handle *, uint64_t);
+uint32_t tcp_c_connection_resend(struct handle *, uint64_t, uint64_t, uint64_t);
 uint32_t tcp_c_connection_set_congestion(struct handle *, uint32_t);
 uint32_t tcp_c_connection_congestion(struct handle *, struct tcpcore_congestion *);
+uint32_t tcp_c_connection_set_policy(struct handle *, const struct tcpcore_policy *);
 
 STEP struct handle *handle(tcpcore_end *end) { return (struct handle *)end->opaque; }
 
@@ -415,6 +418,12 @@ uint32_t tcpcore_resend_first(tcpcore_end *end)
 {
     uint32_t answer = refusal(end);
     return answer != TCPCORE_DONE ? answer : tcp_c_resend_first(handle(end));
+}
+
+uint32_t tcpcore_resend(tcpcore_end *end, uint64_t from, uint64_t to)
+{
+    uint32_t answer = refusal(end);
+    return answer != TCPCORE_DONE ? answer : tcp_c_resend(handle(end), from, to);
 }
 
 uint32_t tcpcore_arrive(tcpcore_end *end, tcpcore_addr src, tcpcore_addr dst, const void *bytes, size_t length)
@@ -997,6 +1006,12 @@ uint32_t tcpcore_connection_resend_first(tcpcore_connection *connection, uint64_
     return answer != TCPCORE_DONE ? answer : tcp_c_connection_resend_first(handle_in(connection), now);
 }
 
+uint32_t tcpcore_connection_resend(tcpcore_connection *connection, uint64_t now, uint64_t from, uint64_t to)
+{
+    uint32_t answer = connection_refusal(connection);
+    return answer != TCPCORE_DONE ? answer : tcp_c_connection_resend(handle_in(connection), now, from, to);
+}
+
 uint32_t tcpcore_connection_set_congestion(tcpcore_connection *connection, uint32_t congestion)
 {
     uint32_t answer = connection_refusal(connection);
@@ -1014,6 +1029,15 @@ uint32_t tcpcore_connection_congestion(const tcpcore_connection *connection, str
     }
     put(refused, place, connection_at(connection), NULL, 0, &found);
     return answer;
+}
+
+uint32_t tcpcore_connection_set_policy(tcpcore_connection *connection, const struct tcpcore_policy *policy)
+{
+    uint32_t answer = policy ? connection_refusal(connection) : TCPCORE_NULL;
+    if (answer != TCPCORE_DONE)
+        return answer;
+    struct tcpcore_policy here = *policy;
+    return tcp_c_connection_set_policy(handle_in(connection), &here);
 }
 
 /* The texts, by their answers. */

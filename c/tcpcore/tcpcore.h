@@ -130,7 +130,7 @@ extern "C" {
 #endif
 
 /* The version of this header: it grows with each change of a struct, a call or an answer. */
-#define TCPCORE_VERSION 16
+#define TCPCORE_VERSION 17
 
 /* The answers; tcpcore_strerror has a text for each. */
 enum {
@@ -239,12 +239,12 @@ enum {
 #define TCPCORE_STRUCT_ROOM 32
 
 /* The bytes of stack that a call takes at most; and of the portable file, on any machine that it was tried on. */
-#define TCPCORE_STACK 2048
+#define TCPCORE_STACK 2560
 #define TCPCORE_PORTABLE_STACK 7168
 
 /* The bytes of stack that tcpcore_connection_connect and tcpcore_connection_listen take at most; a connection's other calls take less
    than TCPCORE_STACK. */
-#define TCPCORE_CONNECTION_STACK 5120
+#define TCPCORE_CONNECTION_STACK 5632
 
 /* The room that tcpcore_emit wants, in bytes: more than the longest segment of an end. */
 #define TCPCORE_EMIT_ROOM 1520
@@ -768,6 +768,15 @@ uint32_t tcpcore_emit_acknowledgement(tcpcore_end *end, void *out, size_t room, 
 uint32_t tcpcore_resend_first(tcpcore_end *end);
 
 /*
+ * Of what is in flight, what lies from the position `from` on and before `to` must be sent again before new data, and nothing else of it: for
+ * a caller who knows which stretch of the stream is lost (RFC 6675, 5; RFC 8985, 6.2). What the peer has reported in blocks isn't sent again.
+ * Positions are those of tcpcore_transmit: the SYN is at 0, byte i at 1 + i, and the FIN behind the last byte. As tcpcore_resend_first it
+ * takes the place of what was to be sent again until now. Of version 17.
+ *   DONE: emit. NO_RULE: nothing in flight lies there; nothing changed. NO_END; NULL; COPIED.
+ */
+uint32_t tcpcore_resend(tcpcore_end *end, uint64_t from, uint64_t to);
+
+/*
  * Writes the header of the segment that is due to `header`, checksum and all, and lends its text where it lies in the end's block:
  * header and text are together what tcpcore_emit would write, for a gathering write such as POSIX's writev. What lies behind the
  * header in `header` stays. Nothing changes in the end: once the segment was sent, call tcpcore_sent. The text may be read, and
@@ -899,8 +908,10 @@ uint32_t tcpcore_time_wait_status(const struct tcpcore_time_wait *time_wait, uin
  *   6. Free it once `phase` is TCPCORE_PHASE_CLOSED, and nothing is due: tcpcore_connection_free.
  *
  *   Where the path may be congested, one line behind the making chooses a congestion window (RFC 5681; RFC 9438), of which nothing else
- *   has to be called: tcpcore_connection_set_congestion(&connection, TCPCORE_CONGESTION_CUBIC). Left to the caller are delayed
- *   acknowledgements: who has some of the emissions wait goes by `at_once` of the report (RFC 5681, 4.2).
+ *   has to be called: tcpcore_connection_set_congestion(&connection, TCPCORE_CONGESTION_CUBIC). Another one has acknowledgements and small
+ *   segments wait, avoids silly windows, and limits what only answers (RFC 9293, 3.7.4 and 3.8.6; RFC 5961, 7):
+ *   tcpcore_connection_set_policy, with TCPCORE_POLICY_DEFAULT. A caller who has emissions wait by a rule of his own goes by `at_once` of
+ *   the report (RFC 5681, 4.2).
  */
 
 /* A connection, placed by the caller. Its words are the library's: set them by TCPCORE_CONNECTION_INIT alone. */
@@ -911,7 +922,8 @@ typedef struct tcpcore_connection {
 /* No connection. */
 #define TCPCORE_CONNECTION_INIT {{0, 0, 0}}
 
-/* The time that stands for none: of a limit that there is none, of tcpcore_connection_poll_at that no timer runs. */
+/* The time that stands for none: of a limit that there is none, of tcpcore_connection_poll_at that no timer runs and
+   nothing waits. */
 #define TCPCORE_NEVER UINT64_MAX
 
 /* The rules of a connection: how the retransmission timeout is made (RFC 6298, 2 and 5), how long the end waits (RFC 9293, 3.8.3), and
@@ -969,6 +981,31 @@ struct tcpcore_congestion {
     uint32_t reserved[8];
 };
 
+/* When an acknowledgement and a small segment of a connection go out (RFC 9293, 3.7.4 and 3.8.6; RFC 5961, 7). Times are microseconds. Any
+   values may be chosen. */
+struct tcpcore_policy {
+    /* How long an acknowledgement of text waits for a second full segment: 40 ms, and less than 500 ms whatever is chosen
+       (RFC 9293, 3.8.6.3). 0: none waits. */
+    uint64_t ack_delay;
+    /* How long text that isn't worth a segment waits at most, 0.1 to 1 s (RFC 9293, 3.8.6.2): until then no small segment
+       goes into a small window, and none goes out just for a window that opened by little. TCPCORE_NEVER: no text waits, and
+       a window that was opened by reading is advertised only where it was shut. */
+    uint64_t override_timeout;
+    /* Of the acknowledgements that only answer segments without text, SYN and FIN one goes out in so long (RFC 5961, 7). 0:
+       all do. */
+    uint64_t answer_interval;
+    /* Whether text that doesn't fill a segment waits while anything is in flight, by the Nagle algorithm (RFC 9293, 3.7.4):
+       0 is no. It counts where `override_timeout` isn't TCPCORE_NEVER. */
+    uint32_t nagle;
+    /* 0. Fields of later versions take their place from here: the struct's size stays. */
+    uint32_t reserved[9];
+};
+
+/* Common values: an acknowledgement waits 40 ms, a small segment 0.5 s at most and while anything is in flight, and what brings nothing is
+   answered once in 0.5 s:
+       struct tcpcore_policy policy = TCPCORE_POLICY_DEFAULT; */
+#define TCPCORE_POLICY_DEFAULT {40000, 500000, 500000, 1, {0}}
+
 /* What tcpcore_connection_emit reports of the segment that it wrote. */
 struct tcpcore_connection_segment {
     /* Its length in bytes, with its header. */
@@ -985,7 +1022,7 @@ struct tcpcore_connection_segment {
 };
 
 /* How many bytes of a block are enough for a connection: as TCPCORE_MEMORY_RUNS and TCPCORE_MEMORY. */
-#define TCPCORE_CONNECTION_MEMORY_RUNS(send, receive, runs) (TCPCORE_MEMORY_RUNS(send, receive, runs) - 416 + 880)
+#define TCPCORE_CONNECTION_MEMORY_RUNS(send, receive, runs) (TCPCORE_MEMORY_RUNS(send, receive, runs) - 416 + 1088)
 #define TCPCORE_CONNECTION_MEMORY(send, receive) TCPCORE_CONNECTION_MEMORY_RUNS(send, receive, TCPCORE_RUNS)
 
 /*
@@ -1018,8 +1055,9 @@ size_t tcpcore_connection_room(const tcpcore_config *config);
 uint32_t tcpcore_connection_free(tcpcore_connection *connection);
 
 /*
- * Reports when tcpcore_connection_timeout has to be called, if nothing else happens before; TCPCORE_NEVER where no timer runs. It may
- * have passed: then call it now. A later call has all that was sent go out again later.
+ * Reports when tcpcore_connection_timeout has to be called, or what a policy had wait is to be emitted, if nothing else happens before;
+ * TCPCORE_NEVER where no timer runs and nothing waits. It may have passed: then emit, and call it now. A later call has all that was sent go
+ * out again later.
  *   DONE; NO_END; NULL; OVERLAP; COPIED.
  */
 uint32_t tcpcore_connection_poll_at(const tcpcore_connection *connection, uint64_t *at);
@@ -1036,7 +1074,8 @@ uint32_t tcpcore_connection_timeout(tcpcore_connection *connection, uint64_t now
 /*
  * It is `now`: tcpcore_connection_timeout, and then tcpcore_connection_poll_at, in one call, for a caller who has emitted all that was due
  * and asks what is next. Of version 13.
- *   DONE: emit, and call it again. NOT_DUE: none has expired, and *next is when one does. NO_END; NULL; OVERLAP; COPIED.
+ *   DONE: emit, and call it again. NOT_DUE: none has expired, and *next is when one does, or what waits is to be emitted. NO_END; NULL;
+ *   OVERLAP; COPIED.
  */
 uint32_t tcpcore_connection_tick(tcpcore_connection *connection, uint64_t now, uint32_t *timer, uint64_t *next);
 
@@ -1125,6 +1164,13 @@ uint32_t tcpcore_connection_set_user_timeout(tcpcore_connection *connection, uin
 uint32_t tcpcore_connection_resend_first(tcpcore_connection *connection, uint64_t now);
 
 /*
+ * Of what is in flight, what lies from the position `from` on and before `to` must be sent again at once, as tcpcore_resend: positions are
+ * those of struct tcpcore_connection_segment. The congestion window isn't told of it. Of version 17.
+ *   DONE: emit. NO_RULE: nothing in flight lies there; nothing changed. NO_END; NULL; COPIED.
+ */
+uint32_t tcpcore_connection_resend(tcpcore_connection *connection, uint64_t now, uint64_t from, uint64_t to);
+
+/*
  * Chooses the congestion window of the connection (RFC 5681, 3): TCPCORE_CONGESTION_NONE, which is the default, TCPCORE_CONGESTION_RENO or
  * TCPCORE_CONGESTION_CUBIC. From then on what goes out ends within that window, too, by both emissions and beside `window` of theirs; what
  * is acknowledged, lost and resent, and an idle time, make it grow and shrink. Call it any time before text is sent, also right after the
@@ -1139,6 +1185,24 @@ uint32_t tcpcore_connection_set_congestion(tcpcore_connection *connection, uint3
  *   DONE; NO_END; NULL; OVERLAP; COPIED.
  */
 uint32_t tcpcore_connection_congestion(const tcpcore_connection *connection, struct tcpcore_congestion *congestion);
+
+/*
+ * Chooses when an acknowledgement and a small segment go out (RFC 9293, 3.7.4 and 3.8.6; RFC 5961, 7): at once where this isn't called. From
+ * then on an emission answers NOT_DUE while what is due waits, and tcpcore_connection_poll_at reports when it no longer does: emit then.
+ *   An acknowledgement waits for a second full segment, for text that takes it along, or for `ack_delay`; not where its arrival has to be
+ *   answered at once. Text waits that neither fills a segment, nor is all that is queued, nor half of the greatest window, and with `nagle`
+ *   while anything is in flight; not for longer than `override_timeout`, which begins anew behind whatever else goes out. What goes out
+ *   again, a SYN, a FIN, a reset, a probe of a zero window, and all that is due behind a timer's expiry never wait.
+ *   A window that reading has opened by a segment, or by half of the receive capacity, is advertised where the peer has less than half of
+ *   that left (RFC 9293, 3.8.6.2.2): a user who reads needn't call tcpcore_connection_acknowledge.
+ *   An acknowledgement that only answers segments without text, SYN and FIN goes out once in `answer_interval`, and is discarded meanwhile,
+ *   as if it were lost: so two ends with zero windows answer each other once in that time, and not without end. Some seconds are as much as
+ *   it should be. What answers text isn't limited. `out` of an emission may contain what was discarded, then, behind what goes out.
+ * It may be called at any time, and again: an acknowledgement that waited is due then, and text begins to wait anew. *policy is read and
+ * not kept. Of version 17.
+ *   DONE; NO_END; NULL; COPIED.
+ */
+uint32_t tcpcore_connection_set_policy(tcpcore_connection *connection, const struct tcpcore_policy *policy);
 
 /*
  * The text of an answer, such as "nothing to read yet". It is never NULL, nobody frees it, and any thread may ask for

@@ -1,6 +1,6 @@
 """The scripted world of two connections written a second time: the second program's end (end.py, reports.py) with the second driver's times
 (driver.py), under the loop of c/tcpcore/tests/world.py. `python3 checks/differential/connections.py` compares its trace with the one of
-crates/test_connections, line by line.
+checks/programs/test_connections, line by line.
 """
 
 import contextlib
@@ -20,7 +20,7 @@ sys.path.insert(0, f"{TOP}/c/tcpcore/tests")
 import world  # noqa: E402
 from tcpcore import Answer, Brought, Emission, Ending, Lent, Phase, Refused, Rule, Status, Timer, packed  # noqa: E402
 
-CRATE = pathlib.Path(TOP) / "crates" / "test_connections"
+CRATE = pathlib.Path(TOP) / "checks" / "programs" / "test_connections"
 TIMERS = {"retransmit": Timer.RETRANSMIT, "reorder": Timer.REORDER, "time-wait": Timer.TIME_WAIT, "user": Timer.USER}
 # Segments of the connection, as far as TIME-WAIT and the limit of FIN-WAIT-2 ask.
 OF_CONNECTION = (Rule.UNACCEPTABLE, Rule.TAKEN, Rule.TAKEN_SHUT)

@@ -80,6 +80,14 @@ class Small:
             self.again = [self.una]
         return can
 
+    def resend(self, start, stop):
+        """What is in flight from the first of these numbers on and before the other goes out again; whether anything is."""
+        between = [number for number in range(self.una, self.nxt) if start <= number < stop]
+        if not between or self.over:
+            return False
+        self.again = between
+        return True
+
     def send(self, count):
         can = not self.closed and not self.over
         self.accepted += min(count, 100) if can else 0
@@ -396,8 +404,12 @@ def worked():
              "send 9000000 1", "emit 8000000 100", "arrive 9000000 2 0 1 9 0", "emit 9000000 1", "emit 9000000 1", "arrive 9000000 2 0 1 9 0",
              "emit 9000000 0", "resend-first 9000001", "emit 9000001 0", "emit 9000001 0", f"timeout {MOST}", f"emit {MOST} 3", f"abort {MOST}",
              f"abort {MOST}", "emit 9000002 3", "close 9000003", f"timeout {MOST}"]  # fmt: skip
+    # The second and third of five numbers go out again, then a part of what is in flight, and nothing of what isn't.
+    stretch = ["new 0 1 5000000 3 - - -", "send 0 5", *["emit 0 9"] * 6, "resend 1000 1 3", *["emit 1000 9"] * 3, "arrive 2000 2 1 0 9 0",
+               "resend 2000 0 4", "timeout 2000", *["emit 2000 9"] * 3, "resend 3000 5 9", "resend 3000 3 3", "resend 3000 0 2", "emit 3000 9",
+               f"resend 4000 4 {MOST}", *["emit 4000 9"] * 2, "abort 5000", "resend 5000 0 9"]  # fmt: skip
     turns = (orderly, gap, far, cut, late, silent, unanswered, shut, opened, resting, alone, gone, heard, unread)
-    return [line for turn in turns for line in turn.lines] + burst
+    return [line for turn in turns for line in turn.lines] + burst + stretch
 
 
 def random_calls(draw, count):

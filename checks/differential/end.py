@@ -260,6 +260,16 @@ class End:
         self.again = (self.snd_una, (self.snd_una + min(flight, self.text_limit())) % SPACE)
         return True
 
+    def resend(self, first, last):
+        """What is in flight from the first of these positions on and before the last, which count from the SYN, goes out again (RFC
+        6675, 5; RFC 8985, 6.2); whether anything is. The stream is shorter than 2^32."""
+        start = max(first, (self.snd_una - self.iss) % SPACE)
+        stop = min(last, (self.snd_nxt - self.iss) % SPACE)
+        if self.phase not in SENDS_TEXT or start >= stop:
+            return False
+        self.again = ((self.iss + start) % SPACE, (self.iss + stop) % SPACE)
+        return True
+
     # ---- emission (RFC 9293, 3.7, 3.8 and 3.10; RFC 2018, 4)
 
     def blocks(self):

@@ -102,8 +102,8 @@ def answer_of(call):
 def line(rng, end):
     """One line, and what is answered."""
     kind = rng.choices(
-        ["arrive", "emit", "send", "receive", "timer", "timers", "close", "abort", "connect", "listen", "acknowledge", "emit-acknowledgement", "resend-first"],
-        [50, 30, 15, 8, 8, 3, 1.5, 0.3, 0.3, 0.3, 3, 4, 3],
+        ["arrive", "emit", "send", "receive", "timer", "timers", "close", "abort", "connect", "listen", "acknowledge", "emit-acknowledgement", "resend-first", "resend"],
+        [50, 30, 15, 8, 8, 3, 1.5, 0.3, 0.3, 0.3, 3, 4, 3, 4],
     )[0]
     if kind == "arrive":
         return arrival(rng, end)
@@ -132,6 +132,10 @@ def line(rng, end):
         return kind, "none" if emitted is None else f"{dotted(emitted[0])} {Segment(emitted[1]).told()}"
     if kind == "resend-first":
         return kind, "true" if end.resend_first() else "false"
+    if kind == "resend":
+        first = rng.choice([0, 1, rng.randrange(1000), (end.snd_una - end.iss) % SPACE + rng.randrange(20)])
+        last = first + rng.choice([0, 1, 5, rng.randrange(200)])
+        return f"resend {first} {last}", "true" if end.resend(first, last) else "false"
     if kind == "connect":
         return kind, answer_of(end.connect(PEER))
     return kind, answer_of(getattr(end, kind)())

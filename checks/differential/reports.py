@@ -165,6 +165,8 @@ def call(library, words):
             library.send(octets(rest[0]))
         elif name == "timer":
             library.timer({"retransmit": 0, "reorder": 1, "timewait": 2}[rest[0]])
+        elif name == "resend":
+            library.resend(int(rest[0]), int(rest[1]))
         elif name == "connect":
             library.connect(*PEER)
         else:

@@ -82,6 +82,9 @@ class Row:
     def resend_first(self):
         return self.say("resend-first", "true" if self.end.resend_first() else "false")
 
+    def resend(self, first, last):
+        return self.say(f"resend {first} {last}", "true" if self.end.resend(first, last) else "false")
+
     def emit_bytes(self, area=None, whole=None):
         """An emission told by its bytes, whose options, or which itself, are to be these (hexadecimal)."""
         addr, data = self.end.emit()
@@ -310,10 +313,39 @@ def pacing_rows():
     yield r.timer("retransmit").emit(2).resend_first().emit(2).timer("retransmit").emit(4)
     r = Row("the first segment again, of which the peer has a later part", own_mss=64).opened().send(b"a" * 192).emit(3)
     yield r.arrive(ACK, options=sack((5011, 5129))).resend_first().emit(2).timer("reorder").emit(3)
+    yield from stretch_rows()
     r = Row("a FIN alone in flight is the first segment").opened().call("close").emit().resend_first().is_told("true")
     yield r.emit().is_told("10.0.0.1 flags ACK,FIN").emit().is_told("none")
     r = Row("nothing in flight, nothing to be sent again").opened(window=0).send(b"abc").resend_first().is_told("false").emit()
     yield r.timer("retransmit").emit().resend_first().is_told("true").emit(2)
+
+
+def stretch_rows():
+    """What lies between two positions again, which count from the SYN: the byte behind it, of the number 5001, is at 1."""
+    for phase, reach in PHASES.items():
+        yield reach(Row(f"{phase}: a stretch again")).resend(0, 1000000).emit(2).resend(2, 3).emit(2)
+
+    def flight(name):
+        return Row(name, own_mss=64).opened().send(b"a" * 192).emit(3)
+
+    r = flight("the second of three segments goes out again, and then new text").resend(65, 129).is_told("true").send(b"b" * 10)
+    r.emit().is_told("10.0.0.1 flags ACK seq 5065 ack 1001 window 65535 text 64").emit().is_told("10.0.0.1 flags ACK,PSH seq 5193 ack 1001 window 65535 text 10")
+    yield r.emit().is_told("none")
+    r = flight("the end of one segment and the begin of the next again, longer than a segment").resend(60, 130).is_told("true")
+    r.emit().is_told("10.0.0.1 flags ACK seq 5060 ack 1001 window 65535 text 64").emit().is_told("10.0.0.1 flags ACK seq 5124 ack 1001 window 65535 text 6")
+    yield r.emit().is_told("none")
+    r = flight("of a stretch what isn't acknowledged, and no more than was sent").arrive(ACK, ack=64).resend(1, 1000).is_told("true").arrive(ACK, ack=128)
+    yield r.emit().is_told("10.0.0.1 flags ACK,PSH seq 5129 ack 1001 window 65535 text 64").emit().is_told("none")
+    r = flight("a stretch before what is in flight, behind it, and one that ends where it begins").arrive(ACK, ack=64).resend(1, 65).is_told("false")
+    yield r.resend(193, 300).is_told("false").resend(100, 100).is_told("false").resend(101, 100).is_told("false").emit().is_told("none")
+    r = flight("of a stretch what the peer has stays where it is").arrive(ACK, options=sack((5065, 5129))).resend(33, 193).is_told("true")
+    r.emit().is_told("10.0.0.1 flags ACK seq 5033 ack 1001 window 65535 text 32").emit().is_told("10.0.0.1 flags ACK,PSH seq 5129 ack 1001 window 65535 text 64")
+    yield r.emit().is_told("none").timer("reorder").emit(2)
+    r = flight("a stretch stands in the place of all again").timer("retransmit").emit().resend(129, 193).is_told("true")
+    yield r.emit().is_told("10.0.0.1 flags ACK,PSH seq 5129 ack 1001 window 65535 text 64").emit().is_told("none")
+    r = flight("the FIN is at the end of a stretch").call("close").emit().resend(190, 194).is_told("true")
+    r.emit().is_told("10.0.0.1 flags ACK,PSH seq 5190 ack 1001 window 65535 text 3").emit().is_told("10.0.0.1 flags ACK,FIN seq 5193 ack 1001 window 65535 text 0")
+    yield r.emit().is_told("none").resend(193, 194).is_told("true").emit().is_told("10.0.0.1 flags ACK,FIN seq 5193").emit().is_told("none")
 
 
 def single_rows():

@@ -43,7 +43,7 @@ LONG = {
 }
 if subprocess.run(["/usr/bin/python3", "-c", "import dpkt"], capture_output=True, check=False).returncode:
     LONG[r"apps/capture/capture\.py\b"] = "wants python3-dpkt"
-    LONG[r"python3 checks/differential/judge\.py --complete /tmp/"] = "wants what capture.py writes"
+    LONG[r"(python3 checks/differential/judge\.py|/tmp/tcpjudge) --complete /tmp/"] = "wants what capture.py writes"
 # A placeholder of the reader's own.
 YOURS = re.compile(r"yours|NAME|\$|\*")
 MARK = "--- pasted ---"

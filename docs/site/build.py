@@ -21,7 +21,7 @@ HERE = pathlib.Path(__file__).resolve().parent
 TOP = HERE.parents[1]
 FRONT = ["README.md", "CHANGELOG.md", "CONTRIBUTING.md"]
 TITLES = {
-    "README": "Boqtilen", "INSTALL": "Install", "EMBEDDING": "Embedding", "FORMATS": "Formats", "RULES": "Rules", "PROOFS": "Proofs", "TRUST": "Trust",
+    "README": "Boqtilen", "INSTALL": "Install", "EMBEDDING": "Embedding", "WHEN": "When it sends", "FORMATS": "Formats", "RULES": "Rules", "PROOFS": "Proofs", "TRUST": "Trust",
     "ARCHITECTURE": "Architecture", "SPEED": "Speed", "DECISIONS": "Decisions", "CHANGELOG": "Changes", "CONTRIBUTING": "Contributing",
 }
 # The scripts that pictures show: apps/web/page_tools.mjs says which the page saves as which picture.

@@ -6,7 +6,7 @@ MEMORY {
 ENTRY(start)
 SECTIONS {
     .text : { KEEP(*(.vectors)) *(.text*) *(.rodata*) . = ALIGN(8); } >flash
-    .stack (NOLOAD) : { stack_bottom = .; . += 10K; stack_top = .; } >ram
+    .stack (NOLOAD) : { stack_bottom = .; . += 12K; stack_top = .; } >ram
     .data : { data_begin = .; *(.data*) . = ALIGN(8); data_end = .; } >ram AT>flash
     data_from = LOADADDR(.data);
     .bss (NOLOAD) : { bss_begin = .; *(.bss*) *(COMMON) . = ALIGN(8); bss_end = .; } >ram

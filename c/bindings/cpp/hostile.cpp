@@ -112,9 +112,11 @@ struct hostile {
         }
         case 12:
             if (any(2))
-                it.resend_first(now());
+                any(2) ? it.resend_first(now()) : it.resend(now(), drawn() % 4000, drawn() % 4000);
             else if (any(2))
                 it.set_congestion(static_cast<std::uint32_t>(any(3))), check(it.congestion().cwnd >= it.congestion().smss, "a window has a segment");
+            else if (any(2))
+                it.set_policy(any(2) ? tcpcore::default_policy() : tcpcore_policy{drawn(), drawn(), drawn(), static_cast<std::uint32_t>(any(2)), {}});
             else if (any(2))
                 it.set_user_timeout(std::nullopt);
             else

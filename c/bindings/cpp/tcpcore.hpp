@@ -40,6 +40,9 @@ constexpr std::uint8_t least_shift(std::uint64_t receive) { return TCPCORE_LEAST
 // The rules of the standards: TCPCORE_CONNECTION_RULES_DEFAULT.
 inline struct tcpcore_connection_rules default_rules() { return TCPCORE_CONNECTION_RULES_DEFAULT; }
 
+// Common values: TCPCORE_POLICY_DEFAULT.
+inline struct tcpcore_policy default_policy() { return TCPCORE_POLICY_DEFAULT; }
+
 namespace detail {
 
 // Throws what a call refused.
@@ -135,6 +138,7 @@ public:
     }
     // Of what is in flight as much as one segment carries must be sent again, the first segment: whether anything is.
     bool resend_first() { return found(tcpcore_resend_first(raw())); }
+    bool resend(std::uint64_t from, std::uint64_t to) { return found(tcpcore_resend(raw(), from, to)); }
     // As emit, with a report: its length is 0 where none was.
     struct tcpcore_transmit transmit(unsigned char (&out)[TCPCORE_EMIT_ROOM])
     {
@@ -338,6 +342,11 @@ public:
     void close(time now) { detail::done(tcpcore_connection_close(raw(), micros(now))); }
     void abort(time now) { detail::done(tcpcore_connection_abort(raw(), micros(now))); }
     bool resend_first(time now) { return detail::found(tcpcore_connection_resend_first(raw(), micros(now))); }
+    // Whether anything in flight lies between these positions: then that must be sent again at once, and nothing else.
+    bool resend(time now, std::uint64_t from, std::uint64_t to)
+    {
+        return detail::found(tcpcore_connection_resend(raw(), micros(now), from, to));
+    }
     // Sets the user timeout in the place of `user` of the rules; without one it is forever. The time that has passed already counts, so that
     // poll_at may be another then.
     void set_user_timeout(std::optional<std::chrono::microseconds> limit)
@@ -352,6 +361,8 @@ public:
         struct tcpcore_congestion reported;
         return detail::done(tcpcore_connection_congestion(raw(), &reported)), reported;
     }
+    // Chooses when an acknowledgement and a small segment go out: at once where this isn't called.
+    void set_policy(const struct tcpcore_policy &policy) { detail::done(tcpcore_connection_set_policy(raw(), &policy)); }
     // The peer's address and port, once they are known.
     std::optional<std::pair<tcpcore_addr, std::uint16_t>> peer() const
     {

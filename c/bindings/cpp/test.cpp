@@ -115,6 +115,10 @@ static void pacing()
     again = a.transmit(out);
     CHECK(again.kind == TCPCORE_KIND_TEXT_AGAIN && again.position == 1 && again.count == 1000);
     CHECK(a.transmit(out).length == 0);
+    CHECK(a.resend(1001, 1501) && !a.resend(3001, 4000));
+    again = a.transmit(out);
+    CHECK(again.kind == TCPCORE_KIND_TEXT_AGAIN && again.position == 1001 && again.count == 500);
+    CHECK(a.transmit(out).length == 0);
 }
 
 // What a device makes of a checksum field that has the sum of the pseudo-header: the complement of the sum over all (RFC 1071).
@@ -196,6 +200,7 @@ static void moved_from()
     CHECK(thrown([&] { a.emit_train(out, sizeof out, 1); }) == TCPCORE_NULL);
     CHECK(thrown([&] { a.transmit(out); }) == TCPCORE_NULL);
     CHECK(thrown([&] { a.resend_first(); }) == TCPCORE_NULL);
+    CHECK(thrown([&] { a.resend(0, 9); }) == TCPCORE_NULL);
     CHECK(thrown([&] { a.timer(TCPCORE_TIMER_RETRANSMIT); }) == TCPCORE_NULL);
     CHECK(thrown([&] { a.arrive(B, A, "x", 1); }) == TCPCORE_NULL);
     CHECK(thrown([&] { a.arrive_with_report(B, A, "x", 1); }) == TCPCORE_NULL);
@@ -487,6 +492,25 @@ static void a_user_timeout_is_set()
     CHECK(!a.timeout(now + 9s - 1us) && a.timeout(now + 9s) == TCPCORE_TIMER_USER && a.status().ending == TCPCORE_ENDING_ABORTED);
 }
 
+// RFC 9293, 3.8.6.3: an acknowledgement of one segment waits 40 ms.
+static void a_policy()
+{
+    using namespace std::chrono_literals;
+    tcpcore::connection::time now(5s);
+    tcpcore::connection a = tcpcore::connection::connect(config(A, 7), tcpcore::default_rules(), B, 7, now);
+    tcpcore::connection b = tcpcore::connection::listen(config(B, 7), tcpcore::default_rules(), now);
+    unsigned char out[TCPCORE_EMIT_ROOM];
+    for (int turn = 0; turn < 2; turn++) {
+        while (std::size_t length = a.emit(now, out).length) CHECK(b.arrive(now, A, B, out, length).first == TCPCORE_DONE);
+        while (std::size_t length = b.emit(now, out).length) CHECK(a.arrive(now, B, A, out, length).first == TCPCORE_DONE);
+    }
+    b.set_policy(tcpcore::default_policy());
+    CHECK(a.send(now, "x", 1) == 1);
+    CHECK(b.arrive(now, A, B, out, a.emit(now, out).length).first == TCPCORE_DONE);
+    CHECK(b.emit(now, out).length == 0 && b.poll_at() == now + 40ms);
+    CHECK(b.emit(now + 40ms, out).length == 20);
+}
+
 // RFC 6928, 2: of segments of 1,000 bytes ten go out at first, of 536 before both SYNs have agreed on them (RFC 9293, 3.7.1). RFC 9438, 4.8,
 // and RFC 5681, 3.1: after a timeout ssthresh is 0.7 of the 4,000 bytes in flight, and half of them, and the window a segment.
 static void a_congestion_window()
@@ -581,6 +605,7 @@ int main()
     a_connection_refuses();
     a_connection_s_train();
     a_congestion_window();
+    a_policy();
     a_user_timeout_is_set();
     a_guard_keeps_out_what_is_blind();
     CHECK(tcpcore::build().find("machine code") != std::string_view::npos || tcpcore::build().find("portable C") == 0);

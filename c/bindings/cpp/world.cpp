@@ -1,4 +1,4 @@
-// One scripted world, as crates/test_connections has it, by the connections of tcpcore.hpp: reads a script and prints its trace.
+// One scripted world, as checks/programs/test_connections has it, by the connections of tcpcore.hpp: reads a script and prints its trace.
 #include "tcpcore.hpp"
 
 #include <cstdio>

@@ -127,8 +127,8 @@ func (rules Rules) c() C.struct_tcpcore_connection_rules {
 //  4. Timeout. Where a timer has expired Emit again until nothing is due, and look for another one.
 //  5. In CLOSED the connection is over: Free it. Else go on with 1.
 //
-// Where the path may be congested SetCongestion chooses a congestion window. Left to the caller are delayed acknowledgements: who has some
-// of the emissions wait goes by AtOnce of the ArriveReport (RFC 5681, 4.2).
+// Where the path may be congested SetCongestion chooses a congestion window, and SetPolicy when acknowledgements and small segments wait.
+// Who has emissions wait by a rule of his own goes by AtOnce of the ArriveReport (RFC 5681, 4.2).
 type Connection struct {
 	// Window is that of the caller's congestion control (RFC 5681, 3.1), in bytes: what ends more than so many numbers past SND.UNA waits,
 	// unless nothing before it is in flight. Connect and Listen set the greatest number, which holds back nothing.
@@ -275,6 +275,13 @@ func (connection *Connection) ResendFirst(now time.Time) bool {
 	return found(C.tcpcore_connection_resend_first(connection.raw, connection.since(now)))
 }
 
+// Resend says that what lies from one position on and before another must be sent again at once, and nothing else of what is in flight, for a
+// caller that knows which stretch is lost (RFC 6675, 5; RFC 8985, 6.2). Positions are those of an Emission. It tells whether anything in flight
+// lies there.
+func (connection *Connection) Resend(now time.Time, from, to uint64) bool {
+	return found(C.tcpcore_connection_resend(connection.raw, connection.since(now), C.uint64_t(from), C.uint64_t(to)))
+}
+
 // The congestion windows of SetCongestion: none, that of RFC 5681, and that of RFC 9438.
 const (
 	NoCongestion uint32 = C.TCPCORE_CONGESTION_NONE
@@ -303,6 +310,42 @@ func (connection *Connection) Congestion() Congestion {
 	found(told.answer)
 	it := &told.congestion
 	return Congestion{uint32(it.congestion), uint64(it.cwnd), uint64(it.ssthresh), int(it.smss), it.is_recovering == 1}
+}
+
+// Policy is when an acknowledgement and a small segment of a connection go out (RFC 9293, 3.7.4 and 3.8.6; RFC 5961, 7). Whole microseconds
+// count, a negative duration is 0, and any values may be chosen. DefaultPolicy has common values.
+type Policy struct {
+	// An acknowledgement of text waits so long for a second full segment, less than 0.5 s whatever is chosen (RFC 9293, 3.8.6.3); 0: none waits.
+	AckDelay time.Duration
+	// Text that isn't worth a segment waits so long at most, 0.1 to 1 s (RFC 9293, 3.8.6.2): until then no small segment goes into a small
+	// window, and none goes out just for a window that opened by little. Never: no text waits, and a window that was opened by reading is
+	// advertised only where it was shut.
+	OverrideTimeout time.Duration
+	// Of the acknowledgements that only answer segments without text, SYN and FIN one goes out in so long (RFC 5961, 7), some seconds at
+	// most; 0: all do.
+	AnswerInterval time.Duration
+	// Text that doesn't fill a segment waits while anything is in flight, by the Nagle algorithm (RFC 9293, 3.7.4), unless OverrideTimeout is
+	// Never.
+	Nagle bool
+}
+
+// DefaultPolicy has common values: an acknowledgement waits 40 ms, a small segment 0.5 s at most and while anything is in flight,
+// and what brings nothing is answered once in 0.5 s.
+func DefaultPolicy() Policy {
+	half := 500 * time.Millisecond
+	return Policy{AckDelay: 40 * time.Millisecond, OverrideTimeout: half, AnswerInterval: half, Nagle: true}
+}
+
+// SetPolicy chooses when an acknowledgement and a small segment go out, at any time: at once where it isn't called. From then on Emit passes
+// over what waits, and PollAt tells when it no longer does. An acknowledgement that waited is due then, and text begins to wait
+// anew.
+func (connection *Connection) SetPolicy(policy Policy) error {
+	chosen := C.struct_tcpcore_policy{ack_delay: micros(policy.AckDelay), override_timeout: limit(policy.OverrideTimeout),
+		answer_interval: micros(policy.AnswerInterval)}
+	if policy.Nagle {
+		chosen.nagle = 1
+	}
+	return done(C.tcpcore_connection_set_policy(connection.raw, &chosen))
 }
 
 // Peer is the peer's address and port (RFC 9293, 3.10.6); ErrNotConnected before they are known.

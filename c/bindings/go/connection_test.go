@@ -383,6 +383,13 @@ func TestConnectionResends(t *testing.T) {
 	if again := emittedBy(client, began); len(first) != 1 || !reflect.DeepEqual(again, first) {
 		t.Fatal(first, again)
 	}
+	// The last two bytes alone, and nothing behind them.
+	if !client.Resend(began, 3, 9) || client.Resend(began, 5, 9) {
+		t.Fatal("two bytes are in flight there")
+	}
+	if again := emittedBy(client, began); len(again) != 1 || again[0].segment[20:] != "xt" {
+		t.Fatal(again)
+	}
 }
 
 // TestConnectionUserTimeout: a limit that is set later counts from where the text went out.

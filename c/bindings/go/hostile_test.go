@@ -223,7 +223,15 @@ func (it *hostile) use(end *Connection, side int, now time.Time) {
 		it.may(side, "SetUserTimeout", end.SetUserTimeout(time.Duration(it.random.Int63()-1<<40)))
 	case 7, 8:
 		it.panics(side, func() { end.ResendFirst(now) })
+		it.panics(side, func() { end.Resend(now, uint64(it.random.Intn(4000)), uint64(it.random.Intn(4000))) })
 		it.may(side, "SetCongestion", end.SetCongestion(uint32(it.random.Intn(4))), Refused(54), Refused(29))
+		policy := DefaultPolicy()
+		if it.random.Intn(2) == 0 {
+			policy.AckDelay = time.Duration(it.random.Int63() - 1<<40)
+			policy.OverrideTimeout = time.Duration(it.random.Int63() - 1<<40)
+			policy.AnswerInterval = time.Duration(it.random.Int63() - 1<<40)
+		}
+		it.may(side, "SetPolicy", end.SetPolicy(policy))
 	case 9, 10:
 		_, _, err := end.Peer()
 		it.may(side, "Peer", err, ErrNotConnected)

@@ -245,6 +245,12 @@ func (end *End) EmitPartial(room *[EmitRoom]byte) (to Addr, length int) {
 // anything is.
 func (end *End) ResendFirst() bool { return found(C.tcpcore_resend_first(end.raw)) }
 
+// Resend says that what lies from one position on and before another must be sent again, and nothing else of what is in flight, but for what
+// the peer has reported (RFC 6675, 5; RFC 8985, 6.2). The SYN is at 0, and byte i at 1 + i. It tells whether anything in flight lies there.
+func (end *End) Resend(from, to uint64) bool {
+	return found(C.tcpcore_resend(end.raw, C.uint64_t(from), C.uint64_t(to)))
+}
+
 // Transmit is a segment that was emitted, by the fields of struct tcpcore_transmit; all 0 where none was due.
 type Transmit struct {
 	To            Addr

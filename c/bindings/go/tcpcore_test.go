@@ -329,7 +329,7 @@ func TestFreed(t *testing.T) {
 	const noEnd = Refused(31)
 	calls := []func(){
 		func() { end.Emit(&room) }, func() { end.EmitPartial(&room) }, func() { end.EmitAcknowledgement(&room) },
-		func() { end.Transmit(&room) }, func() { end.ResendFirst() }, func() { end.Timer(Retransmit) }, func() { end.Timers() },
+		func() { end.Transmit(&room) }, func() { end.ResendFirst() }, func() { end.Resend(0, 9) }, func() { end.Timer(Retransmit) }, func() { end.Timers() },
 		func() { end.Status() },
 	}
 	for at, call := range calls {

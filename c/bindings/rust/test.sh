@@ -64,7 +64,7 @@ make --silent -C ../../tcpcore OUT="$PWD/out/native" LIBRARY="$library"
 export TCPCORE_LIB_DIR=$PWD/out/native
 tests 47 --features native
 # The scripted world of two connections is what the proved ends themselves do in Rattle.
-world=../../../crates/test_connections
+world=../../../checks/programs/test_connections
 passes cargo build --quiet --offline --example world --features native
 out/target/debug/examples/world <"$world/stdin" >out/world
 diff out/world "$world/stdout" || { echo "rust: another world is printed"; exit 1; }

@@ -19,6 +19,7 @@ static void every_call(tcpcore_connection *connection, uint32_t wanted)
     struct tcpcore_train train;
     struct tcpcore_lent lent;
     struct tcpcore_congestion congestion;
+    const struct tcpcore_policy policy = TCPCORE_POLICY_DEFAULT;
     memset(&congestion, 7, sizeof congestion);
     memset(buffer, 0xee, sizeof buffer);
     memset(&status, 7, sizeof status);
@@ -58,7 +59,9 @@ static void every_call(tcpcore_connection *connection, uint32_t wanted)
     CHECK(tcpcore_connection_abort(connection, 0), wanted);
     CHECK(tcpcore_connection_set_user_timeout(connection, 0), wanted);
     CHECK(tcpcore_connection_resend_first(connection, 0), wanted);
+    CHECK(tcpcore_connection_resend(connection, 0, 0, 9), wanted);
     CHECK(tcpcore_connection_set_congestion(connection, TCPCORE_CONGESTION_CUBIC), wanted);
+    CHECK(tcpcore_connection_set_policy(connection, &policy), wanted);
     CHECK(tcpcore_connection_congestion(connection, &congestion), wanted);
     CHECK(are_all(&congestion, sizeof congestion, 0), 1);
     CHECK(tcpcore_connection_status(connection, &status), wanted);
@@ -385,6 +388,13 @@ static void resends(void)
         CHECK(segment.count, 10);
         CHECK(poll_at(&a), 6500000);
     }
+    /* What begins behind SND.UNA goes out alone, and its timer stays. */
+    CHECK(tcpcore_connection_resend(&a, 6 * SECOND, 4, 6), TCPCORE_DONE);
+    CHECK(tcpcore_connection_emit(&a, 6 * SECOND, UINT64_MAX, bytes, sizeof bytes, &segment), TCPCORE_DONE);
+    CHECK(segment.position, 4);
+    CHECK(segment.count, 2);
+    CHECK(poll_at(&a), 6500000);
+    CHECK(tcpcore_connection_resend(&a, 6 * SECOND, 11, 20), TCPCORE_NO_RULE);
     free_both();
 }
 

@@ -11,7 +11,7 @@ import sys
 sys.path.insert(0, os.path.dirname(os.path.dirname(os.path.realpath(__file__))))
 import tcpcore  # noqa: E402
 from tcpcore import (  # noqa: E402
-    Answer, Brought, Config, Congestion, CongestionWindow, Connection, Emission, End, Ending, Kind, Lent, Phase, Refused, Rule, Rules, Timer,
+    Answer, Brought, Config, Congestion, CongestionWindow, Connection, Emission, End, Ending, Kind, Lent, Phase, Policy, Refused, Rule, Rules, Timer,
     Train, Transmit,
 )
 
@@ -155,6 +155,17 @@ def first_again():
     check((carry(6.0, b, B, a), a.resend_first(6.0), b.receive(6.0)), ([Answer.DONE], False, bytes(2500)))
 
 
+def stretches():
+    """RFC 6675, 5: the second of three segments again, and nothing else."""
+    a, _ = pair()
+    check((a.resend(1.0, 0, 9999), a.send(5.0, bytes(2500))), (False, 2500))
+    sent = a.emit_all(5.0)
+    first = len(sent[0][1]) - 20
+    check((a.resend(5.5, 1 + first, 1 + 2 * first), a.emit_all(5.5)), (True, sent[1:2]))
+    check((a.resend(5.5, 2501, 9999), a.emit_all(5.5)), (False, []))
+    check(raised(ValueError, a.resend, 5.5, -1, 9) != "nothing", True)
+
+
 def congestion_windows():
     """RFC 6928, 2: of segments of 1,000 bytes ten go out at first, of 536 before both SYNs have agreed on them (RFC 9293, 3.7.1). RFC 5681, 3.1,
     and RFC 9438, 4.8: after a timeout ssthresh is half of the 4,000 bytes in flight, and 0.7 of them, and the window a segment."""
@@ -170,6 +181,21 @@ def congestion_windows():
         check((a.timeout(6.0), a.congestion()), (Timer.RETRANSMIT, CongestionWindow(rule, 1000, ssthresh, 1000, False)))
         check(len(a.emit_all(6.0)), 1)
     check(raised(ValueError, a.set_congestion, -1) != "nothing", True)
+
+
+def policies():
+    """RFC 9293, 3.8.6.3 and 3.7.4: an acknowledgement of one segment waits 40 ms, and a second small segment for the first one's
+    acknowledgement."""
+    a, b = Connection.connect(0.0, CONFIGS[0], B, 2), Connection.listen(0.0, CONFIGS[1])
+    check(carry(0.0, a, A, b) + carry(0.0, b, B, a) + carry(0.0, a, A, b), [Answer.DONE] * 3)
+    for end in (a, b):
+        end.set_policy()
+    check((a.send(5.0, b"a"), carry(5.0, a, A, b)), (1, [Answer.DONE]))
+    check((a.send(5.0, b"b"), carry(5.0, a, A, b), a.poll_at()), (1, [], 5.5))
+    check((carry(5.0, b, B, a), b.poll_at(), carry(5.04, b, B, a)), ([], 5.04, [Answer.DONE]))
+    check((carry(5.04, a, A, b), b.poll_at()), ([Answer.DONE], 5.08))
+    b.set_policy(Policy(ack_delay=0, override_timeout=None, answer_interval=0, nagle=False))
+    check((b.poll_at(), carry(5.04, b, B, a)), (None, [Answer.DONE]))
 
 
 def peers():
@@ -397,7 +423,9 @@ def main():
     timeouts()
     later_limits()
     first_again()
+    stretches()
     congestion_windows()
+    policies()
     peers()
     guards()
     time_wait()

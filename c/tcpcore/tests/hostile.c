@@ -367,6 +367,22 @@ static void peer(size_t side)
         CHECK((addr_place != &addr || is_zero(&addr, sizeof addr)) && (port_place != &port || port == 0), 1);
 }
 
+/* A number of any magnitude. */
+static uint64_t any_wait(void) { return any(4) == 0 ? TCPCORE_NEVER : any(UINT64_C(1) << (1 + any(62))); }
+
+/* The default policy, or any. */
+static void choose_policy(tcpcore_connection *end)
+{
+    struct tcpcore_policy policy = TCPCORE_POLICY_DEFAULT;
+    if (any(2) == 0)
+        policy = (struct tcpcore_policy){.ack_delay = any_wait(), .override_timeout = any_wait(), .answer_interval = any_wait(),
+                                         .nagle = (uint32_t)any(3)};
+    struct tcpcore_policy *chosen = rarely() ? NULL : &policy;
+    if (!chosen)
+        is_odd(&odd.null, 1);
+    ANSWERS("set_policy", tcpcore_connection_set_policy(end, chosen), TCPCORE_DONE);
+}
+
 /* A call that changes what its timers will do. */
 static void change_timers(size_t side)
 {
@@ -376,8 +392,12 @@ static void change_timers(size_t side)
                 TCPCORE_DONE);
     else if (any(2) == 0)
         ANSWERS("resend_first", tcpcore_connection_resend_first(end, now), TCPCORE_DONE, TCPCORE_NO_RULE);
-    else
+    else if (any(2) == 0)
+        ANSWERS("resend", tcpcore_connection_resend(end, now, any(5000), any(2) == 0 ? any(10000) : UINT64_MAX), TCPCORE_DONE, TCPCORE_NO_RULE);
+    else if (any(2) == 0)
         ANSWERS("set_congestion", tcpcore_connection_set_congestion(end, (uint32_t)any(4)), TCPCORE_DONE, TCPCORE_NO_RULE, TCPCORE_BAD_RULES);
+    else
+        choose_policy(end);
     struct tcpcore_congestion congestion, *place = any_place(&congestion, end);
     if (tcpcore_connection_congestion(end, place) == TCPCORE_DONE)
         CHECK(congestion.cwnd > 0 && congestion.cwnd >= congestion.smss && congestion.congestion <= TCPCORE_CONGESTION_CUBIC, 1);

@@ -72,6 +72,7 @@ static void every_call(tcpcore_end *end, uint32_t wanted)
     CHECK(count, 0);
     CHECK(memcmp(&to, &NOWHERE, sizeof to), 0);
     CHECK(tcpcore_resend_first(end), wanted);
+    CHECK(tcpcore_resend(end, 0, 9), wanted);
     for (size_t i = 0; i < sizeof buffer; i++)
         CHECK(buffer[i], 0xee);
 }

@@ -1,5 +1,5 @@
 /*
- * The test of tcpcore_emit_acknowledgement and tcpcore_resend_first: each number is worked out by hand from RFC 9293, 3.8, RFC 5681,
+ * The test of tcpcore_emit_acknowledgement, tcpcore_resend_first and tcpcore_resend: each number is worked out by hand from RFC 9293, 3.8, RFC 5681,
  * 3.2, and RFC 6582, 3.2. A is at 10.0.0.1 port 1 with the initial sequence number 1000, B at 10.0.0.2 port 2 with 5000; the MSS is
  * 100.
  */
@@ -158,6 +158,33 @@ static void fin_behind(uint32_t text)
     }
 }
 
+/* Of three segments in flight the second one again, the end of the first and the begin of the second, and nothing before or behind. */
+static void stretch(void)
+{
+    struct segment segment;
+    CHECK(tcpcore_free(&a), TCPCORE_DONE);
+    CHECK(tcpcore_free(&b), TCPCORE_DONE);
+    make(&a, A, 1, 1000);
+    make(&b, B, 2, 5000);
+    opening();
+    CHECK(tcpcore_resend(&a, 0, UINT64_MAX), TCPCORE_NO_RULE);
+    send_bytes(&a, 300);
+    for (uint32_t i = 0; i < 3; i++)
+        emitted(&a);
+    CHECK(tcpcore_resend(&a, 101, 201), TCPCORE_DONE);
+    segment = emitted(&a);
+    says(&segment, 1101, 5001, 100);
+    none_at_all(&a);
+    CHECK(tcpcore_resend(&a, 51, 161), TCPCORE_DONE);
+    segment = emitted(&a);
+    says(&segment, 1051, 5001, 100);
+    segment = emitted(&a);
+    says(&segment, 1151, 5001, 10);
+    CHECK(tcpcore_resend(&a, 301, 400), TCPCORE_NO_RULE);
+    CHECK(tcpcore_resend(&a, 201, 201), TCPCORE_NO_RULE);
+    none_at_all(&a);
+}
+
 int main(void)
 {
     make(&a, A, 1, 1000);
@@ -170,6 +197,7 @@ int main(void)
     CHECK(tcpcore_resend_first(&a), TCPCORE_NO_RULE);
     fin_behind(99);
     fin_behind(100);
+    stretch();
     printf("pacing: %d checks\n", checks);
     return 0;
 }

@@ -9,7 +9,7 @@ import sys
 import tempfile
 
 sys.path.insert(0, os.path.dirname(os.path.dirname(os.path.realpath(__file__))))
-from tcpcore import Config, Ending, Phase, Refused, Rules, Timer  # noqa: E402
+from tcpcore import Config, Ending, Phase, Policy, Refused, Rules, Timer  # noqa: E402
 from tcpcore.simulator import Simulator  # noqa: E402
 
 CLIENT, SERVER = Config("10.0.0.1", 1, 1000, mss=1000), Config("10.0.0.2", 2, 5000, mss=1000)
@@ -210,6 +210,26 @@ def packets_of(path):
     return found
 
 
+def policies():
+    """What waits by a policy goes out once it is due, though no timer expires then, also where the link is busy."""
+    simulator = Simulator(rate=1e6, delay=(0.1, 0.05), client=CLIENT, server=SERVER)
+    simulator.server.connection.set_policy(Policy())
+    simulator.client.send(bytes(100))
+    simulator.run(until=2.0)
+    came = told(simulator, "server", "arrived")[-1].time
+    check(round(told(simulator, "server", "sent")[-1].time - came, 9), 0.04)
+    check((simulator.server.received, told(simulator, "server", "timeout")), (bytes(100), []))
+    # A segment of 1,040 bytes takes 0.832 s: the acknowledgement is due while the link is busy, and nothing is asked for without end.
+    slow = Simulator(rate=1e4, delay=0.01, client=CLIENT, server=SERVER)
+    for side in slow.sides:
+        side.connection.set_policy(Policy())
+        side.send(bytes(2500))
+        side.close()
+    slow.run()
+    check((slow.client.received, slow.server.received), (bytes(2500), bytes(2500)))
+    check({slow.client.phase, slow.server.phase}, {Phase.CLOSED})
+
+
 def captures():
     """A capture has the segments of the record, when they were sent, or when each was at a side; and a lost one at the side that sent it."""
     simulator = of_seed(5)[0]
@@ -242,6 +262,7 @@ def main():
     steps()
     wrong()
     pictures()
+    policies()
     captures()
     print("simulations.py: passed")
 

@@ -1,5 +1,5 @@
 /*
- * One scripted world, as crates/test_connections has it, by tcpcore.h's connections: reads a script and prints its trace.
+ * One scripted world, as checks/programs/test_connections has it, by tcpcore.h's connections: reads a script and prints its trace.
  * c/bindings/test.sh compares what each language prints with what the proved end itself does in Rattle.
  */
 #include "tcpcore.h"

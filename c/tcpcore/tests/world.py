@@ -1,4 +1,4 @@
-"""One scripted world, as crates/test_connections has it, by tcpcore.Connection: reads a script and prints its trace. python3 world.py <SCRIPT"""
+"""One scripted world, as checks/programs/test_connections has it, by tcpcore.Connection: reads a script and prints its trace. python3 world.py <SCRIPT"""
 
 import os
 import sys

@@ -1,6 +1,6 @@
 -- An event in the script's words.
 use Rattle.std.specs.Prelude.{ℕ, List, [], ◌++◌, codes, decimal}
-use Rattle.tcp_replay.specs.Events.{EventContent, Receive, Timer, Deliver, Damage, side_of}
+use Rattle.tcp_replay.specs.Events.{EventContent, Receive, Timer, Resend, Deliver, Damage, side_of}
 use Rattle.tcp_replay.specs.Names.{side_name}
 use Rattle.tcp_conn.specs.Names.{timer_name}
 use Rattle.kit_script.specs.Names.{kind_of, kind_name}
@@ -9,6 +9,7 @@ use Rattle.kit_script.specs.Names.{kind_of, kind_name}
 abbrev pub others_text : EventContent → List ℕ
 others_text (Receive side room) = codes " " ++ decimal room
 others_text (Timer side timer) = codes " " ++ timer_name timer
+others_text (Resend side from to) = codes " " ++ (decimal from ++ (codes " " ++ decimal to))
 others_text (Deliver from k) = codes " " ++ decimal k
 others_text (Damage from k place value) = codes " " ++ (decimal k ++ (codes " " ++ (decimal place ++ (codes " " ++ decimal value))))
 others_text other = []

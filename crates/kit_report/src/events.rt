@@ -18,6 +18,7 @@ fn push_others<A: Allocator>(text: &mut String<A>, event: &Event<A>) -> Result<(
             text.push_str(" ")?;
             text.push_str(timer.name())
         }
+        Event::Resend(_, from, to) => write!(text, " {from} {to}"),
         Event::Deliver(_, k) => push_word_number(text, " ", *k as u64),
         Event::Damage(_, k, place, value) => write!(text, " {k} {place} {value}"),
         _ => Ok(()),

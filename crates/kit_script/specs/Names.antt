@@ -24,6 +24,7 @@ kind_of (events.Timer side timer) = kinds.Timer
 kind_of (events.Emit side) = kinds.Emit
 kind_of (events.EmitAcknowledgement side) = kinds.EmitAcknowledgement
 kind_of (events.ResendFirst side) = kinds.ResendFirst
+kind_of (events.Resend side from to) = kinds.Resend
 kind_of (events.Deliver from k) = kinds.Deliver
 kind_of (events.Damage from k place value) = kinds.Damage
 
@@ -39,11 +40,12 @@ kind_name kinds.Timer = codes "timer"
 kind_name kinds.Emit = codes "emit"
 kind_name kinds.EmitAcknowledgement = codes "emit-acknowledgement"
 kind_name kinds.ResendFirst = codes "resend-first"
+kind_name kinds.Resend = codes "resend"
 kind_name kinds.Deliver = codes "deliver"
 kind_name kinds.Damage = codes "damage"
 
 -- the kind that a word of a script names, if any; no line says `acknowledge`,
--- `emit-acknowledgement` or `resend-first`
+-- `emit-acknowledgement`, `resend-first` or `resend`
 abbrev pub kind_named : List ℕ → Option Kind
 kind_named word =
     if bytes_eq word (kind_name kinds.Connect) then Some kinds.Connect

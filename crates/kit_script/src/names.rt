@@ -32,6 +32,8 @@ pub enum Kind {
     EmitAcknowledgement,
     /// The side sends the first segment in flight again. No line of a script says it.
     ResendFirst,
+    /// The side sends what lies between two positions again. No line of a script says it.
+    Resend,
     /// A segment of the side arrives at the other (RFC 9293, 3.10.7).
     Deliver,
     /// A segment of the side arrives at the other with one byte changed.
@@ -54,6 +56,7 @@ pub fn kind_of<A: Allocator>(event: &Event<A>) -> Kind
         Event::Emit(_) => Kind::Emit,
         Event::EmitAcknowledgement(_) => Kind::EmitAcknowledgement,
         Event::ResendFirst(_) => Kind::ResendFirst,
+        Event::Resend(_, _, _) => Kind::Resend,
         Event::Deliver(_, _) => Kind::Deliver,
         Event::Damage(_, _, _, _) => Kind::Damage,
     }
@@ -75,13 +78,14 @@ pub fn kind_name(kind: Kind) -> &'static str
         Kind::Emit => "emit",
         Kind::EmitAcknowledgement => "emit-acknowledgement",
         Kind::ResendFirst => "resend-first",
+        Kind::Resend => "resend",
         Kind::Deliver => "deliver",
         Kind::Damage => "damage",
     }
 }
 
-/// The kind that a word of a script names. No line says `acknowledge`, `emit-acknowledgement` or
-/// `resend-first`.
+/// The kind that a word of a script names. No line says `acknowledge`, `emit-acknowledgement`, `resend-first` or
+/// `resend`.
 pub(crate) fn read_kind(word: &[u8]) -> Option<Kind>
     ensures { result ≡ spec.kind_named word.now }
 {

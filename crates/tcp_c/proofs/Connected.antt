@@ -7,7 +7,9 @@ use Rattle.tcp_congestion.specs.declared.any_window.AnyWindow.{AnyWindow}
 use Rattle.tcp_conn.specs.declared.emit.transmit.TheConstants.{EMIT_ROOM}
 use Rattle.tcp_end.specs.declared.wired.Wired.{Wired}
 use Rattle.tcp_end.specs.Wired.{driven, driven_if, machine}
-use Rattle.tcp_flow.specs.Flow.{Flowing, emitted}
+use Rattle.tcp_connection.specs.Connection.{Connecting}
+use Rattle.tcp_connection.specs.Going.{after_emit}
+use Rattle.tcp_connection.specs.Wired.{insight}
 use Rattle.tcp_timing.specs.declared.rules.Rules.{Rules}
 use Rattle.tcp_driver.specs.declared.limits.Limits.{Limits}
 use Rattle.tcp_driver.specs.Driver.{Driving}
@@ -15,29 +17,29 @@ use Rattle.tcp_halves.specs.declared.link.Peer.{Peer}
 use Rattle.tcp_conn.specs.declared.outcome.CallError.{CallError}
 use Rattle.tcp_conn.specs.Calls.{opening_answer}
 use Rattle.tcp_conn.specs.State.{State}
-use Rattle.tcp_c.specs.Connections.{after_opening, emitted_within, opened_by, rested_at}
+use Rattle.tcp_c.specs.Connections.{after_opening, emitted_within, opened_by}
 use Rattle.tcp_c.specs.declared.connection.driven.Driven.{Driven}
 
-abbrev Flows : Type 0
-Flows = Flowing (Wired Region) AnyWindow
+abbrev Connects : Type 0
+Connects = Connecting (Wired Region) AnyWindow
 
 -- it is put back as the call has left it
 pub moved_by : (does : Driven → Driven) (held new : Option Driven) (d after : Driven) → held ≡ Some d → new ≡ Some after → after ≡ does d
     → new ≡ option_map does held
 moved_by does held new d after h n e = n ∙ ap (λ (x : Driven). Some x) e ∙ sym (ap (λ (x : Option Driven). option_map does x) h)
 
-abbrev pub of : Flows → Driven
-of f = record { flow = f }
+abbrev pub of : Connects → Driven
+of k = record { connection = k }
 
-pub with_flow : (f g : Flows) → f ≡ g → of f ≡ of g
-with_flow f g e = ap of e
+pub with_connection : (k l : Connects) → k ≡ l → of k ≡ of l
+with_connection k l e = ap of e
 
 -- where there is room for a segment
-pub emitted_by : (now window room : ℕ) (d : Driven) (f : Flows) → EMIT_ROOM ≤ room → f ≡ emitted machine any_control (rested_at now d) now window
-    → of f ≡ emitted_within now window room d
-emitted_by now window room d f enough e =
+pub emitted_by : (now window room : ℕ) (d : Driven) (k : Connects) → EMIT_ROOM ≤ room → k ≡ after_emit machine insight any_control d.connection now window
+    → of k ≡ emitted_within now window room d
+emitted_by now window room d k enough e =
     let little : nat_lt room EMIT_ROOM ≡ false = search rules in
-    ap of e ∙ sym (ap (λ (b : Bool). if b then d else of (emitted machine any_control (rested_at now d) now window)) little)
+    ap of e ∙ sym (ap (λ (b : Bool). if b then d else of (after_emit machine insight any_control d.connection now window)) little)
 
 -- an opening that wasn't refused is what it makes
 abbrev made-in : Driving (Wired Region) → Result (Driving (Wired Region)) CallError → Driving (Wired Region)

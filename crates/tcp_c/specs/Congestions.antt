@@ -6,10 +6,9 @@ use Rattle.tcp_congestion.specs.Reno.{new_window}
 use Rattle.tcp_congestion.specs.declared.any_window.AnyWindow.{AnyWindow}
 use Rattle.tcp_congestion.specs.declared.any_window.AnyWindow.TheVariants.{Unlimited, Reno, Cubic}
 use Rattle.tcp_conn.specs.State.{State}
-use Rattle.tcp_flow.specs.Flow.{with_window}
-use Rattle.tcp_flow.specs.Wired.{smss_of}
+use Rattle.tcp_connection.specs.Using.{choosing}
 use Rattle.tcp_c.specs.Answers.{bad_rules, done, no_rule}
-use Rattle.tcp_c.specs.Connections.{end_of}
+use Rattle.tcp_c.specs.Connections.{agreed, end_of}
 use Rattle.tcp_c.specs.Status.{flag}
 use Rattle.tcp_c.specs.declared.records.CCongestion.{CCongestion}
 use Rattle.tcp_c.specs.declared.connection.driven.Driven.{Driven}
@@ -36,7 +35,7 @@ has_sent s = nat_lt 1 s.sending.snd_nxt
 
 abbrev pub chosen_by : Option AnyWindow → Driven → Driven
 chosen_by None d = d
-chosen_by (Some window) d = if has_sent (end_of d) then d else record { flow = with_window (λ w. smss_of w.end) any_control d.flow window }
+chosen_by (Some window) d = if has_sent (end_of d) then d else record { connection = choosing agreed any_control d.connection window }
 
 abbrev pub chosen : ℕ → Driven → Driven
 chosen number d = chosen_by (window_of number) d
@@ -63,4 +62,4 @@ congestion_by w = record {
 
 abbrev pub congestion_of : Option Driven → CCongestion
 congestion_of None = no_congestion
-congestion_of (Some d) = congestion_by d.flow.window
+congestion_of (Some d) = congestion_by d.connection.flowing.window

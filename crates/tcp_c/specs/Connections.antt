@@ -1,5 +1,5 @@
 -- What the calls of a connection, an end with its timers, report and do.
-use Rattle.std.specs.Prelude.{◌≡◌, ◌≢◌, ◌↔◌, ◌⊎◌, ℕ, ◌-◌, ◌^◌, ◌==◌, nat_lt, Bool, if◌then◌else◌, List, length, IsSome, IsNone, Option, Some, None, Result}
+use Rattle.std.specs.Prelude.{◌≡◌, ◌≢◌, ◌↔◌, ◌⊎◌, ℕ, ◌-◌, ◌^◌, ◌==◌, nat_lt, Bool, false, if◌then◌else◌, List, length, IsSome, IsNone, Option, Some, None, Result}
 use Rattle.region_heap.specs.declared.region.Region.{Region}
 use Rattle.tcp_timing.specs.declared.rules.Rules.{Rules}
 use Rattle.tcp_timing.specs.Rules.{IsSound}
@@ -9,7 +9,7 @@ use Rattle.tcp_driver.specs.declared.limits.Limits.{Limits}
 use Rattle.tcp_driver.specs.declared.machine.Sent.{Sent}
 use Rattle.tcp_driver.specs.declared.machine.Timer.{Timer}
 use Rattle.tcp_driver.specs.declared.machine.Timer.TheVariants.{Retransmit, Reorder, TimeWait, User}
-use Rattle.tcp_driver.specs.Driver.{Driving, arrival_answer, sent_of, way_of, written_of}
+use Rattle.tcp_driver.specs.Driver.{Driving, arrival_answer, way_of}
 use Rattle.tcp_halves.specs.Config.{config_error_number, HasBadCapacity, HasBadMss, HasBadShift, HasBadLimit, IsGoodConfig}
 use Rattle.tcp_halves.specs.declared.config.ConfigError.TheVariants as faults
 use Rattle.tcp_halves.specs.declared.link.Peer.{Peer}
@@ -22,10 +22,14 @@ use Rattle.tcp_conn.specs.State.{State}
 use Rattle.tcp_end.specs.declared.wired.Wired.{Wired}
 use Rattle.tcp_end.specs.Wired.{connected, driven, intake_of, listening, machine, taken_of}
 use Rattle.tcp_congestion.specs.AnyWindow.{any_control}
-use Rattle.tcp_congestion.specs.declared.any_window.AnyWindow.{AnyWindow}
 use Rattle.tcp_congestion.specs.declared.any_window.AnyWindow.TheVariants.{Unlimited}
-use Rattle.tcp_flow.specs.Flow.{Flowing, after_segment, after_timeout, after_use, allowed, emitted, new_flowing, rested}
+use Rattle.tcp_flow.specs.Flow.{new_flowing}
 use Rattle.tcp_flow.specs.Wired.{smss_of}
+use Rattle.tcp_connection.specs.Connection.{after_arriving, new_connecting}
+use Rattle.tcp_connection.specs.Going.{after_emit, sent_by_emit, written_by_emit}
+use Rattle.tcp_connection.specs.Policy.{immediate}
+use Rattle.tcp_connection.specs.Using.{after_acknowledging, after_call, after_reading, after_tick}
+use Rattle.tcp_connection.specs.Wired.{insight}
 use Rattle.tcp_c.specs.Answers.{done, bad_rules, bad_runs, emit_first, in_use, little_room, nothing_due, withheld, arrival_number}
 use Rattle.tcp_c.specs.Configs.{config_of, runs_of, HasBadRuns, HasGoodRuns}
 use Rattle.tcp_c.specs.Reports.{brought_number, no_arrive_report, rule_told}
@@ -61,6 +65,7 @@ limits_of c = record {
   user = limit_of c.user;
   fin_wait_2 = limit_of c.fin_wait_2;
   guard = reach_of c.guard;
+  is_patient = false;
 }
 
 -- ---- AN END IS MADE AND OPENED: to a peer, or for one
@@ -75,9 +80,13 @@ abbrev pub after_opening : State → Option Peer → State
 after_opening s (Some peer) = after_connect s (record { addr = peer.addr; port = peer.port })
 after_opening s None = after_listen s
 
--- without a congestion window, as it begins
+-- what both SYNs agree SMSS is
+abbrev pub agreed : Wired Region → Option ℕ
+agreed w = smss_of w.end
+
+-- without a congestion window, and so that nothing waits, as it begins
 unfoldable pub driven_from : Driving (Wired Region) → ℕ → Driven
-driven_from d now = record { flow = new_flowing d Unlimited now }
+driven_from d now = record { connection = new_connecting machine insight agreed (new_flowing d Unlimited now) immediate }
 
 abbrev pub opens : State → Opening → Driven
 opens s o = driven_from (driven (after_opening s o.peer) o.rules o.limits o.now) o.now
@@ -105,10 +114,17 @@ pub record Makes (old after : Option Driven) (c : CConfig) (r : CConnectionRules
 
 -- ---- THE END of a connection, and a call of its user's, after which it is this
 abbrev pub end_of : Driven → State
-end_of d = d.flow.driving.core.end
+end_of d = d.connection.flowing.driving.core.end
 
 abbrev pub used : Driven → ℕ → State → Driven
-used d now s = record { flow = after_use machine d.flow now (record { end = s }) }
+used d now s = record { connection = after_call machine d.connection now (record { end = s }) }
+
+-- a read of so many bytes at most, which may open the window; and the advertising of the window that is open
+abbrev pub read : Driven → ℕ → ℕ → Driven
+read d now room = record { connection = after_reading machine insight d.connection now room }
+
+abbrev pub acknowledged : Driven → ℕ → Driven
+acknowledged d now = record { connection = after_acknowledging machine d.connection now }
 
 -- ---- TIMERS
 abbrev pub time_number : Option ℕ → ℕ
@@ -127,16 +143,16 @@ timer_told (Some timer) = timer_number timer
 
 -- IT IS NOW: a timer that has expired
 abbrev pub timed_out : ℕ → Driven → Driven
-timed_out now d = record { flow = after_timeout machine any_control d.flow now }
+timed_out now d = record { connection = after_tick machine any_control d.connection now }
 
 -- ---- AN ARRIVAL, summed or vouched for: what the driver makes of it, with the end's own answer
 abbrev pub taken_by : Bool → Driven → List ℕ → List ℕ → List ℕ → Taken reports.Taken
 taken_by vouched d src dst bytes =
-    arrival_answer machine (λ w src dst bytes way. taken_of (intake_of way) w.end src dst bytes) d.flow.driving src dst bytes (way_of d.flow.driving vouched)
+    arrival_answer machine (λ w src dst bytes way. taken_of (intake_of way) w.end src dst bytes) d.connection.flowing.driving src dst bytes (way_of d.connection.flowing.driving vouched)
 
 -- the connection afterwards
 abbrev pub arrived_by : Bool → ℕ → List ℕ → List ℕ → List ℕ → Driven → Driven
-arrived_by vouched now src dst bytes d = record { flow = after_segment machine (λ w. smss_of w.end) any_control d.flow now src dst bytes vouched }
+arrived_by vouched now src dst bytes d = record { connection = after_arriving machine insight agreed any_control d.connection now src dst bytes vouched }
 
 abbrev pub arrival_told : Taken reports.Taken → ℕ
 arrival_told (Done report found) = arrival_number found.arrival
@@ -159,13 +175,9 @@ abbrev pub report_told : Bool → List ℕ → List ℕ → List ℕ → Option 
 report_told vouched src dst bytes None = no_arrive_report
 report_told vouched src dst bytes (Some d) = taken_report (taken_by vouched d src dst bytes)
 
--- ---- AN EMISSION into a buffer of any length. HOW FAR it may reach, in numbers from SND.UNA: as the caller's window has it, and the
--- congestion window where one was chosen, which is told of an idle time first
-abbrev pub rested_at : ℕ → Driven → Flowing (Wired Region) AnyWindow
-rested_at now d = rested machine any_control d.flow now
-
-abbrev pub reach : ℕ → ℕ → Driven → ℕ
-reach now window d = allowed any_control (rested_at now d) window
+-- ---- AN EMISSION into a buffer of any length, within the caller's window, the congestion window, and what waits
+abbrev pub sent_within : ℕ → ℕ → Driven → Option Sent
+sent_within now window d = sent_by_emit machine insight any_control d.connection now window
 
 abbrev pub no_segment : CConnectionSegment
 no_segment = record { to = record { byte = nowhere }; length = 0; position = 0; count = 0 }
@@ -180,18 +192,18 @@ segment_told (Some sent) = record { to = record { byte = sent.to }; length = sen
 
 abbrev pub sent_number : ℕ → ℕ → ℕ → Driven → ℕ
 sent_number now window room d =
-    if nat_lt room EMIT_ROOM then little_room else emission_told (sent_of machine d.flow.driving.core (reach now window d))
+    if nat_lt room EMIT_ROOM then little_room else emission_told (sent_within now window d)
 
 abbrev pub written_within : ℕ → ℕ → List ℕ → Option Driven → List ℕ
 written_within now window out None = out
 written_within now window out (Some d) =
-    if nat_lt (length out) EMIT_ROOM then out else written_of machine d.flow.driving.core (reach now window d) out
+    if nat_lt (length out) EMIT_ROOM then out else written_by_emit machine insight any_control d.connection now window out
 
 abbrev pub segment_reported : ℕ → ℕ → ℕ → Option Driven → CConnectionSegment
 segment_reported now window room None = no_segment
 segment_reported now window room (Some d) =
-    if nat_lt room EMIT_ROOM then no_segment else segment_told (sent_of machine d.flow.driving.core (reach now window d))
+    if nat_lt room EMIT_ROOM then no_segment else segment_told (sent_within now window d)
 
 abbrev pub emitted_within : ℕ → ℕ → ℕ → Driven → Driven
 emitted_within now window room d =
-    if nat_lt room EMIT_ROOM then d else record { flow = emitted machine any_control (rested_at now d) now window }
+    if nat_lt room EMIT_ROOM then d else record { connection = after_emit machine insight any_control d.connection now window }

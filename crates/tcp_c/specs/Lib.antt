@@ -14,3 +14,4 @@ pub mod Status
 pub mod Trains
 pub mod ConnectionTrains
 pub mod Congestions
+pub mod Policies

@@ -1,9 +1,10 @@
 -- What a sender that paces what it sends again asks of an end: an acknowledgement alone (RFC 9293, 3.8.6.3), into a buffer of any
--- length, where it wants at least so many bytes; and the first segment alone again (RFC 5681, 3.2; RFC 6582, 3.2).
+-- length, where it wants at least so many bytes; and the first segment alone again (RFC 5681, 3.2; RFC 6582, 3.2), or any stretch (RFC
+-- 6675, 5).
 use Rattle.std.specs.Prelude.{ℕ, nat_lt, if◌then◌else◌, List, length, is_some, unwrap_or, Option, Some, None}
 use Rattle.tcp_conn.specs.State.{State}
 use Rattle.tcp_conn.specs.Emission.{ack_alone_length, ack_alone_destination, buffer_after_ack_alone, after_ack_alone}
-use Rattle.tcp_conn.specs.Timers.{sends_again}
+use Rattle.tcp_conn.specs.Timers.{resends_between, sends_again}
 use Rattle.tcp_c.specs.Answers.{done, little_room, no_rule, nothing_due}
 use Rattle.tcp_c.specs.Segments.{nowhere}
 
@@ -30,3 +31,7 @@ ack_buffer least out (Some s) = if nat_lt (length out) least then out else buffe
 -- whether anything is in flight
 abbrev pub resend_number : State → ℕ
 resend_number s = if sends_again s then done else no_rule
+
+-- whether anything in flight lies between two positions
+abbrev pub stretch_number : ℕ → ℕ → State → ℕ
+stretch_number from to s = if resends_between s from to then done else no_rule

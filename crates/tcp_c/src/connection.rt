@@ -5,6 +5,7 @@ pub(crate) mod driven;
 pub(crate) mod driven_handle;
 pub(crate) mod driven_held;
 pub(crate) mod making;
+pub(crate) mod policy;
 pub(crate) mod rules;
 pub(crate) mod segments;
 pub(crate) mod timing;

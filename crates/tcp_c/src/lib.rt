@@ -91,6 +91,16 @@
 //!     tcp_c_addr to;
 //! } tcp_c_connection_segment;
 //!
+//! typedef struct {
+//!     uint64_t cwnd, ssthresh, smss;
+//!     uint32_t congestion, is_recovering;
+//! } tcp_c_congestion;
+//!
+//! typedef struct {
+//!     uint64_t ack_delay, override_timeout, answer_interval;
+//!     uint32_t nagle;
+//! } tcp_c_policy;
+//!
 //! typedef struct { void *at; size_t size; } tcp_c_block;
 //!
 //! uint32_t tcp_c_new(tcp_c_handle *handle, const tcp_c_config *config, tcp_c_block block);
@@ -117,6 +127,7 @@
 //! uint32_t tcp_c_emit_train(tcp_c_handle *handle, uint8_t *out, size_t out_length, size_t most, tcp_c_train_record *train);
 //! uint32_t tcp_c_emit_acknowledgement(tcp_c_handle *handle, uint8_t *out, size_t out_length, tcp_c_addr *to, size_t *count);
 //! uint32_t tcp_c_resend_first(tcp_c_handle *handle);
+//! uint32_t tcp_c_resend(tcp_c_handle *handle, uint64_t from, uint64_t to);
 //! uint32_t tcp_c_parts(tcp_c_handle *handle, uint8_t *header, size_t header_length, tcp_c_parts_record *parts);
 //! uint32_t tcp_c_sent(tcp_c_handle *handle);
 //! uint32_t tcp_c_transmit(tcp_c_handle *handle, uint8_t *out, size_t out_length, tcp_c_transmit_record *transmit);
@@ -156,6 +167,10 @@
 //! uint32_t tcp_c_connection_peer(tcp_c_connection *handle, tcp_c_addr *addr, uint16_t *port);
 //! uint32_t tcp_c_connection_set_user_timeout(tcp_c_connection *handle, uint64_t limit);
 //! uint32_t tcp_c_connection_resend_first(tcp_c_connection *handle, uint64_t now);
+//! uint32_t tcp_c_connection_resend(tcp_c_connection *handle, uint64_t now, uint64_t from, uint64_t to);
+//! uint32_t tcp_c_connection_set_congestion(tcp_c_connection *handle, uint32_t congestion);
+//! uint32_t tcp_c_connection_congestion(tcp_c_connection *handle, tcp_c_congestion *congestion);
+//! uint32_t tcp_c_connection_set_policy(tcp_c_connection *handle, const tcp_c_policy *policy);
 //! ```
 //!
 //! Each returns a number of the table in `answers`, or that of a refusal: 1 to 6 for bytes that are no segment
@@ -235,11 +250,13 @@ pub use connection::making::tcp_c_connection_connect;
 pub use connection::making::tcp_c_connection_free;
 pub use connection::making::tcp_c_connection_listen;
 pub use connection::making::tcp_c_connection_room;
+pub use connection::policy::tcp_c_connection_set_policy;
 pub use connection::rules::NEVER;
 pub use connection::segments::tcp_c_connection_arrive;
 pub use connection::segments::tcp_c_connection_arrive_vouched;
 pub use connection::segments::tcp_c_connection_emit;
 pub use connection::segments::tcp_c_connection_emit_train;
+pub use connection::segments::tcp_c_connection_resend;
 pub use connection::segments::tcp_c_connection_resend_first;
 pub use connection::timing::tcp_c_connection_poll_at;
 pub use connection::timing::tcp_c_connection_set_user_timeout;
@@ -265,6 +282,7 @@ pub use lending::tcp_c_consume;
 pub use lending::tcp_c_peek;
 pub use making::tcp_c_free;
 pub use making::tcp_c_new;
+pub use pacing::tcp_c_resend;
 pub use pacing::tcp_c_resend_first;
 pub use parts::tcp_c_parts;
 pub use parts::tcp_c_sent;
@@ -277,6 +295,7 @@ pub use records::CConnectionSegment;
 pub use records::CIntake;
 pub use records::CLent;
 pub use records::CParts;
+pub use records::CPolicy;
 pub use records::CStatus;
 pub use records::CTimeWait;
 pub use records::CTrain;

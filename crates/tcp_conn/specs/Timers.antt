@@ -1,5 +1,5 @@
 -- The timers (RFC 9293, 3.10.8): whether a timer's rule applies, and the end after it.
-use Rattle.std.specs.Prelude.{ℕ, Bool, ◌||◌, if◌then◌else◌, ◌&&◌, Option, Some, None, is_some}
+use Rattle.std.specs.Prelude.{ℕ, Bool, ◌||◌, if◌then◌else◌, ◌&&◌, Option, Some, None, is_some, max, min, nat_lt}
 use Rattle.tcp_sendq.specs.SendQueue.{last_mark_end}
 use Rattle.tcp_conn.specs.declared.phase.Timer.{Timer}
 use Rattle.tcp_conn.specs.declared.timers.Timers.{Timers}
@@ -7,7 +7,7 @@ use Rattle.tcp_conn.specs.declared.phase.Timer.TheVariants as timers
 use Rattle.tcp_conn.specs.Phase.{is_time_wait, is_handshake, sends_text}
 use Rattle.tcp_conn.specs.State.{Sending, State}
 use Rattle.tcp_conn.specs.Due.{text_limit}
-use Rattle.tcp_halves.specs.Sender.{is_probe_needed, with_first_resent, with_gaps_resent, with_all_resent, is_in_flight}
+use Rattle.tcp_halves.specs.Sender.{is_probe_needed, with_first_resent, with_gaps_resent, with_all_resent, with_resent, is_in_flight}
 use Rattle.tcp_conn.specs.Endings.{after_orderly_end}
 
 -- RETRANSMISSION TIMEOUT (RFC 9293, 3.8.1 and 3.8.6.1): the SYN is pending again; or what is in flight is sent again; or,
@@ -27,6 +27,14 @@ after_retransmit s = record s {
 -- FIRST SEGMENT AGAIN (RFC 5681, 3.2; RFC 6582, 3.2): of what is in flight, one segment's part goes out again
 unfoldable pub after_resend_first : State → State
 after_resend_first s = record s { sending = if sends_again s then with_first_resent s.sending (text_limit s) else s.sending }
+
+-- ONE STRETCH AGAIN (RFC 6675, 5; RFC 8985, 6.2): where some position in flight lies between two positions, all that do are
+-- sent again
+abbrev pub resends_between : State → ℕ → ℕ → Bool
+resends_between s from to = sends_text s.phase && nat_lt (max s.sending.snd_una from) (min s.sending.snd_nxt to)
+
+unfoldable pub after_resend : State → ℕ → ℕ → State
+after_resend s from to = record s { sending = if resends_between s from to then with_resent s.sending from to else s.sending }
 
 -- REORDERING TIMEOUT: what lies before the end of the last mark is sent again (RFC 2018, 5)
 abbrev pub marks_end : State → Option ℕ

@@ -9,7 +9,7 @@
 //!   its text.
 //! - For congestion control: `transmit_within` emits what may go out within a window from SND.UNA, and `train_within`
 //!   writes it as one, `emit_acknowledgement` an acknowledgement without data, and `resend_first` sends the first segment
-//!   in flight again in place of all of them.
+//!   in flight again in place of all of them, `resend` what of them lies between two positions.
 //! - Fewer copies and sums: `peek` lends what is unread ([`Lent`]) and `consume` removes it. `parts` lends the text of
 //!   the segment that is due ([`Parts`]) and `sent` reports its emission. `arrive_vouched` takes what a device has
 //!   checked, and `emit_partial` leaves the checksum to it. `emit_train` writes many segments as one ([`Train`]), for a

@@ -1,6 +1,6 @@
 ghost use Rattle.std.specs.Prelude.{◌≡◌};
 ghost use Rattle.tcp_conn.specs.State.{IsWithin};
-ghost use Rattle.tcp_conn.specs.Timers.{after_reorder, after_resend_first, after_retransmit, after_time_wait, after_timer, needs_probe, sends_again, timer_answer, timers_wanted};
+ghost use Rattle.tcp_conn.specs.Timers.{after_reorder, after_resend, after_resend_first, after_retransmit, after_time_wait, after_timer, needs_probe, resends_between, sends_again, timer_answer, timers_wanted};
 ghost use Rattle.tcp_conn.specs.declared.phase.Timer.TheVariants.{Reorder, Retransmit, TimeWait};
 
 use crate::endpoint::Endpoint;
@@ -103,6 +103,27 @@ impl<A: Allocator> Endpoint<A> {
         if again {
             let limit = self.text_limit();
             self.sender.resend_first(limit);
+        }
+        // So that the proof knows what always holds of an end.
+        let _ = &self.config;
+        again
+    }
+
+    /// One stretch of the stream is lost: of what is in flight, the text and the FIN from the position `from` on and
+    /// before `to` go out again before new data, but for what the peer has reported, as many segments as that takes
+    /// (RFC 6675, 5; RFC 8985, 6.2). As `resend_first` it takes the place of what was to be sent again until then.
+    /// Positions count from the SYN, which is at 0. Returns whether anything in flight lies between them; where nothing
+    /// does, nothing changes.
+    #[tactic(auto, unfolding(crate::specs::Timers::after_resend))]
+    pub fn resend(&mut self, from: u64, to: u64) -> bool
+        ensures answer { result ≡ resends_between self.old from to }
+        ensures state { self.new ≡ after_resend self.old from to }
+        ensures within { IsWithin self.new }
+    {
+        let start = self.sender.snd_una.max(from);
+        let again = sends_text(self.phase) && start < self.sender.snd_nxt.min(to);
+        if again {
+            self.sender.resend(from, to);
         }
         // So that the proof knows what always holds of an end.
         let _ = &self.config;

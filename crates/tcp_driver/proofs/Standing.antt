@@ -81,13 +81,13 @@ built t now retransmit reorder time_wait una since resent restarted left = recor
 -- what following makes of them, by whether nothing was acknowledged
 following : Times → Wants → ℕ → ℕ → Bool → Times
 following t w una now same = record t {
-  deadlines = deadlines_after t w same (span_after same t.span t.estimate) now;
+  deadlines = deadlines_after t w same (span_after same t.limits.is_patient t.span t.estimate) now;
   una = una;
   since = kept w.retransmit same t.since now;
   resent = if w.retransmit && same then t.resent else 0;
   restarted = still w.retransmit same t.restarted;
   left = kept w.fin_wait_2 true t.left now;
-  span = span_after same t.span t.estimate;
+  span = span_after same t.limits.is_patient t.span t.estimate;
   clock = now;
 }
 

@@ -36,6 +36,9 @@ pub record Machine (S : Type 0) : Type 0 where
   -- whether anything is in flight, and the state after the first segment of it is to go out again
   pub can_resend : S → Bool
   pub first_resent : S → S
+  -- whether anything in flight lies between two positions, and the state after that is to go out again
+  pub resends : S → ℕ → ℕ → Bool
+  pub resent : S → ℕ → ℕ → S
   -- after the user's calls, and what is read
   pub sent : S → List ℕ → S
   pub read : S → List ℕ → List ℕ

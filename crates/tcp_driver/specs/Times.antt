@@ -53,14 +53,17 @@ pub record IsSoon (t : Times) : Type 0 where
 abbrev pub time_at : Times → ℕ → ℕ
 time_at t now = max t.clock (min last now)
 
--- ---- REORDERING is given a round trip, or the timeout where none was measured; and where nothing is acknowledged twice as long
--- each time, up to the timeout
+-- ---- REORDERING is given a round trip, or the timeout where none was measured or losses are found by time (RFC 8985); and where
+-- nothing is acknowledged twice as long each time, up to the timeout
 abbrev pub round_trip : Option RoundTrip → ℕ → ℕ
 round_trip None rto = rto
 round_trip (Some t) rto = min rto t.srtt
 
-abbrev pub span_after : Bool → ℕ → Estimate → ℕ
-span_after same span e = if same then span else round_trip e.trip e.rto
+abbrev pub first_span : Bool → Estimate → ℕ
+first_span patient e = if patient then e.rto else round_trip e.trip e.rto
+
+abbrev pub span_after : Bool → Bool → ℕ → Estimate → ℕ
+span_after same patient span e = if same then span else first_span patient e
 
 abbrev pub twice : ℕ → ℕ → ℕ
 twice span rto = min rto (2 * min rto span)
@@ -79,13 +82,13 @@ still runs same before = if runs && same then before else false
 
 abbrev pub followed : Times → Wants → ℕ → ℕ → Times
 followed t w una now = record t {
-  deadlines = deadlines_after t w (una == t.una) (span_after (una == t.una) t.span t.estimate) now;
+  deadlines = deadlines_after t w (una == t.una) (span_after (una == t.una) t.limits.is_patient t.span t.estimate) now;
   una = una;
   since = kept w.retransmit (una == t.una) t.since now;
   resent = if w.retransmit && una == t.una then t.resent else 0;
   restarted = still w.retransmit (una == t.una) t.restarted;
   left = kept w.fin_wait_2 true t.left now;
-  span = span_after (una == t.una) t.span t.estimate;
+  span = span_after (una == t.una) t.limits.is_patient t.span t.estimate;
   clock = now;
 }
 

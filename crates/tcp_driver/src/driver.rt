@@ -253,6 +253,14 @@ impl<C: Core + Drop> Driver<C> {
         self.timers.is_suspect()
     }
 
+    /// Whether a burst is on: a timer has expired, and not all that was due then has gone out.
+    #[must_use]
+    pub fn is_bursting(&self) -> bool
+        ensures { result ≡ self.now.times.bursting }
+    {
+        self.timers.is_bursting()
+    }
+
     /// Sets the user timeout: how long, in microseconds, what was sent may be without an answer before the connection is
     /// aborted (RFC 9293, 3.8.3); the time that has passed already counts. `None` is forever. A SYN has a limit of its own,
     /// [`Limits::handshake`].
@@ -293,6 +301,19 @@ impl<C: Core + Drop> Driver<C> {
     {
         let now = self.timers.time_at(now);
         let answer = self.core.resend_first();
+        self.timers.follow(self.core.wants(), self.core.una(), now);
+        answer
+    }
+
+    /// Of what is in flight what lies from the position `from` on and before `to` goes out again at once, and nothing else of it
+    /// (RFC 6675, 5; RFC 8985, 6.2), for a caller that knows which stretch is lost: whether anything in flight lies there. A
+    /// position counts from the SYN, which is at 0, as those of [`Sent`] do.
+    pub fn resend(&mut self, now: u64, from: u64, to: u64) -> bool
+        ensures answer { result ≡ C.machine.resends self.old.core from to }
+        ensures state { self.new ≡ after_user C.machine self.old (at self.old now) (C.machine.resent self.old.core from to) }
+    {
+        let now = self.timers.time_at(now);
+        let answer = self.core.resend(from, to);
         self.timers.follow(self.core.wants(), self.core.una(), now);
         answer
     }

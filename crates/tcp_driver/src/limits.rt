@@ -22,11 +22,15 @@ pub struct Limits {
     /// number may. It has to be two of the greatest windows or more, else what the peer sent may be kept out. `None` is no
     /// guard, as RFC 9293 has it.
     pub guard: Option<u32>,
+    /// Whether what the peer's blocks pass over is given a whole timeout before it counts as lost, and not a round trip: for a caller
+    /// that finds losses by time, and has what is lost sent again by [`Driver::resend`](crate::Driver::resend) (RFC 8985).
+    pub is_patient: bool,
 }
 
 impl Limits {
     /// The values of RFC 9293: 4 minutes of TIME-WAIT, 3 expiries, 3 minutes for a SYN, a user timeout of 5 minutes (3.4.2,
-    /// 3.8.3 and 3.9.1.1), and FIN-WAIT-2 without a limit; and a guard of two of the greatest windows, 2^20 bytes each.
+    /// 3.8.3 and 3.9.1.1), and FIN-WAIT-2 without a limit; a guard of two of the greatest windows, 2^20 bytes each; and a round
+    /// trip for what blocks pass over.
     pub fn standard() -> Limits
         ensures { result ≡ standard }
     {
@@ -37,6 +41,7 @@ impl Limits {
             user: Some(300_000_000),
             fin_wait_2: None,
             guard: Some(1 << 21),
+            is_patient: false,
         }
     }
 }

@@ -190,6 +190,12 @@ pub trait Core {
         ensures answer { result ≡ machine.can_resend self.old }
         ensures state { self.new ≡ machine.first_resent self.old };
 
+    /// Of what is in flight what lies from the position `from` on and before `to` goes out again (RFC 6675, 5; RFC 8985, 6.2):
+    /// whether anything does.
+    fn resend(&mut self, from: u64, to: u64) -> bool
+        ensures answer { result ≡ machine.resends self.old from to }
+        ensures state { self.new ≡ machine.resent self.old from to };
+
     /// The user has text to send (RFC 9293, 3.10.2).
     fn send(&mut self, text: &[u8]) -> Self::Sending
         ensures answer { result ≡ send_answer self.old text.now }

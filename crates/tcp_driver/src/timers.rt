@@ -2,7 +2,7 @@ mod expiring;
 
 ghost use Rattle.std.specs.Prelude.{IfSome, None, Some, is_some, max, min, false, true, ◌≡◌, ◌==◌, ◌≤◌, ◌+◌, ◌<◌, ◌*◌, ◌^◌};
 ghost use Rattle.tcp_driver.specs.Deadlines.{kept, last};
-ghost use Rattle.tcp_driver.specs.Times.{restarts, round_trip};
+ghost use Rattle.tcp_driver.specs.Times.{first_span, restarts};
 
 use crate::codes::code_of;
 use crate::conditions::{goes_again, is_shut, opens, runs_none, shut_after, still};
@@ -114,13 +114,13 @@ impl Timers {
         self.bursting
     }
 
-    /// SRTT or the timeout, whichever is less: what reordering is given at first.
-    fn round_trip(&self) -> u64
-        ensures { result ≡ round_trip self.now.estimate.trip self.now.estimate.rto }
+    /// What reordering is given at first: SRTT or the timeout, whichever is less, or the timeout by patience.
+    fn first_span(&self) -> u64
+        ensures { result ≡ first_span self.now.limits.is_patient self.now.estimate }
     {
         match self.estimator.trip() {
-            Some(trip) => self.estimator.rto().min(trip.srtt),
-            None => self.estimator.rto(),
+            Some(trip) if !self.limits.is_patient => self.estimator.rto().min(trip.srtt),
+            _ => self.estimator.rto(),
         }
     }
 
@@ -262,7 +262,7 @@ impl Timers {
         self.resent = 0;
         self.restarted = false;
         self.una = una;
-        self.span = self.round_trip();
+        self.span = self.first_span();
         self.start_others(false, reorder, time_wait, fin_wait_2);
     }
 

@@ -36,7 +36,7 @@ use Rattle.tcp_conn.specs.Guard.{after_intake, intake_answer, intake_at_once, in
 use Rattle.tcp_conn.specs.Phase.{is_time_wait}
 use Rattle.tcp_conn.specs.State.{State}
 use Rattle.tcp_conn.specs.Taking.{bytes_acked}
-use Rattle.tcp_conn.specs.Timers.{after_resend_first, after_timer, sends_again, timers_wanted}
+use Rattle.tcp_conn.specs.Timers.{after_resend, after_resend_first, after_timer, resends_between, sends_again, timers_wanted}
 use Rattle.tcp_conn.specs.TrainWithin.{train_buffer_within, train_within}
 use Rattle.tcp_conn.specs.Transmission.{transmit_ack_alone, transmit_due}
 use Rattle.tcp_end.specs.declared.wired.Wired.{Wired}
@@ -158,6 +158,8 @@ machine = record {
   written_row = λ w window most out. train_buffer_within w.end window most out;
   can_resend = λ w. sends_again w.end;
   first_resent = λ w. record { end = after_resend_first w.end };
+  resends = λ w from to. resends_between w.end from to;
+  resent = λ w from to. record { end = after_resend w.end from to };
   sent = λ w text. record { end = after_send w.end text };
   read = λ w out. read_into w.end out;
   received = λ w room. record { end = after_receive w.end room };

@@ -187,6 +187,10 @@ impl<A: Allocator> Core for Wired<A> {
         self.end.resend_first()
     }
 
+    fn resend(&mut self, from: u64, to: u64) -> bool {
+        self.end.resend(from, to)
+    }
+
     fn send(&mut self, text: &[u8]) -> Result<usize, CallError> {
         self.end.send(text)
     }

@@ -13,7 +13,7 @@ use Rattle.tcp_replay.specs.declared.event.Side.{Side}
 use Rattle.tcp_replay.specs.declared.event.Side.TheVariants.{A, B}
 use Rattle.tcp_replay.specs.declared.outcome.StepError.{StepError}
 use Rattle.tcp_replay.specs.Among.{Happening, Happens, Injection}
-use Rattle.tcp_replay.specs.Events.{EventContent, HasBytes, Acknowledge, Abort, Close, Connect, Damage, Deliver, Emit, EmitAcknowledgement, Listen, Receive, ResendFirst, Send, Timer, side_of}
+use Rattle.tcp_replay.specs.Events.{EventContent, HasBytes, Acknowledge, Abort, Close, Connect, Damage, Deliver, Emit, EmitAcknowledgement, Listen, Receive, Resend, ResendFirst, Send, Timer, side_of}
 use Rattle.tcp_replay.specs.Guarded.{AreFairToGuard as AreFairInWorld, IsBlindToGuard, IsFairToGuard as IsFairInWorld, after_all_guarded, after_guarded, by_guard, guarded_after, there_guarded}
 use Rattle.tcp_replay.specs.Safe.{FindsDamage, HintsAreTrue, IsSafe}
 use Rattle.tcp_replay.specs.World.{WorldState, both, bytes_with_damage, effect_of, other, world_after, world_with_runs}
@@ -63,6 +63,7 @@ plain-event reach w (Timer side which) h = refl
 plain-event reach w (Emit side) h = refl
 plain-event reach w (EmitAcknowledgement side) h = refl
 plain-event reach w (ResendFirst side) h = refl
+plain-event reach w (Resend side from to) h = refl
 plain-event reach w (Deliver from k) h = absurd h
 plain-event reach w (Damage from k place value) h = absurd h
 
@@ -141,6 +142,7 @@ guarded-call reach p (pairs.Acknowledges side now) guards = call-is_event p (pai
 guarded-call reach p (pairs.Closes side now) guards = call-is_event p (pairs.Closes side now) tt ∙ plain-event reach (world_in p) (Close side) tt
 guarded-call reach p (pairs.Aborts side now) guards = call-is_event p (pairs.Aborts side now) tt ∙ plain-event reach (world_in p) (Abort side) tt
 guarded-call reach p (pairs.ResendsFirst side now) guards = call-is_event p (pairs.ResendsFirst side now) tt ∙ plain-event reach (world_in p) (ResendFirst side) tt
+guarded-call reach p (pairs.Resends side now from to) guards = call-is_event p (pairs.Resends side now from to) tt ∙ plain-event reach (world_in p) (Resend side from to) tt
 guarded-call reach p (pairs.SetsUserTimeout side limit) guards = call-is_event p (pairs.SetsUserTimeout side limit) tt
 
 -- ---- AN INJECTION

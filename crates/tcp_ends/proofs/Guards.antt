@@ -22,7 +22,7 @@ use Rattle.tcp_replay.specs.World.{PartyState, bytes_with_damage, other}
 use Rattle.tcp_replay.proofs.run.Passing.{passes}
 use Rattle.tcp_ends.specs.Pair as pairs
 use Rattle.tcp_ends.specs.Pair.{HasNoGuards, Member, Pair, PairCall, damage_refusal_in, end_of, guard_of, member_after_abort, member_after_acknowledge, member_after_arrival}
-use Rattle.tcp_ends.specs.Pair.{member_after_close, member_after_emission, member_after_receive, member_after_resend_first, member_after_send, member_after_time}
+use Rattle.tcp_ends.specs.Pair.{member_after_close, member_after_emission, member_after_receive, member_after_resend, member_after_resend_first, member_after_send, member_after_time}
 use Rattle.tcp_ends.specs.Pair.{member_after_user_timeout, member_of, pair_after, party_in, refusal_in, segment_in, unless_refused, with_member}
 
 -- ---- A GUARD STAYS, at each call of a driver,
@@ -92,6 +92,7 @@ guards-stay p (pairs.Acknowledges here now) side = with-guards p here (member_af
 guards-stay p (pairs.Closes here now) side = with-guards p here (member_after_close (member_of p here) now) refl side
 guards-stay p (pairs.Aborts here now) side = with-guards p here (member_after_abort (member_of p here) now) refl side
 guards-stay p (pairs.ResendsFirst here now) side = with-guards p here (member_after_resend_first (member_of p here) now) refl side
+guards-stay p (pairs.Resends here now from to) side = with-guards p here (member_after_resend (member_of p here) now from to) refl side
 guards-stay p (pairs.SetsUserTimeout here limit) side = with-guards p here (member_after_user_timeout (member_of p here) limit) refl side
 
 -- the party of a member whose end is this
@@ -137,6 +138,7 @@ unguarded-passes p (pairs.Acknowledges side now) none = tt
 unguarded-passes p (pairs.Closes side now) none = tt
 unguarded-passes p (pairs.Aborts side now) none = tt
 unguarded-passes p (pairs.ResendsFirst side now) none = tt
+unguarded-passes p (pairs.Resends side now from to) none = tt
 unguarded-passes p (pairs.SetsUserTimeout side limit) none = tt
 
 pub unguarded-pass : {H : Type 0} (p : Pair H) (list : List PairCall) → HasNoGuards p → CallsPass p list

@@ -291,6 +291,7 @@ incident-calm p (Calls (pairs.Acknowledges side now)) h = tt
 incident-calm p (Calls (pairs.Closes side now)) h = absurd h
 incident-calm p (Calls (pairs.Aborts side now)) h = absurd h
 incident-calm p (Calls (pairs.ResendsFirst side now)) h = tt
+incident-calm p (Calls (pairs.Resends side now from to)) h = tt
 incident-calm p (Calls (pairs.SetsUserTimeout side limit)) h = tt
 incident-calm p (Injects side now i) h = injection-calm p side i (is_lost (member_of p side) i.bytes) h
 incident-calm p (Rests side) h = calm-rest (world_in p) (timer_answer (end_of (member_of p side)) Retransmit) side
@@ -319,6 +320,7 @@ fair-call p (pairs.Acknowledges side now) h = tt
 fair-call p (pairs.Closes side now) h = tt
 fair-call p (pairs.Aborts side now) h = tt
 fair-call p (pairs.ResendsFirst side now) h = tt
+fair-call p (pairs.Resends side now from to) h = tt
 fair-call p (pairs.SetsUserTimeout side limit) h = tt
 
 fair-calm : {H : Type 0} (p : Pair H) (incident : Incident) → IsCalmIncident p incident → IsFairIncident p incident

@@ -14,11 +14,11 @@ use Rattle.tcp_end.specs.declared.wired.Wired.{Wired}
 use Rattle.tcp_end.specs.Wired.{machine}
 use Rattle.tcp_replay.specs.declared.event.Side.{Side}
 use Rattle.tcp_replay.specs.Emissions.{due_for}
-use Rattle.tcp_replay.specs.Events.{EventContent, HasBytes, Send, Receive, Acknowledge, Close, Abort, Timer, Emit, EmitAcknowledgement, ResendFirst, Deliver, Damage}
+use Rattle.tcp_replay.specs.Events.{EventContent, HasBytes, Send, Receive, Acknowledge, Close, Abort, Timer, Emit, EmitAcknowledgement, Resend, ResendFirst, Deliver, Damage}
 use Rattle.tcp_replay.specs.World.{WorldState, bytes_with_damage, effect_of, other, party_after_abort, party_after_ack_alone, party_after_arrival, party_after_close, party_after_emission}
-use Rattle.tcp_replay.specs.World.{party_after_acknowledge, party_after_resend_first, party_after_send, party_after_timer, party_out, world_after, world_after_all}
+use Rattle.tcp_replay.specs.World.{party_after_acknowledge, party_after_resend, party_after_resend_first, party_after_send, party_after_timer, party_out, world_after, world_after_all}
 use Rattle.tcp_ends.specs.Pair as pairs
-use Rattle.tcp_ends.specs.Pair.{CallHasBytes, Member, Pair, PairCall, damage_refusal_in, end_of, member_after_abort, member_after_acknowledge, member_after_close, member_after_emission, member_after_receive, member_after_resend_first, member_after_send}
+use Rattle.tcp_ends.specs.Pair.{CallHasBytes, Member, Pair, PairCall, damage_refusal_in, end_of, member_after_abort, member_after_acknowledge, member_after_close, member_after_emission, member_after_receive, member_after_resend, member_after_resend_first, member_after_send}
 use Rattle.tcp_ends.specs.Pair.{guard_of, member_of, pair_after, pair_after_all, party_in, refusal_in, segment_in, with_member, world_in}
 use Rattle.tcp_ends.specs.Events.{emission_event, event_of, events_of, expiry_event, is_lost, unless_lost, with_event}
 use Rattle.tcp_ends.specs.Laws.{CallsAreEvents}
@@ -64,7 +64,7 @@ arrives-as m from bytes h =
 
 -- ONE CALL
 pub call-is_event : {H : Type 0} (p : Pair H) (call : PairCall) → CallPasses p call → world_in (pair_after p call) ≡ after_maybe (world_in p) (event_of p call)
-unfolding pair_after event_of effect_of party_after_arrival party_after_send party_after_acknowledge party_after_close party_after_abort party_after_resend_first
+unfolding pair_after event_of effect_of party_after_arrival party_after_send party_after_acknowledge party_after_close party_after_abort party_after_resend party_after_resend_first
 call-is_event p (pairs.Arrives from k now) passes =
     step-there p (Deliver from k) (refusal_in p from k) (is_lost (member_of p (other from)) (segment_in p from k))
     (taken_by (member_of p (other from)) (member_of p from) now (segment_in p from k)) (record {
@@ -97,6 +97,8 @@ call-is_event p (pairs.Aborts side now) passes =
     step-here p (member_after_abort (member_of p side) now) (Abort side) (record { refusal_is = refl; here_is = refl; there_is = λ _. refl })
 call-is_event p (pairs.ResendsFirst side now) passes =
     step-here p (member_after_resend_first (member_of p side) now) (ResendFirst side) (record { refusal_is = refl; here_is = refl; there_is = λ _. refl })
+call-is_event p (pairs.Resends side now from to) passes =
+    step-here p (member_after_resend (member_of p side) now from to) (Resend side from to) (record { refusal_is = refl; here_is = refl; there_is = λ _. refl })
 call-is_event p (pairs.SetsUserTimeout side limit) passes = step-nowhere side p _ refl
 
 -- MANY
@@ -143,6 +145,7 @@ call-bytes p (pairs.Acknowledges side now) h = tt
 call-bytes p (pairs.Closes side now) h = tt
 call-bytes p (pairs.Aborts side now) h = tt
 call-bytes p (pairs.ResendsFirst side now) h = tt
+call-bytes p (pairs.Resends side now from to) h = tt
 call-bytes p (pairs.SetsUserTimeout side limit) h = tt
 
 with-bytes : (event : Option EventContent) (list : List EventContent) → IfSome event HasBytes → AllByRecursion HasBytes list → AllByRecursion HasBytes (with_event event list)

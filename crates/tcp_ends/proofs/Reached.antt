@@ -194,6 +194,7 @@ module _ {H : Type 0} (life : ℕ) (a b : Config) (runs_a runs_b : ℕ) (most : 
   call-passes p (pairs.Closes side now) r fits = tt
   call-passes p (pairs.Aborts side now) r fits = tt
   call-passes p (pairs.ResendsFirst side now) r fits = tt
+  call-passes p (pairs.Resends side now from to) r fits = tt
   call-passes p (pairs.SetsUserTimeout side limit) r fits = tt
 
   passes-at : (p : Pair H) (incident : Incident) → At p → IsFairIncident p incident → IncidentPasses p incident

@@ -9,7 +9,7 @@ use Rattle.tcp_conn.specs.declared.phase.Timer.TheVariants.{Retransmit, Reorder,
 use Rattle.tcp_end.specs.Wired.{machine}
 use Rattle.tcp_replay.specs.declared.event.Side.{Side}
 use Rattle.tcp_replay.specs.World.{bytes_with_damage, other}
-use Rattle.tcp_replay.specs.Events.{EventContent, Connect, Listen, Send, Receive, Acknowledge, Close, Abort, Timer, Emit, EmitAcknowledgement, ResendFirst, Deliver, Damage}
+use Rattle.tcp_replay.specs.Events.{EventContent, Connect, Listen, Send, Receive, Acknowledge, Close, Abort, Timer, Emit, EmitAcknowledgement, Resend, ResendFirst, Deliver, Damage}
 use Rattle.tcp_ends.specs.Pair as pairs
 use Rattle.tcp_ends.specs.Pair.{Member, Opening, Pair, PairCall, member_of, pair_after, segment_in}
 use Rattle.std.specs.Prelude.{length}
@@ -45,6 +45,7 @@ event_of p (pairs.Acknowledges side now) = Some (Acknowledge side)
 event_of p (pairs.Closes side now) = Some (Close side)
 event_of p (pairs.Aborts side now) = Some (Abort side)
 event_of p (pairs.ResendsFirst side now) = Some (ResendFirst side)
+event_of p (pairs.Resends side now from to) = Some (Resend side from to)
 event_of p (pairs.SetsUserTimeout side limit) = None
 
 abbrev pub with_event : Option EventContent → List EventContent → List EventContent

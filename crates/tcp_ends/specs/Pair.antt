@@ -64,6 +64,7 @@ pub data PairCall : Type 0 where
   Closes : Side → ℕ → PairCall
   Aborts : Side → ℕ → PairCall
   ResendsFirst : Side → ℕ → PairCall
+  Resends : Side → ℕ → ℕ → ℕ → PairCall
   SetsUserTimeout : Side → Option ℕ → PairCall
 
 -- what is sent, and what a byte is changed by, are bytes
@@ -128,6 +129,9 @@ member_after_abort {H = H} m now = record m { driving = drives m (calls.Uses now
 abbrev pub member_after_resend_first : {H : Type 0} → Member H → ℕ → Member H
 member_after_resend_first {H = H} m now = record m { driving = drives m (calls.Uses now (λ w. (machine {A = H}).first_resent w)) }
 
+abbrev pub member_after_resend : {H : Type 0} → Member H → ℕ → ℕ → ℕ → Member H
+member_after_resend {H = H} m now from to = record m { driving = drives m (calls.Uses now (λ w. (machine {A = H}).resent w from to)) }
+
 abbrev pub member_after_user_timeout : {H : Type 0} → Member H → Option ℕ → Member H
 member_after_user_timeout m limit = record m { driving = drives m (calls.SetsUserTimeout limit) }
 
@@ -172,6 +176,7 @@ pair_after p (Acknowledges side now) = with_member p side (member_after_acknowle
 pair_after p (Closes side now) = with_member p side (member_after_close (member_of p side) now)
 pair_after p (Aborts side now) = with_member p side (member_after_abort (member_of p side) now)
 pair_after p (ResendsFirst side now) = with_member p side (member_after_resend_first (member_of p side) now)
+pair_after p (Resends side now from to) = with_member p side (member_after_resend (member_of p side) now from to)
 pair_after p (SetsUserTimeout side limit) = with_member p side (member_after_user_timeout (member_of p side) limit)
 
 unfoldable pub pair_after_all : {H : Type 0} → Pair H → List PairCall → Pair H

@@ -4,10 +4,10 @@ ghost use Rattle.tcp_driver.specs.Calls.{Arrives, after_call};
 ghost use Rattle.tcp_driver.specs.Driver.{arrival_answer, at, sent_of, way_of, written_of};
 ghost use Rattle.tcp_driver.specs.Times.{expiry};
 ghost use Rattle.tcp_conn.specs.Calls.{abort_answer, close_answer, receive_answer, send_answer};
-ghost use Rattle.tcp_conn.specs.Timers.{sends_again};
+ghost use Rattle.tcp_conn.specs.Timers.{resends_between, sends_again};
 ghost use Rattle.tcp_end.specs.Wired.{intake_of, machine, read_into, taken_of};
 ghost use Rattle.tcp_ends.specs.Calls.{cut_out, sent_after};
-ghost use Rattle.tcp_ends.specs.Pair.{member_after_abort, member_after_acknowledge, member_after_close, member_after_emission, member_after_receive, member_after_resend_first, member_after_send, member_after_time, member_after_user_timeout, new_member};
+ghost use Rattle.tcp_ends.specs.Pair.{member_after_abort, member_after_acknowledge, member_after_close, member_after_emission, member_after_receive, member_after_resend, member_after_resend_first, member_after_send, member_after_time, member_after_user_timeout, new_member};
 
 use std::alloc::Allocator;
 use tcp_conn::{CallError, Received};
@@ -100,6 +100,14 @@ pub fn resend_first<A: Allocator>(end: &mut End<A>, now: u64) -> bool
     ensures state { end.new ≡ (member_after_resend_first (new_member end.old) now).driving }
 {
     end.resend_first(now)
+}
+
+/// Of what is in flight what lies between two positions goes out again (RFC 6675, 5; RFC 8985, 6.2): whether anything does.
+pub fn resend<A: Allocator>(end: &mut End<A>, now: u64, from: u64, to: u64) -> bool
+    ensures answer { result ≡ resends_between end.old.core.end from to }
+    ensures state { end.new ≡ (member_after_resend (new_member end.old) now from to).driving }
+{
+    end.resend(now, from, to)
 }
 
 /// Sets the user timeout, in microseconds (RFC 9293, 3.8.3).

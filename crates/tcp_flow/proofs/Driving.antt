@@ -9,7 +9,7 @@ use Rattle.tcp_driver.specs.Trains.{TrainIsEmissions}
 use Rattle.tcp_driver.specs.Driver.{Driving, after_arrival, at, is_withheld, way_of}
 use Rattle.tcp_driver.specs.Machine.{Machine}
 use Rattle.tcp_flow.specs.Flow.{Flowing, after_duplicate, after_progress, allowed, emitted_as_one, has_blocks, is_idle, rested, row_of, settled, told, una_of, with_first}
-use Rattle.tcp_flow.specs.Calls.{Comes, Goes, GoesAsOne, Passes, Asks, Limits, Chooses, FlowIsDriven}
+use Rattle.tcp_flow.specs.Calls.{Comes, Goes, GoesAsOne, Passes, Asks, Limits, Chooses, Loses, FlowIsDriven}
 
 -- the driver of x is as after a call of d, and perhaps the first segment goes out again
 record Follows {S : Type 0} (m : Machine S) (d x : Driving S) (now : ℕ) (call : Call S) : Type 0 where
@@ -99,3 +99,4 @@ driven_lem m smss_of c trains f (Passes now) = record { resends = false; same = 
 driven_lem m smss_of c trains f (Asks now does) = record { resends = false; same = refl }
 driven_lem m smss_of c trains f (Limits limit) = record { resends = false; same = refl }
 driven_lem m smss_of c trains f (Chooses window) = record { resends = false; same = chosen-by _ _ (c.limits window) refl }
+driven_lem m smss_of c trains f Loses = record { resends = false; same = refl }

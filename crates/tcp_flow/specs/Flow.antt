@@ -150,6 +150,10 @@ after_timeout m c f now = record f {
   window = if c.limits f.window then lost_by m c f (expiry f.driving.times (at f.driving now)) else f.window;
 }
 
+-- A LOSS that a caller has found by itself is one that blocks found
+abbrev pub after_loss : {S W : Type 0} → Machine S → Control W → Flowing S W → Flowing S W
+after_loss m c f = record f { window = if c.limits f.window then lost_by m c f (Some Reorder) else f.window }
+
 -- ---- A USER'S CALL is the driver's
 abbrev pub after_use : {S W : Type 0} → Machine S → Flowing S W → ℕ → S → Flowing S W
 after_use m f now core = record f { driving = after_user m f.driving (at f.driving now) core }

@@ -28,7 +28,7 @@ impl<C: Paced + Drop, W: Congestion + Drop> Flow<C, W> {
     ghost use Rattle.tcp_driver.specs.Driver.{arrival_answer, at, sent_of, way_of, written_of};
     ghost use Rattle.tcp_driver.specs.Times.{expiry, next_expiry};
     ghost use Rattle.tcp_driver.specs.Times.{is_suspect};
-    ghost use Rattle.tcp_flow.specs.Flow.{after_segment, after_timeout, after_use, after_user_limit, allowed, emitted, emitted_as_one, new_flowing, rested, with_window};
+    ghost use Rattle.tcp_flow.specs.Flow.{after_loss, after_segment, after_timeout, after_use, after_user_limit, allowed, emitted, emitted_as_one, new_flowing, rested, with_window};
 
     /// A driver that was just made, and a window.
     pub fn new(driver: Driver<C>, window: W, now: u64) -> Flow<C, W>
@@ -402,6 +402,27 @@ impl<C: Paced + Drop, W: Congestion + Drop> Flow<C, W> {
         ensures state { self.new ≡ after_use C.machine self.old now (C.machine.first_resent self.old.driving.core) }
     {
         self.driver.resend_first(now)
+    }
+
+    /// Of what is in flight what lies from the position `from` on and before `to` goes out again at once, as for the driver, for a
+    /// caller that knows which stretch is lost (RFC 6675, 5; RFC 8985, 6.2). The window isn't told.
+    pub fn resend(&mut self, now: u64, from: u64, to: u64) -> bool
+        ensures answer { result ≡ C.machine.resends self.old.driving.core from to }
+        ensures state { self.new ≡ after_use C.machine self.old now (C.machine.resent self.old.driving.core from to) }
+    {
+        self.driver.resend(now, from, to)
+    }
+
+    /// A loss was found by a caller that finds losses by itself: the window is told, as of one that blocks found (RFC 5681, 4.3).
+    pub fn lose(&mut self)
+        ensures { self.new ≡ after_loss C.machine W.control self.old }
+    {
+        if self.window.limits() {
+            let una = self.driver.core().una();
+            let in_flight = self.driver.flight();
+            let nxt = self.nxt();
+            let _ = self.window.lost(una, in_flight, nxt);
+        }
     }
 
     /// The driver: its end, its estimator, and what it says of both.

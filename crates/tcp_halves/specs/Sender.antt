@@ -109,9 +109,13 @@ is_in_flight s = nat_lt s.snd_una s.snd_nxt
 abbrev pub with_all_resent : Sending → Sending
 with_all_resent s = record s { resend = Some (record { start = s.snd_una; end = s.snd_nxt }); queue = queues.without_marks s.queue }
 
+-- ONE STRETCH AGAIN (RFC 6675, 5; RFC 8985, 6.2): of what is in flight, what lies between two positions is sent again
+abbrev pub with_resent : Sending → ℕ → ℕ → Sending
+with_resent s from to = record s { resend = Some (record { start = max s.snd_una from; end = min s.snd_nxt to }) }
+
 -- FIRST SEGMENT AGAIN (RFC 5681, 3.2; RFC 6582, 3.2): of what is in flight, as much as one segment carries goes out again
 abbrev pub with_first_resent : Sending → ℕ → Sending
-with_first_resent s limit = record s { resend = Some (record { start = s.snd_una; end = min s.snd_nxt (s.snd_una + limit) }) }
+with_first_resent s limit = with_resent s s.snd_una (s.snd_una + limit)
 
 -- REORDERING TIMEOUT (RFC 2018, 5): what lies before the end of the last mark is sent again
 abbrev pub with_gaps_resent : Sending → ℕ → Sending

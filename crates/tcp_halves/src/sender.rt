@@ -2,7 +2,7 @@ ghost use Rattle.std.specs.Prelude.{◌≡◌, ◌<◌, ◌≤◌, ◌+◌, ◌-
 ghost use Rattle.tcp_sendq.specs.SendQueue.{greatest_runs, max_capacity, room};
 ghost use Rattle.tcp_halves.specs.Sender.{Sending, accepted_count, place_of, end_of_text};
 ghost use Rattle.tcp_halves.specs.Config.{stream_limit};
-ghost use Rattle.tcp_halves.specs.Sender.{sending_with_runs, with_syn_sent, with_syn_counted, with_syn_acked, count_below, after_ack, with_window, is_newer, after_window_update, with_all_resent, with_first_resent, with_gaps_resent, count_sendable, with_text, count_unsent, is_probe_needed, is_fin_acked, without_text, IsSender};
+ghost use Rattle.tcp_halves.specs.Sender.{sending_with_runs, with_syn_sent, with_syn_counted, with_syn_acked, count_below, after_ack, with_window, is_newer, after_window_update, with_all_resent, with_first_resent, with_gaps_resent, with_resent, count_sendable, with_text, count_unsent, is_probe_needed, is_fin_acked, without_text, IsSender};
 
 use crate::config::Config;
 use std::alloc::{Allocator, Global};
@@ -180,6 +180,16 @@ impl<A: Allocator> Sender<A> {
         self.resend = Some(self.snd_una..self.snd_nxt);
     }
 
+    /// Sends what is in flight from the position `from` on and before `to` again, and nothing else of it (RFC 6675, 5;
+    /// RFC 8985, 6.2).
+    pub fn resend(&mut self, from: u64, to: u64)
+        ensures state { self.new ≡ with_resent self.old from to }
+        ensures capacity { self.new.queue.capacity ≡ self.old.queue.capacity }
+        ensures queued { length self.new.queue.bytes ≤ self.new.queue.capacity }
+    {
+        self.resend = Some(self.snd_una.max(from)..self.snd_nxt.min(to));
+    }
+
     /// Sends the first segment of what is in flight again, with at most `limit` bytes of data, and nothing else of it
     /// (RFC 5681, 3.2; RFC 6582, 3.2).
     pub fn resend_first(&mut self, limit: u16)
@@ -187,7 +197,7 @@ impl<A: Allocator> Sender<A> {
         ensures capacity { self.new.queue.capacity ≡ self.old.queue.capacity }
         ensures queued { length self.new.queue.bytes ≤ self.new.queue.capacity }
     {
-        self.resend = Some(self.snd_una..self.snd_nxt.min(self.snd_una + u64::from(limit)));
+        self.resend(self.snd_una, self.snd_una + u64::from(limit));
     }
 
     /// What lies before the offset `end` in the queue has to be sent again (RFC 2018, 5).

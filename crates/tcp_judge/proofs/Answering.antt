@@ -102,7 +102,7 @@ waiting-calls peer p ports answers a sent h =
       probes = h;
       fills = λ _ _ _. h;
       ends = λ _. h;
-      resends-first = λ _. h;
+      resends-between = λ _ _ _. h;
       emits = λ due may _.
           subst (λ (o : Option WaitingReset). IfSome o (MayGo ports answers s.config.port s.config.isn.0 (max s.sending.snd_nxt (end_of s.sending due))))
           (sym (none-waits s due may)) tt;

@@ -53,7 +53,7 @@ connected-calls peer p ports h =
       probes = inl (record { knows = h.knows; own = h.own; other = h.other });
       fills = λ _ _ _. inl (record { knows = h.knows; own = h.own; other = h.other });
       ends = λ _. inr (record { shut = refl; ended = refl });
-      resends-first = λ _. inl (record { knows = h.knows; own = h.own; other = h.other });
+      resends-between = λ _ _ _. inl (record { knows = h.knows; own = h.own; other = h.other });
       emits = λ _ _ _. inl (record { knows = h.knows; own = h.own; other = h.other });
     }
 

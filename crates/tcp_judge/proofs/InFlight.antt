@@ -105,7 +105,7 @@ flight-calls peer p alone h =
       probes = h;
       fills = λ end _ e. flight-gaps d (Some end) e h;
       ends = λ _. flight-orderly d h;
-      resends-first = λ _. record { range = omega arith; marks = h.marks };
+      resends-between = λ from to _. record { range = omega arith; marks = h.marks };
       emits = λ due may _. elim may [
         | inl is ↦ subst (λ (o : Option Due). IfSome o (λ due. IsInFlight (sending_after d due))) is
             (due-kept s (λ due. IsInFlight (sending_after d due)) (flight-due s h))

@@ -102,7 +102,7 @@ probes-calls peer p a flight h =
       probes = λ e. probes-timeout s p.accepted p.closed a h e;
       fills = λ _ _ _ e. let i = h e in record { least = i.least; last = i.last };
       ends = λ _ never. absurd (cc);
-      resends-first = λ _ e. let i = h e in record { least = i.least; last = i.last };
+      resends-between = λ _ _ _ e. let i = h e in record { least = i.least; last = i.last };
       emits = λ due may _. probes-emits s p.accepted p.closed due a flight h may;
     }
 

@@ -5,14 +5,15 @@ use Rattle.tcp_replay.proofs.Words.{cond_both, length-take, length-drop, take, d
 use Rattle.tcp_replay.proofs.Words.{State, Sending, Content, Due, NewText, Text, Resend, IsAlone, CallError, Result, Ok, Err, DecodeError}
 use Rattle.tcp_replay.proofs.Words.{start_of, end_of, text_of, is_fin, place_of, text_limit, new_count, count_unsent, sends_text}
 use Rattle.tcp_replay.proofs.Words.{after_connect, after_listen, after_send, after_receive, after_close, after_abort, after_acknowledge, after_closing, with_closing}
-use Rattle.tcp_replay.proofs.Words.{after_retransmit, after_reorder, after_time_wait, after_resend_first, after_discarding, after_orderly_end, Aborted}
+use Rattle.tcp_replay.proofs.Words.{after_retransmit, after_reorder, after_time_wait, after_resend, after_resend_first, after_discarding, after_orderly_end, Aborted}
 use Rattle.tcp_replay.proofs.Words.{opening_refusal, send_refusal, receive_refusal, close_refusal, open_refusal, state_unless, with_abort, with_connection, with_bytes_received, is_unanswered}
-use Rattle.tcp_replay.proofs.Words.{with_text, with_all_resent, with_first_resent, after_gaps, last_mark_end, sends_again, is_time_wait}
+use Rattle.tcp_replay.proofs.Words.{with_text, with_all_resent, with_resent, after_gaps, last_mark_end, resends_between, sends_again, is_time_wait, if◌then◌else◌}
 use Rattle.tcp_replay.proofs.Words.{after_own_syn, after_acked_text, after_window_and_blocks, after_own_fin, after_its_ack, after_its_text, after_fin, after_ack, with_acked, acks_more}
 use Rattle.tcp_replay.proofs.Words.{after_taking, after_taking_shut, after_peer_opens, after_peer_accepts, after_judgement, Judgement, judgement, after_reading}
 use Rattle.tcp_replay.proofs.Words.{decode_answer, with_window, with_syn_acked, window_from, is_syn_received, position_near}
 use Rattle.tcp_replay.proofs.Words.{Foreign, PeerOpens, PeerAccepts, Taken, TakenShut, end_after, SoloContent, is_listening}
 use Rattle.tcp_replay.specs.SoloEvents.{Abort, Acknowledge, Arrive, Close, Connect, Emit, EmitAcknowledgement, Listen, Receive, ResendFirst, Send, Timer}
+use Rattle.tcp_replay.specs.SoloEvents as events
 use Rattle.tcp_conn.specs.declared.phase.Timer.TheVariants.{Retransmit, Reorder, TimeWait}
 use Rattle.tcp_conn.specs.declared.phase.Phase.TheVariants as phases
 use Rattle.tcp_replay.proofs.Lists.{one_if}
@@ -163,8 +164,14 @@ new-end s accepted closed a e sent =
     let can = can-open s e in
     omega (arith, sent, (end-closed s can.shut can.ending a.progress).snd_nxt_is)
 
+-- what is to go out again is of what went out
+stays-stretch : (s : State) (test : Bool) (from to : ℕ)
+    → Stays s (record s { sending = if test then with_resent s.sending from to else s.sending })
+stays-stretch s test from to = λ _.
+    cond_both test (with_resent s.sending from to) s.sending (λ (d : Sending). d.snd_nxt ≡ s.sending.snd_nxt) (λ _. refl) (λ _. refl)
+
 pub stays-step : (s : State) (e : SoloContent) (accepted : List ℕ) (closed : Bool) → IsAlone s accepted closed → IsSilent e → Stays s (end_after s e)
-unfolding after_connect after_listen after_send after_receive after_close after_abort after_acknowledge after_retransmit after_reorder after_time_wait after_resend_first
+unfolding after_connect after_listen after_send after_receive after_close after_abort after_acknowledge after_retransmit after_reorder after_time_wait after_resend_first after_resend
 stays-step s (Connect addr port) accepted closed a silent =
     stays-unless s (with_connection s (record { addr = record { 0 = addr }; port = port })) (opening_refusal s)
     (λ e sent. absurd (new-end s accepted closed a e sent))
@@ -181,8 +188,10 @@ stays-step s (Timer Reorder) accepted closed a silent =
     cond_both (sends_text s.phase) (last_mark_end s.sending.queue) None (λ (end : Option ℕ). Stays s (record s { sending = after_gaps s.sending end }))
     (λ _. stays-gaps s (last_mark_end s.sending.queue)) (λ _ _. refl)
 stays-step s (Timer TimeWait) accepted closed a silent = cond_both (is_time_wait s.phase) (after_orderly_end s) s (Stays s) (λ _ _. refl) (λ _ _. refl)
-stays-step s ResendFirst accepted closed a silent = λ _.
-    cond_both (sends_again s) (with_first_resent s.sending (text_limit s)) s.sending (λ (d : Sending). d.snd_nxt ≡ s.sending.snd_nxt) (λ _. refl) (λ _. refl)
+stays-step s ResendFirst accepted closed a silent =
+    let una = s.sending.snd_una in
+    stays-stretch s (sends_again s) una (una + text_limit s)
+stays-step s (events.Resend from to) accepted closed a silent = stays-stretch s (resends_between s from to) from to
 stays-step s (Arrive src dst bytes) accepted closed a silent =
     subst (Stays s) (sym (read-arrival s src dst bytes (decode_answer src dst bytes) refl)) (stays-reading s src dst (decode_answer src dst bytes) accepted closed a)
 stays-step s Emit accepted closed a silent = absurd silent

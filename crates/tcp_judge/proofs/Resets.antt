@@ -55,7 +55,7 @@ over-calls peer p over = record {
   probes = record { shut = over.shut; ended = over.ended };
   fills = λ _ _ _. record { shut = over.shut; ended = over.ended };
   ends = λ _. record { shut = refl; ended = refl };
-  resends-first = λ _. record { shut = over.shut; ended = over.ended };
+  resends-between = λ _ _ _. record { shut = over.shut; ended = over.ended };
   emits = λ _ _ _. record { shut = over.shut; ended = over.ended };
 }
 
@@ -159,7 +159,7 @@ quiet-calls peer p a sent h =
       probes = h;
       fills = λ _ _ _. h;
       ends = λ _ never. absurd (cc);
-      resends-first = λ _. h;
+      resends-between = λ _ _ _. h;
       emits = λ due may _ _. subst (λ (o : Option WaitingReset). IfSome o (IsOfHandshake (max s.sending.snd_nxt (end_of s.sending due)) s.config.isn.0))
           (sym (none-waits s due may)) tt;
     }

@@ -43,7 +43,7 @@ allowed-calls peer p e h = record {
   probes = record { wnd = h.wnd; shift = h.shift };
   fills = λ _ _ _. record { wnd = h.wnd; shift = h.shift };
   ends = λ _. record { wnd = h.wnd; shift = h.shift };
-  resends-first = λ _. record { wnd = h.wnd; shift = h.shift };
+  resends-between = λ _ _ _. record { wnd = h.wnd; shift = h.shift };
   emits = λ _ _ _. record { wnd = h.wnd; shift = h.shift };
 }
 

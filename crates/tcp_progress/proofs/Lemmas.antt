@@ -5,7 +5,7 @@ pub use Rattle.tcp_progress.proofs.laws.PendingSent.{with_pending-due}
 pub use Rattle.tcp_progress.proofs.steady.Table.{own_fin-acked}
 pub use Rattle.tcp_progress.proofs.turn.Live.{acked-all, both-live, fin-last, flight-sends, GoOn, has-room, in-flight, IsStill, live-in, live-sends}
 pub use Rattle.tcp_progress.proofs.turn.Live.{no-syn-pending, past-syn, steady-back, still-ack_alone, still-acknowledging, still-emission, still-next}
-pub use Rattle.tcp_progress.proofs.turn.Live.{still-reading, still-reorder, still-resend_first, still-retransmit, swapped, unsent-sends, waits}
+pub use Rattle.tcp_progress.proofs.turn.Live.{still-reading, still-reorder, still-resend, still-resend_first, still-retransmit, swapped, unsent-sends, waits}
 pub use Rattle.tcp_progress.proofs.steady.AlwaysSteady.{in-every-world, IsKept, kept-steady, side-pair}
 pub use Rattle.tcp_progress.proofs.turn.Emitted.{arrives, delivered, due-way, emitted-as, fresh-emitted, goes, goes-due, IsFresh, IsOnItsWay, IsSyn}
 pub use Rattle.tcp_progress.proofs.turn.Emitted.{no-reset, of_peer, syn-due, syn-emitted, unexpired}

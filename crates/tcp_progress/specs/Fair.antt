@@ -8,7 +8,7 @@ use Rattle.tcp_conn.specs.declared.phase.Timer.TheVariants as timers
 use Rattle.tcp_conn.specs.Due.{due_of}
 use Rattle.tcp_replay.specs.declared.event.Side.{Side}
 use Rattle.tcp_replay.specs.declared.event.Side.TheVariants.{A, B}
-use Rattle.tcp_replay.specs.Events.{EventContent, Receive, Acknowledge, Timer, Emit, EmitAcknowledgement, ResendFirst, Deliver, Damage}
+use Rattle.tcp_replay.specs.Events.{EventContent, Receive, Acknowledge, Timer, Emit, EmitAcknowledgement, ResendFirst, Resend, Deliver, Damage}
 use Rattle.tcp_replay.specs.World.{WorldState, party_of, other, world_after, world_after_all}
 use Rattle.tcp_replay.specs.Safe.{has_discarded}
 use Rattle.tcp_progress.specs.Measure.{left_in}
@@ -17,7 +17,8 @@ use Rattle.tcp_progress.specs.Settled.{IsLive, IsThrough, IsSettled, HasStreamsO
 
 -- CALM: what clock and network do, and users who only read. Nothing is sent, closed or aborted, and TIME-WAIT doesn't expire
 -- (RFC 9293, 3.10.8). The network delivers segments any number of times, late and in any order, and damages them; any other
--- timer expires at any time. An acknowledgement may go out alone (3.8.6.3), and the first segment again (RFC 5681, 3.2)
+-- timer expires at any time. An acknowledgement may go out alone (3.8.6.3), and the first segment or any
+-- stretch of what is in flight again (RFC 5681, 3.2; RFC 6675, 5)
 abbrev pub IsCalm : EventContent → Type 0
 IsCalm (Receive side room) = Unit {0}
 IsCalm (Acknowledge side) = Unit {0}
@@ -26,6 +27,7 @@ IsCalm (Timer side other) = Unit {0}
 IsCalm (Emit side) = Unit {0}
 IsCalm (EmitAcknowledgement side) = Unit {0}
 IsCalm (ResendFirst side) = Unit {0}
+IsCalm (Resend side from to) = Unit {0}
 IsCalm (Deliver from k) = Unit {0}
 IsCalm (Damage from k place value) = value < 256
 IsCalm other = ⊥
@@ -35,6 +37,7 @@ abbrev pub IsUntimed : EventContent → Type 0
 IsUntimed (Timer side which) = ⊥
 IsUntimed (EmitAcknowledgement side) = ⊥
 IsUntimed (ResendFirst side) = ⊥
+IsUntimed (Resend side from to) = ⊥
 IsUntimed other = IsCalm other
 
 -- ---- A CALLER'S LOOP. Both users read all, and once more, for the end of the stream (RFC 9293, 3.9.1, RECEIVE)

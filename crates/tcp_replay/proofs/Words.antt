@@ -46,8 +46,8 @@ unfoldable pub use Rattle.tcp_conn.specs.Judgement.{acceptable_judgement, ack_ju
 unfoldable pub use Rattle.tcp_conn.specs.Judgement.{listen_judgement, phase_judgement, syn_sent_judgement, unacceptable_judgement}
 pub use Rattle.tcp_conn.specs.NewEnd.{end_with_runs, new_end}
 pub use Rattle.tcp_conn.specs.State.{State, with_ack_pending}
-pub use Rattle.tcp_conn.specs.Timers.{after_gaps, marks_end, needs_probe, sends_again}
-unfoldable pub use Rattle.tcp_conn.specs.Timers.{after_reorder, after_resend_first, after_retransmit, after_time_wait}
+pub use Rattle.tcp_conn.specs.Timers.{after_gaps, marks_end, needs_probe, resends_between, sends_again}
+unfoldable pub use Rattle.tcp_conn.specs.Timers.{after_reorder, after_resend, after_resend_first, after_retransmit, after_time_wait}
 pub use Rattle.tcp_conn.specs.Windows.{advertised_window, max_window, own_shift, window_field, window_from}
 pub use Rattle.tcp_conn.specs.Writing.{destination_of, waiting_destination}
 unfoldable pub use Rattle.tcp_conn.specs.Writing.{bytes_of}
@@ -71,8 +71,8 @@ pub use Rattle.tcp_halves.specs.Receiver.{after_delivering, HoldsWithin, is_fin_
 pub use Rattle.tcp_halves.specs.Receiver.{with_inbox, with_syn, without_bytes}
 unfoldable pub use Rattle.tcp_halves.specs.Receiver.{after_text}
 pub use Rattle.tcp_halves.specs.Sender.{Sending, acks_more, acks_unsent, count_below, count_sendable, count_unsent, end_of_text, is_fin_acked, is_newer}
-pub use Rattle.tcp_halves.specs.Sender.{is_probe_needed, new_sending, place_of, position_at, sending_with_runs, with_acked, with_all_resent, with_first_resent}
-pub use Rattle.tcp_halves.specs.Sender.{with_gaps_resent}
+pub use Rattle.tcp_halves.specs.Sender.{is_probe_needed, new_sending, place_of, position_at, sending_with_runs, with_acked, with_all_resent}
+pub use Rattle.tcp_halves.specs.Sender.{with_gaps_resent, with_resent}
 pub use Rattle.tcp_halves.specs.Sender.{with_syn_acked, with_syn_sent, with_text, with_window, without_resend, without_text}
 unfoldable pub use Rattle.tcp_halves.specs.Sender.{after_ack, after_window_update}
 pub use Rattle.tcp_halves.specs.declared.config.Config.{Config}
@@ -148,7 +148,7 @@ pub use Rattle.tcp_replay.specs.World.{outcome_out, party_of, party_out, PartySt
 pub use Rattle.tcp_replay.specs.World.{stay_or, stop_or, StopsForMemory, world_after, world_from, world_with_effect, world_with_runs, WorldState}
 unfoldable pub use Rattle.tcp_replay.specs.World.{effect_of, party_after_abort, party_after_acknowledge, party_after_arrival, party_after_close}
 unfoldable pub use Rattle.tcp_replay.specs.World.{party_after_connect, party_after_emission, party_after_listen, party_after_receive, party_after_send}
-unfoldable pub use Rattle.tcp_replay.specs.World.{party_after_ack_alone, party_after_resend_first, party_after_timer, run_of, stop_of, world_after_all}
+unfoldable pub use Rattle.tcp_replay.specs.World.{party_after_ack_alone, party_after_resend, party_after_resend_first, party_after_timer, run_of, stop_of, world_after_all}
 pub use Rattle.tcp_replay.specs.declared.event.Side.{Side}
 pub use Rattle.tcp_replay.specs.declared.event.Side.TheVariants.{A, B}
 pub use Rattle.tcp_replay.specs.declared.outcome.Outcome.{Outcome}

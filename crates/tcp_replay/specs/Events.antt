@@ -19,6 +19,7 @@ pub data EventContent : Type 0 where
   Emit : Side → EventContent
   EmitAcknowledgement : Side → EventContent
   ResendFirst : Side → EventContent
+  Resend : Side → ℕ → ℕ → EventContent
   Deliver : Side → ℕ → EventContent
   Damage : Side → ℕ → ℕ → ℕ → EventContent
 
@@ -34,6 +35,7 @@ event_content (code.Timer side which) = Timer side which
 event_content (code.Emit side) = Emit side
 event_content (code.EmitAcknowledgement side) = EmitAcknowledgement side
 event_content (code.ResendFirst side) = ResendFirst side
+event_content (code.Resend side from to) = Resend side from to
 event_content (code.Deliver from k) = Deliver from k
 event_content (code.Damage from k place value) = Damage from k place value
 
@@ -50,6 +52,7 @@ side_of (Timer side which) = side
 side_of (Emit side) = side
 side_of (EmitAcknowledgement side) = side
 side_of (ResendFirst side) = side
+side_of (Resend side from to) = side
 side_of (Deliver from k) = from
 side_of (Damage from k place value) = from
 

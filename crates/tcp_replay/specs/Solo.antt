@@ -8,7 +8,7 @@ use Rattle.tcp_conn.specs.State.{State}
 use Rattle.tcp_conn.specs.NewEnd.{end_with_runs}
 use Rattle.tcp_reasm.specs.Reassembly.{default_runs}
 use Rattle.tcp_conn.specs.Calls.{opening_answer, after_connect, after_listen, send_answer, after_send, receive_answer, after_receive, received_bytes, close_answer, after_close, abort_answer, after_abort, after_acknowledge}
-use Rattle.tcp_conn.specs.Timers.{timer_answer, after_timer, sends_again, after_resend_first}
+use Rattle.tcp_conn.specs.Timers.{timer_answer, after_timer, sends_again, resends_between, after_resend_first, after_resend}
 use Rattle.tcp_conn.specs.Due.{due_of, ack_alone}
 use Rattle.tcp_conn.specs.Emission.{after_emission, after_ack_alone}
 use Rattle.tcp_conn.specs.Arrival.{arrival_answer, after_arrival}
@@ -18,7 +18,7 @@ use Rattle.tcp_replay.specs.declared.outcome.SoloError.{SoloError}
 use Rattle.tcp_replay.specs.declared.outcome.SoloError.TheVariants as solos
 use Rattle.tcp_replay.specs.declared.outcome.StepError.TheVariants.{NoMemory}
 use Rattle.tcp_replay.specs.declared.solo_log.SoloLog.{SoloLog}
-use Rattle.tcp_replay.specs.SoloEvents.{SoloContent, Connect, Listen, Send, Receive, Close, Abort, Acknowledge, Timer, Emit, EmitAcknowledgement, ResendFirst, Arrive}
+use Rattle.tcp_replay.specs.SoloEvents.{SoloContent, Connect, Listen, Send, Receive, Close, Abort, Acknowledge, Timer, Emit, EmitAcknowledgement, ResendFirst, Resend, Arrive}
 use Rattle.tcp_replay.specs.Emissions.{segment_as}
 use Rattle.tcp_replay.specs.World.{front_taken, is_end_of_stream}
 
@@ -55,6 +55,7 @@ end_after s (Timer which) = after_timer s which
 end_after s Emit = after_emission s
 end_after s EmitAcknowledgement = after_ack_alone s
 end_after s ResendFirst = after_resend_first s
+end_after s (Resend from to) = after_resend s from to
 end_after s (Arrive src dst bytes) = after_arrival s src dst bytes
 
 -- the bytes that an event's `send` accepts, and that its `receive` delivers
@@ -101,6 +102,7 @@ solo_outcome s count (Timer which) = outcomes.Timer (timer_answer s which)
 solo_outcome s count Emit = outcomes.Emitted (option_map (λ _. count) (segment_due s))
 solo_outcome s count EmitAcknowledgement = outcomes.Emitted (option_map (λ _. count) (segment_alone s))
 solo_outcome s count ResendFirst = outcomes.Timer (sends_again s)
+solo_outcome s count (Resend from to) = outcomes.Timer (resends_between s from to)
 solo_outcome s count (Arrive src dst bytes) = outcomes.Arrived (arrival_answer s src dst bytes)
 
 -- ONE EVENT, whether its call is refused or not

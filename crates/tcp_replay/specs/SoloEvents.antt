@@ -18,6 +18,7 @@ pub data SoloContent : Type 0 where
   Emit : SoloContent
   EmitAcknowledgement : SoloContent
   ResendFirst : SoloContent
+  Resend : ℕ → ℕ → SoloContent
   Arrive : List ℕ → List ℕ → List ℕ → SoloContent
 
 abbrev pub solo_content : SoloEvent → SoloContent
@@ -32,6 +33,7 @@ solo_content (code.Timer which) = Timer which
 solo_content code.Emit = Emit
 solo_content code.EmitAcknowledgement = EmitAcknowledgement
 solo_content code.ResendFirst = ResendFirst
+solo_content (code.Resend from to) = Resend from to
 solo_content (code.Arrive src dst bytes) = Arrive src.0 dst.0 bytes.items
 
 -- the content of an event is bytes, and a port fits its field

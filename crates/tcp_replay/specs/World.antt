@@ -17,7 +17,7 @@ use Rattle.tcp_conn.specs.NewEnd.{end_with_runs}
 use Rattle.tcp_halves.specs.Receiver.{rcv_position}
 use Rattle.tcp_reasm.specs.Reassembly.{default_runs}
 use Rattle.tcp_conn.specs.Calls.{opening_answer, after_connect, after_listen, send_answer, after_send, receive_answer, after_receive, received_bytes, close_answer, after_close, abort_answer, after_abort, after_acknowledge}
-use Rattle.tcp_conn.specs.Timers.{timer_answer, after_timer, sends_again, after_resend_first}
+use Rattle.tcp_conn.specs.Timers.{timer_answer, after_timer, sends_again, resends_between, after_resend_first, after_resend}
 use Rattle.tcp_conn.specs.declared.emit.due.Due.{Due}
 use Rattle.tcp_conn.specs.Due.{ack_alone}
 use Rattle.tcp_conn.specs.Writing.{bytes_of}
@@ -31,7 +31,7 @@ use Rattle.tcp_replay.specs.declared.outcome.WorldError.{WorldError}
 use Rattle.tcp_replay.specs.declared.outcome.WorldError.TheVariants as worlds
 use Rattle.tcp_replay.specs.declared.outcome.StepError.{StepError}
 use Rattle.tcp_replay.specs.declared.outcome.StepError.TheVariants.{NoSuchSegment, NoChange, PlaceOutside, Expired}
-use Rattle.tcp_replay.specs.Events.{EventContent, side_of, Connect, Listen, Send, Receive, Close, Abort, Acknowledge, Timer, Emit, EmitAcknowledgement, ResendFirst, Deliver, Damage}
+use Rattle.tcp_replay.specs.Events.{EventContent, side_of, Connect, Listen, Send, Receive, Close, Abort, Acknowledge, Timer, Emit, EmitAcknowledgement, ResendFirst, Resend, Deliver, Damage}
 
 -- a segment that was emitted, and its positions then: that of its sequence number in its own direction, and the next that the
 -- end expected of the other direction, which it acknowledges
@@ -163,6 +163,10 @@ party_after_ack_alone p = party_out p (ack_alone p.endpoint)
 unfoldable pub party_after_resend_first : PartyState → PartyState
 party_after_resend_first p = record p { endpoint = after_resend_first p.endpoint }
 
+-- RESEND: what lies between two positions is to go out again
+unfoldable pub party_after_resend : PartyState → ℕ → ℕ → PartyState
+party_after_resend p from to = record p { endpoint = after_resend p.endpoint from to }
+
 -- ARRIVAL: bytes come from the other party, with the true addresses
 unfoldable pub party_after_arrival : PartyState → PartyState → List ℕ → PartyState
 party_after_arrival p from bytes = record p {
@@ -262,6 +266,7 @@ effect_of life p q (Timer side which) = effect_here (party_after_timer p which) 
 effect_of life p q (Emit side) = effect_here (party_after_emission p) q (emission_outcome p) true
 effect_of life p q (EmitAcknowledgement side) = effect_here (party_after_ack_alone p) q (outcome_out p (ack_alone p.endpoint)) true
 effect_of life p q (ResendFirst side) = effect_here (party_after_resend_first p) q (outcomes.Timer (sends_again p.endpoint)) false
+effect_of life p q (Resend side from to) = effect_here (party_after_resend p from to) q (outcomes.Timer (resends_between p.endpoint from to)) false
 effect_of life p q (Deliver from k) = effect_there p q (segment_at p k) (delivery_refusal life p q k) false
 effect_of life p q (Damage from k place value) = effect_there p q (bytes_with_damage (segment_at p k) place value) (damage_refusal life p q k place value) true
 

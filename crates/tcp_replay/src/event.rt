@@ -65,6 +65,9 @@ pub enum Event<A: Allocator = Global> {
     EmitAcknowledgement(Side),
     /// This side sends the first segment in flight again, and nothing else of what is in flight.
     ResendFirst(Side),
+    /// This side sends what is in flight from the first of these positions on and before the second again, and nothing
+    /// else of what is in flight. Positions count from the SYN, which is at 0.
+    Resend(Side, u64, u64),
     /// The segment of this number, from 0, that this side emitted arrives at the other side (RFC 9293, 3.10.7).
     Deliver(Side, usize),
     /// That segment arrives with one byte changed by exclusive or: side, number, offset of the byte, and value.
@@ -88,6 +91,7 @@ impl<A: Allocator> Event<A> {
             | Event::Emit(side)
             | Event::EmitAcknowledgement(side)
             | Event::ResendFirst(side)
+            | Event::Resend(side, _, _)
             | Event::Deliver(side, _)
             | Event::Damage(side, _, _, _) => *side,
         }

@@ -17,7 +17,7 @@ pub enum Outcome {
     Sent(Result<usize, CallError>),
     /// What `receive` delivered.
     Got(Result<Received, CallError>),
-    /// Whether the timer's rule applied; of `resend_first` whether anything was in flight.
+    /// Whether the timer's rule applied; of `resend_first` and `resend` whether anything of it was in flight.
     Timer(bool),
     /// The number of the segment that was emitted, if one was due.
     Emitted(Option<usize>),

@@ -2,11 +2,11 @@ ghost use Rattle.std.specs.Prelude.{◌≡◌, ◌<◌, ◌≤◌, ◌↔◌, �
 ghost use Rattle.tcp_wire.specs.Checksum.{AreBytes};
 ghost use Rattle.tcp_halves.specs.Config.{HasBadCapacity, HasBadMss, HasBadShift, HasBadLimit, IsGoodConfig, IsConfig};
 ghost use Rattle.tcp_conn.specs.Calls.{opening_answer, send_answer, receive_answer, close_answer, abort_answer};
-ghost use Rattle.tcp_conn.specs.Timers.{sends_again, timer_answer};
+ghost use Rattle.tcp_conn.specs.Timers.{resends_between, sends_again, timer_answer};
 ghost use Rattle.tcp_conn.specs.Arrival.{arrival_answer};
 ghost use Rattle.tcp_reasm.specs.Reassembly.{greatest_runs};
 ghost use Rattle.tcp_replay.specs.Emissions.{due_for};
-ghost use Rattle.tcp_replay.specs.World.{PartyState, party_with_runs, address_of, party_after_connect, party_after_listen, party_after_send, is_end_of_stream, party_after_receive, party_after_close, party_after_abort, party_after_acknowledge, party_after_timer, party_after_resend_first, party_out, outcome_out, party_after_arrival, arrival_outcome, sent_at, segment_at, bytes_with_damage, delivery_refusal, damage_refusal};
+ghost use Rattle.tcp_replay.specs.World.{PartyState, party_with_runs, address_of, party_after_connect, party_after_listen, party_after_send, is_end_of_stream, party_after_receive, party_after_close, party_after_abort, party_after_acknowledge, party_after_timer, party_after_resend_first, party_after_resend, party_out, outcome_out, party_after_arrival, arrival_outcome, sent_at, segment_at, bytes_with_damage, delivery_refusal, damage_refusal};
 
 use crate::growth::{emit_for, receive_to, send_from};
 use crate::outcome::{Outcome, StepError};
@@ -151,6 +151,15 @@ impl<A: Allocator + Copy> Party<A> {
         ensures outcome { result ≡ Outcome.Timer (sends_again self.old.endpoint) }
     {
         Outcome::Timer(self.endpoint.resend_first())
+    }
+
+    /// Of what is in flight what lies between two positions is to go out again.
+    #[tactic(auto, unfolding(crate::specs::World::party_after_resend))]
+    pub(crate) fn resend(&mut self, from: u64, to: u64) -> Outcome
+        ensures state { self.new ≡ party_after_resend self.old from to }
+        ensures outcome { result ≡ Outcome.Timer (resends_between self.old.endpoint from to) }
+    {
+        Outcome::Timer(self.endpoint.resend(from, to))
     }
 
     /// The end emits what is due, or the acknowledgement alone. Memory for its bytes, and for them alone, is allocated

@@ -26,6 +26,9 @@ pub enum SoloEvent {
     EmitAcknowledgement,
     /// The end sends the first segment in flight again, and nothing else of what is in flight.
     ResendFirst,
+    /// The end sends what is in flight from the first of these positions on and before the second again, and nothing
+    /// else of what is in flight. Positions count from the SYN, which is at 0.
+    Resend(u64, u64),
     /// Bytes arrive, whoever sent them: source, destination and bytes (RFC 9293, 3.10.7).
     Arrive(Addr, Addr, Vec<u8>),
 }

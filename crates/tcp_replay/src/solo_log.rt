@@ -139,6 +139,7 @@ impl<A: Allocator + Copy> SoloLog<A> {
             SoloEvent::Emit => self.emit(alloc, false),
             SoloEvent::EmitAcknowledgement => self.emit(alloc, true),
             SoloEvent::ResendFirst => Ok(Outcome::Timer(self.endpoint.resend_first())),
+            SoloEvent::Resend(from, to) => Ok(Outcome::Timer(self.endpoint.resend(*from, *to))),
             SoloEvent::Arrive(src, dst, bytes) => Ok(arrive(&mut self.endpoint, *src, *dst, bytes)),
         }
     }

@@ -68,6 +68,7 @@ fn step_at<A: Allocator + Copy, E: Allocator>(
         Event::Emit(_) => here.emit(alloc, false),
         Event::EmitAcknowledgement(_) => here.emit(alloc, true),
         Event::ResendFirst(_) => Ok(here.resend_first()),
+        Event::Resend(_, from, to) => Ok(here.resend(*from, *to)),
         Event::Deliver(_, k) => deliver(life, here, *k, there),
         Event::Damage(_, k, place, value) => damage(alloc, life, here, *k, *place, *value, there),
     }

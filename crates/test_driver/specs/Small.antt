@@ -82,6 +82,12 @@ row_of sent = record { start = sent.start; count = sent.count; each = sent.count
 abbrev pub first_resent : Small → Small
 first_resent s = if is_in_flight s then record s { again = s.una; until = s.una + 1 } else s
 
+abbrev pub is_between : Small → ℕ → ℕ → Bool
+is_between s from to = nat_lt (max s.una from) (min s.nxt to) && is_open s
+
+abbrev pub resent : Small → ℕ → ℕ → Small
+resent s from to = if is_between s from to then record s { again = max s.una from; until = min s.nxt to } else s
+
 abbrev pub accepted : Small → ℕ → Small
 accepted s count = if takes_text s then record s { accepted = min (s.accepted + count) (2 ^ 64 - 1) } else s
 
@@ -108,6 +114,8 @@ machine = record {
   written_row = λ s window most out. out;
   can_resend = is_in_flight;
   first_resent = first_resent;
+  resends = is_between;
+  resent = resent;
   sent = λ s text. accepted s (length text);
   read = λ s out. out;
   received = λ s room. record s { unread = 0 };

@@ -34,6 +34,7 @@ pub(crate) fn new_driver(words: &[u8]) -> Result<Driver<Small>, LineError> {
         user,
         fin_wait_2,
         guard: None,
+        is_patient: false,
     };
     Ok(Driver::new(end, Rules::standard(), limits, now))
 }
@@ -55,6 +56,12 @@ pub(crate) fn answer_call(
     match word {
         b"arrive" => arrives(driver, now, rest, answers),
         b"emit" => emits(driver, now, rest, answers),
+        b"resend" => {
+            let (from, rest) = first_number(rest)?;
+            let (to, _) = first_number(rest)?;
+            write!(answers, "{}", driver.resend(now, from, to))?;
+            Ok(())
+        }
         b"send" => {
             let (count, _) = first_number(rest)?;
             let text = [0; 100];

@@ -245,6 +245,16 @@ impl Core for Small {
         can
     }
 
+    fn resend(&mut self, from: u64, to: u64) -> bool {
+        let (first, end) = (self.una.max(from), self.nxt.min(to));
+        let can = first < end && !self.is_over;
+        if can {
+            self.again = first;
+            self.until = end;
+        }
+        can
+    }
+
     fn send(&mut self, text: &[u8]) -> bool {
         let can = !self.is_closed && !self.is_over;
         if can {

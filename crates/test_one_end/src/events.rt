@@ -8,6 +8,9 @@ use tcp_wire::Addr;
 /// The greatest count that a line requests to receive.
 const MAX_RECEIVE: u64 = 1_048_576;
 
+/// The greatest position that a line names.
+const MAX_POSITION: u64 = 1_000_000_000;
+
 fn read_arrival(alloc: Global, words: &[u8]) -> Result<SoloEvent, LineError> {
     let (src, rest) = cut(SPACE, words);
     let (dst, bytes) = cut(SPACE, rest.ok_or(LineError::BadForm)?);
@@ -15,6 +18,14 @@ fn read_arrival(alloc: Global, words: &[u8]) -> Result<SoloEvent, LineError> {
     let dst = read_addr(dst).ok_or(LineError::BadForm)?;
     let bytes = read_bytes(alloc, bytes.ok_or(LineError::BadForm)?)?;
     Ok(SoloEvent::Arrive(src, dst, bytes))
+}
+
+/// The two positions of a stretch that goes out again.
+fn read_resend(words: &[u8]) -> Result<SoloEvent, LineError> {
+    let (from, to) = cut(SPACE, words);
+    let from = read_number(from, MAX_POSITION).ok_or(LineError::BadForm)?;
+    let to = read_number(to.ok_or(LineError::BadForm)?, MAX_POSITION).ok_or(LineError::BadForm)?;
+    Ok(SoloEvent::Resend(from, to))
 }
 
 fn read_receive(word: &[u8]) -> Result<SoloEvent, LineError> {
@@ -33,6 +44,7 @@ pub(crate) fn read_event(alloc: Global, word: &[u8], rest: &[u8]) -> Result<Solo
         b"emit" => Ok(SoloEvent::Emit),
         b"emit-acknowledgement" => Ok(SoloEvent::EmitAcknowledgement),
         b"resend-first" => Ok(SoloEvent::ResendFirst),
+        b"resend" => read_resend(rest),
         b"send" => Ok(SoloEvent::Send(read_bytes(alloc, rest)?)),
         b"receive" => read_receive(rest),
         b"timer" => {

@@ -1,4 +1,4 @@
-// World is one scripted world, as crates/test_connections has it, by Go's connections: it reads a script and prints its trace.
+// World is one scripted world, as checks/programs/test_connections has it, by Go's connections: it reads a script and prints its trace.
 package main
 
 import (

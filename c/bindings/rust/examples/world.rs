@@ -1,4 +1,4 @@
-//! One scripted world, as crates/test_connections has it, by the crate's connections: reads a script and prints its trace.
+//! One scripted world, as checks/programs/test_connections has it, by the crate's connections: reads a script and prints its trace.
 use std::io::{stdin, stdout, BufRead, BufWriter, Stdout, Write};
 use std::time::Duration;
 use tcpcore::{Addr, Arrival, Config, Connection, Error, Received, Rules, Time, EMIT_ROOM};

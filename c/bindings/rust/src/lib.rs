@@ -58,7 +58,7 @@ pub use answers::{Agreed, Arrival, EmitFirst, Ending, Error, Expired, Malformed,
 #[cfg(feature = "alloc")]
 pub use boxed::Boxed;
 pub use config::Config;
-pub use connection::{connection_memory, connection_memory_with_runs, Congestion, CongestionWindow, Connection, Rules, Segment};
+pub use connection::{connection_memory, connection_memory_with_runs, Congestion, CongestionWindow, Connection, Policy, Rules, Segment};
 pub use lending::{Lent, Parts, HEADER_ROOM};
 pub use placed::{memory, memory_with_runs, Placed};
 pub use reports::{ArriveReport, Brought, Kind, Rule, Transmit};
@@ -219,6 +219,12 @@ impl End {
     /// anything is in flight: where nothing is, nothing changed.
     pub fn resend_first(&mut self) -> bool {
         unsafe { sys::tcpcore_resend_first(&mut self.raw) == 0 }
+    }
+
+    /// Says that what lies from one position on and before another must be sent again, and nothing else of what is in flight, but for what the
+    /// peer has reported (RFC 6675, 5; RFC 8985, 6.2). The SYN is at 0, and byte i at 1 + i. Answers whether anything in flight lies there.
+    pub fn resend(&mut self, from: u64, to: u64) -> bool {
+        unsafe { sys::tcpcore_resend(&mut self.raw, from, to) == 0 }
     }
 
     /// The length of the segment that [`End::emit`] would write now, 0 where none is due.

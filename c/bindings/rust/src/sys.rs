@@ -2,9 +2,9 @@
 use core::ffi::c_void;
 use core::ptr;
 
-pub(crate) const VERSION: u32 = 16;
+pub(crate) const VERSION: u32 = 17;
 pub(crate) const END_SIZE: usize = 416;
-pub(crate) const CONNECTION_SIZE: usize = 880;
+pub(crate) const CONNECTION_SIZE: usize = 1088;
 pub(crate) const MARK_SIZE: usize = 8;
 pub(crate) const HELD_SIZE: usize = 16;
 pub(crate) const UNIT: usize = 16;
@@ -202,6 +202,16 @@ pub struct Congestion {
     pub reserved: [u32; 8],
 }
 
+#[derive(Clone, Copy, Default)]
+#[repr(C)]
+pub struct Policy {
+    pub ack_delay: u64,
+    pub override_timeout: u64,
+    pub answer_interval: u64,
+    pub nagle: u32,
+    pub reserved: [u32; 9],
+}
+
 extern "C" {
     pub fn tcpcore_new_at(end: *mut *mut End, config: *const Config, block: *mut c_void, length: usize) -> u32;
     pub fn tcpcore_room(config: *const Config) -> usize;
@@ -245,6 +255,7 @@ extern "C" {
     pub fn tcpcore_emit(end: *mut End, out: *mut c_void, room: usize, to: *mut Addr, length: *mut usize) -> u32;
     pub fn tcpcore_emit_acknowledgement(end: *mut End, out: *mut c_void, room: usize, to: *mut Addr, length: *mut usize) -> u32;
     pub fn tcpcore_resend_first(end: *mut End) -> u32;
+    pub fn tcpcore_resend(end: *mut End, from: u64, to: u64) -> u32;
     pub fn tcpcore_emit_partial(end: *mut End, out: *mut c_void, room: usize, to: *mut Addr, length: *mut usize) -> u32;
     pub fn tcpcore_emit_train(end: *mut End, out: *mut c_void, room: usize, most: usize, train: *mut Train) -> u32;
     pub fn tcpcore_parts(end: *const End, header: *mut c_void, room: usize, parts: *mut Parts) -> u32;
@@ -339,8 +350,10 @@ extern "C" {
     pub fn tcpcore_connection_peer(connection: *const Connection, addr: *mut Addr, port: *mut u16) -> u32;
     pub fn tcpcore_connection_set_user_timeout(connection: *mut Connection, limit: u64) -> u32;
     pub fn tcpcore_connection_resend_first(connection: *mut Connection, now: u64) -> u32;
+    pub fn tcpcore_connection_resend(connection: *mut Connection, now: u64, from: u64, to: u64) -> u32;
     pub fn tcpcore_connection_set_congestion(connection: *mut Connection, congestion: u32) -> u32;
     pub fn tcpcore_connection_congestion(connection: *const Connection, congestion: *mut Congestion) -> u32;
+    pub fn tcpcore_connection_set_policy(connection: *mut Connection, policy: *const Policy) -> u32;
     pub fn tcpcore_strerror(answer: u32) -> *const u8;
     pub fn tcpcore_version() -> u32;
     pub fn tcpcore_build() -> *const u8;
@@ -484,6 +497,7 @@ mod tests {
             ),
             places!(ConnectionSegment, "struct tcpcore_connection_segment", length, position, count, to, reserved),
             places!(Congestion, "struct tcpcore_congestion", cwnd, ssthresh, smss, congestion, is_recovering, reserved),
+            places!(Policy, "struct tcpcore_policy", ack_delay, override_timeout, answer_interval, nagle, reserved),
         ];
         let (expressions, found): (Vec<_>, Vec<_>) = all.into_iter().unzip();
         let (expressions, found) = (expressions.concat(), found.concat());

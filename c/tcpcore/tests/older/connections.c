@@ -1,20 +1,21 @@
 /*
- * Connections as a program of the versions 14 and 15 makes them, in blocks as large as their header said: each is made, but where fewer than
- * 8 runs were asked for, whose tables have no place for the congestion window that a connection has since and a run; and each in a block
- * as large as tcpcore_connection_room tells.
+ * Connections as a program of version 14, or of version 16, makes them, in blocks as large as its header said: each is made, but where fewer
+ * than FEWEST runs were asked for, whose tables have no place for what a connection has since (the congestion window, and the policy) and a
+ * run; and each in a block as large as tcpcore_connection_room tells. OF is the version, and TOOK what a connection took then.
  */
 #include "tcpcore.h"
 
 #include <stdio.h>
 
-__asm__(".symver tcpcore_connection_connect, tcpcore_connection_connect@TCPCORE_14");
-__asm__(".symver tcpcore_connection_listen, tcpcore_connection_listen@TCPCORE_14");
+#define NODE_OF(version) "TCPCORE_" #version
+#define NODE(version) NODE_OF(version)
+
+__asm__(".symver tcpcore_connection_connect, tcpcore_connection_connect@" NODE(OF));
+__asm__(".symver tcpcore_connection_listen, tcpcore_connection_listen@" NODE(OF));
 __asm__(".symver tcpcore_connection_room, tcpcore_connection_room@TCPCORE_11");
 
-enum { FEWEST = 8 };
-
-/* TCPCORE_CONNECTION_MEMORY_RUNS of version 15. */
-#define CONNECTION_MEMORY_OF_15(send, receive, runs) (TCPCORE_MEMORY_RUNS(send, receive, runs) - 416 + 720)
+/* TCPCORE_CONNECTION_MEMORY_RUNS of that version. */
+#define OLDER_MEMORY(send, receive, runs) (TCPCORE_MEMORY_RUNS(send, receive, runs) - 416 + TOOK)
 
 static _Alignas(16) unsigned char block[TCPCORE_CONNECTION_MEMORY_RUNS(1000, 1000, TCPCORE_MAX_RUNS) + 1];
 
@@ -45,7 +46,7 @@ int main(void)
         uint16_t asked = runs == 0 ? TCPCORE_RUNS : runs;
         uint32_t wanted = asked < FEWEST ? TCPCORE_NO_MEMORY : TCPCORE_DONE;
         for (size_t offset = 0; offset < 2; offset++)
-            if (makes(runs, offset, CONNECTION_MEMORY_OF_15(1000, 1000, asked)) != wanted || makes(runs, 0, 0) != TCPCORE_DONE) {
+            if (makes(runs, offset, OLDER_MEMORY(1000, 1000, asked)) != wanted || makes(runs, 0, 0) != TCPCORE_DONE) {
                 printf("connections.c: %d runs\n", runs);
                 return 1;
             }

@@ -58,5 +58,6 @@ pub(crate) fn limits_of(rules: &CConnectionRules) -> Limits
         user: limit_of(rules.user),
         fin_wait_2: limit_of(rules.fin_wait_2),
         guard: reach_of(rules.guard),
+        is_patient: false,
     }
 }

@@ -1,10 +1,10 @@
 //! Segments that come in and go out, each at its time.
 ghost use Rattle.std.specs.Prelude.{◌≡◌, false, length, option_map, true};
-ghost use Rattle.tcp_conn.specs.Timers.{after_resend_first};
+ghost use Rattle.tcp_conn.specs.Timers.{after_resend, after_resend_first};
 ghost use Rattle.tcp_c.specs.Answers.{answer_of};
 ghost use Rattle.tcp_c.specs.ConnectionTrains.{after_train, train_number, train_reported, train_written};
 ghost use Rattle.tcp_c.specs.Connections.{arrival_told, arrived_by, emission_told, emitted_within, end_of, no_segment, report_told, segment_reported, segment_told, sent_number, taken_by, taken_report, used, written_within};
-ghost use Rattle.tcp_c.specs.Pacing.{resend_number};
+ghost use Rattle.tcp_c.specs.Pacing.{resend_number, stretch_number};
 
 use crate::answers::{
     DONE, EMIT_FIRST, LITTLE_ROOM, NO_END, NO_RULE, NOTHING_DUE, WITHHELD, arrival_number,
@@ -49,7 +49,7 @@ pub extern "C" fn tcp_c_connection_arrive(
         *report = no_arrive_report();
         return NO_END;
     };
-    let (answer, found) = arrival_told(driven.flow.arrive(now, src.byte, dst.byte, bytes));
+    let (answer, found) = arrival_told(driven.connection.arrive(now, src.byte, dst.byte, bytes));
     handle.put(driven);
     *report = found;
     answer
@@ -74,7 +74,11 @@ pub extern "C" fn tcp_c_connection_arrive_vouched(
         *report = no_arrive_report();
         return NO_END;
     };
-    let (answer, found) = arrival_told(driven.flow.arrive_vouched(now, src.byte, dst.byte, bytes));
+    let (answer, found) = arrival_told(
+        driven
+            .connection
+            .arrive_vouched(now, src.byte, dst.byte, bytes),
+    );
     handle.put(driven);
     *report = found;
     answer
@@ -137,7 +141,7 @@ pub extern "C" fn tcp_c_connection_emit(
         handle.put(driven);
         return LITTLE_ROOM;
     }
-    let sent = driven.flow.emit(now, window, out);
+    let sent = driven.connection.emit(now, window, out);
     handle.put(driven);
     let (answer, found) = emission_told(sent);
     *segment = found;
@@ -171,7 +175,7 @@ pub extern "C" fn tcp_c_connection_emit_train(
         handle.put(driven);
         return LITTLE_ROOM;
     }
-    let sent = driven.flow.emit_train(now, window, out, most);
+    let sent = driven.connection.emit_train(now, window, out, most);
     handle.put(driven);
     let Some(sent) = sent else {
         return NOTHING_DUE;
@@ -191,7 +195,28 @@ pub extern "C" fn tcp_c_connection_resend_first(handle: &mut DrivenHandle, now: 
     let Some(mut driven) = handle.take() else {
         return NO_END;
     };
-    let again = driven.flow.resend_first(now);
+    let again = driven.connection.resend_first(now);
+    handle.put(driven);
+    if again { DONE } else { NO_RULE }
+}
+
+/// Of what is in flight, what lies from the position `from` on and before `to` must be sent again at once, as of
+/// [`tcp_c_resend`](crate::tcp_c_resend) (RFC 6675, 5; RFC 8985, 6.2): for a sender that finds losses by itself. 54 where nothing in
+/// flight lies there.
+#[unsafe(no_mangle)]
+pub extern "C" fn tcp_c_connection_resend(
+    handle: &mut DrivenHandle,
+    now: u64,
+    from: u64,
+    to: u64,
+) -> u32
+    ensures answer { result ≡ answer_of (λ d. stretch_number from to (end_of d)) handle.old.held.end }
+    ensures state { handle.new.held.end ≡ option_map (λ d. used d now (after_resend (end_of d) from to)) handle.old.held.end }
+{
+    let Some(mut driven) = handle.take() else {
+        return NO_END;
+    };
+    let again = driven.connection.resend(now, from, to);
     handle.put(driven);
     if again { DONE } else { NO_RULE }
 }

@@ -1,8 +1,10 @@
 //! When a timer expires, and what then happens (RFC 9293, 3.10.8).
 ghost use Rattle.std.specs.Prelude.{◌≡◌, option_map};
 ghost use Rattle.tcp_driver.specs.Driver.{at};
-ghost use Rattle.tcp_driver.specs.Times.{expiry, next_expiry};
-ghost use Rattle.tcp_flow.specs.Flow.{after_user_limit};
+ghost use Rattle.tcp_driver.specs.Times.{expiry};
+ghost use Rattle.tcp_connection.specs.Deadlines.{next_call};
+ghost use Rattle.tcp_connection.specs.Using.{with_user_limit};
+ghost use Rattle.tcp_end.specs.Wired.{machine};
 ghost use Rattle.tcp_c.specs.Answers.{done, due_number, answer_of, number_written};
 ghost use Rattle.tcp_c.specs.Connections.{limit_of, time_number, timed_out, timer_number, timer_told};
 
@@ -26,14 +28,14 @@ fn time_number(time: Option<u64>) -> u64
 #[unsafe(no_mangle)]
 pub extern "C" fn tcp_c_connection_poll_at(handle: &mut DrivenHandle, at: &mut u64) -> u32
     ensures answer { result ≡ answer_of (λ _. done) handle.old.held.end }
-    ensures at { at.new ≡ number_written (λ d. time_number (next_expiry d.flow.driving.times)) handle.old.held.end }
+    ensures at { at.new ≡ number_written (λ d. time_number (next_call machine d.connection)) handle.old.held.end }
     ensures state { handle.new.held.end ≡ handle.old.held.end }
 {
     *at = 0;
     let Some(driven) = handle.take() else {
         return NO_END;
     };
-    let poll_at = driven.flow.poll_at();
+    let poll_at = driven.connection.poll_at();
     handle.put(driven);
     *at = time_number(poll_at);
     DONE
@@ -59,15 +61,15 @@ pub extern "C" fn tcp_c_connection_timeout(
     now: u64,
     timer: &mut u32,
 ) -> u32
-    ensures answer { result ≡ answer_of (λ d. due_number (expiry d.flow.driving.times (at d.flow.driving now))) handle.old.held.end }
-    ensures timer { timer.new ≡ number_written (λ d. timer_told (expiry d.flow.driving.times (at d.flow.driving now))) handle.old.held.end }
+    ensures answer { result ≡ answer_of (λ d. due_number (expiry d.connection.flowing.driving.times (at d.connection.flowing.driving now))) handle.old.held.end }
+    ensures timer { timer.new ≡ number_written (λ d. timer_told (expiry d.connection.flowing.driving.times (at d.connection.flowing.driving now))) handle.old.held.end }
     ensures state { handle.new.held.end ≡ option_map (timed_out now) handle.old.held.end }
 {
     *timer = 0;
     let Some(mut driven) = handle.take() else {
         return NO_END;
     };
-    let expired = driven.flow.timeout(now);
+    let expired = driven.connection.timeout(now);
     handle.put(driven);
     let Some(expired) = expired else {
         return NOTHING_DUE;
@@ -85,9 +87,9 @@ pub extern "C" fn tcp_c_connection_tick(
     timer: &mut u32,
     next: &mut u64,
 ) -> u32
-    ensures answer { result ≡ answer_of (λ d. due_number (expiry d.flow.driving.times (at d.flow.driving now))) handle.old.held.end }
-    ensures timer { timer.new ≡ number_written (λ d. timer_told (expiry d.flow.driving.times (at d.flow.driving now))) handle.old.held.end }
-    ensures next { next.new ≡ number_written (λ d. time_number (next_expiry (timed_out now d).flow.driving.times)) handle.old.held.end }
+    ensures answer { result ≡ answer_of (λ d. due_number (expiry d.connection.flowing.driving.times (at d.connection.flowing.driving now))) handle.old.held.end }
+    ensures timer { timer.new ≡ number_written (λ d. timer_told (expiry d.connection.flowing.driving.times (at d.connection.flowing.driving now))) handle.old.held.end }
+    ensures next { next.new ≡ number_written (λ d. time_number (next_call machine (timed_out now d).connection)) handle.old.held.end }
     ensures state { handle.new.held.end ≡ option_map (timed_out now) handle.old.held.end }
 {
     *timer = 0;
@@ -95,7 +97,7 @@ pub extern "C" fn tcp_c_connection_tick(
     let Some(mut driven) = handle.take() else {
         return NO_END;
     };
-    let (found, soonest) = driven.flow.tick(now);
+    let (found, soonest) = driven.connection.tick(now);
     handle.put(driven);
     *next = time_number(soonest);
     let Some(found) = found else {
@@ -110,12 +112,12 @@ pub extern "C" fn tcp_c_connection_tick(
 #[unsafe(no_mangle)]
 pub extern "C" fn tcp_c_connection_set_user_timeout(handle: &mut DrivenHandle, limit: u64) -> u32
     ensures answer { result ≡ answer_of (λ _. done) handle.old.held.end }
-    ensures state { handle.new.held.end ≡ option_map (λ d. record { flow = after_user_limit d.flow (limit_of limit) }) handle.old.held.end }
+    ensures state { handle.new.held.end ≡ option_map (λ d. record { connection = with_user_limit d.connection (limit_of limit) }) handle.old.held.end }
 {
     let Some(mut driven) = handle.take() else {
         return NO_END;
     };
-    driven.flow.set_user_timeout(limit_of(limit));
+    driven.connection.set_user_timeout(limit_of(limit));
     handle.put(driven);
     DONE
 }

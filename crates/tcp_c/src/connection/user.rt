@@ -1,11 +1,11 @@
 //! The calls of the user of a connection (RFC 9293, 3.10.2 to 3.10.6), each at its time.
 ghost use Rattle.std.specs.Prelude.{◌≡◌, ◌+◌, ◌<◌, ◌++◌, length, drop, option_map};
-ghost use Rattle.tcp_conn.specs.Calls.{abort_answer, after_abort, after_acknowledge, after_close, after_receive, after_send, close_answer, receive_answer, send_answer};
+ghost use Rattle.tcp_conn.specs.Calls.{abort_answer, after_abort, after_close, after_send, close_answer, receive_answer, send_answer};
 ghost use Rattle.tcp_conn.specs.Lending.{consume_answer};
 ghost use Rattle.tcp_conn.specs.Status.{peer_of};
 ghost use Rattle.tcp_c.specs.Answers.{done, answer_of, number_written, call_number, received_number};
 ghost use Rattle.tcp_c.specs.Calls.{taken_count, received_count, handed_bytes};
-ghost use Rattle.tcp_c.specs.Connections.{end_of, used};
+ghost use Rattle.tcp_c.specs.Connections.{acknowledged, end_of, read, used};
 ghost use Rattle.tcp_c.specs.Lent.{IsNullIfEmpty, peek_ends, peek_length, peek_number};
 ghost use Rattle.tcp_c.specs.Status.{peer_address, peer_number, port_told, status_of};
 
@@ -32,7 +32,7 @@ pub extern "C" fn tcp_c_connection_send(
     let Some(mut driven) = handle.take() else {
         return NO_END;
     };
-    let answer = driven.flow.send(now, text);
+    let answer = driven.connection.send(now, text);
     handle.put(driven);
     *taken = taken_count(&answer);
     call_number(answer)
@@ -49,13 +49,13 @@ pub extern "C" fn tcp_c_connection_receive(
     ensures answer { result ≡ answer_of (λ d. received_number (receive_answer (end_of d) (length out.old))) handle.old.held.end }
     ensures count { count.new ≡ number_written (λ d. received_count (receive_answer (end_of d) (length out.old))) handle.old.held.end }
     ensures bytes { let bytes = handed_bytes (length out.old) (option_map end_of handle.old.held.end) in out.new ≡ bytes ++ drop (length bytes) out.old }
-    ensures state { handle.new.held.end ≡ option_map (λ d. used d now (after_receive (end_of d) (length out.old))) handle.old.held.end }
+    ensures state { handle.new.held.end ≡ option_map (λ d. read d now (length out.old)) handle.old.held.end }
 {
     *count = 0;
     let Some(mut driven) = handle.take() else {
         return NO_END;
     };
-    let answer = driven.flow.receive(now, out);
+    let answer = driven.connection.receive(now, out);
     handle.put(driven);
     *count = received_count(&answer);
     received_number(answer)
@@ -76,7 +76,7 @@ pub extern "C" fn tcp_c_connection_peek(handle: &mut DrivenHandle, lent: &mut CL
         *lent = nothing_lent();
         return NO_END;
     };
-    let (answer, found) = lent_of(&driven.flow.driver().core().end);
+    let (answer, found) = lent_of(&driven.connection.flow().driver().core().end);
     handle.put(driven);
     *lent = found;
     answer
@@ -92,13 +92,13 @@ pub extern "C" fn tcp_c_connection_consume(
 ) -> u32
     ensures answer { result ≡ answer_of (λ d. call_number (consume_answer (end_of d) count)) handle.old.held.end }
     ensures taken { taken.new ≡ number_written (λ d. taken_count (consume_answer (end_of d) count)) handle.old.held.end }
-    ensures state { handle.new.held.end ≡ option_map (λ d. used d now (after_receive (end_of d) count)) handle.old.held.end }
+    ensures state { handle.new.held.end ≡ option_map (λ d. read d now count) handle.old.held.end }
 {
     *taken = 0;
     let Some(mut driven) = handle.take() else {
         return NO_END;
     };
-    let answer = driven.flow.consume(now, count);
+    let answer = driven.connection.consume(now, count);
     handle.put(driven);
     *taken = taken_count(&answer);
     call_number(answer)
@@ -108,12 +108,12 @@ pub extern "C" fn tcp_c_connection_consume(
 #[unsafe(no_mangle)]
 pub extern "C" fn tcp_c_connection_acknowledge(handle: &mut DrivenHandle, now: u64) -> u32
     ensures answer { result ≡ answer_of (λ _. done) handle.old.held.end }
-    ensures state { handle.new.held.end ≡ option_map (λ d. used d now (after_acknowledge (end_of d))) handle.old.held.end }
+    ensures state { handle.new.held.end ≡ option_map (λ d. acknowledged d now) handle.old.held.end }
 {
     let Some(mut driven) = handle.take() else {
         return NO_END;
     };
-    driven.flow.acknowledge(now);
+    driven.connection.acknowledge(now);
     handle.put(driven);
     DONE
 }
@@ -127,7 +127,7 @@ pub extern "C" fn tcp_c_connection_close(handle: &mut DrivenHandle, now: u64) ->
     let Some(mut driven) = handle.take() else {
         return NO_END;
     };
-    let answer = driven.flow.close(now);
+    let answer = driven.connection.close(now);
     handle.put(driven);
     call_number(answer)
 }
@@ -141,7 +141,7 @@ pub extern "C" fn tcp_c_connection_abort(handle: &mut DrivenHandle, now: u64) ->
     let Some(mut driven) = handle.take() else {
         return NO_END;
     };
-    let answer = driven.flow.abort(now);
+    let answer = driven.connection.abort(now);
     handle.put(driven);
     call_number(answer)
 }
@@ -157,7 +157,7 @@ pub extern "C" fn tcp_c_connection_status(handle: &mut DrivenHandle, status: &mu
         *status = no_status();
         return NO_END;
     };
-    *status = status_of(&driven.flow.driver().core().end);
+    *status = status_of(&driven.connection.flow().driver().core().end);
     handle.put(driven);
     DONE
 }
@@ -179,7 +179,7 @@ pub extern "C" fn tcp_c_connection_peer(
         *port = 0;
         return NO_END;
     };
-    let peer = driven.flow.driver().core().end.peer();
+    let peer = driven.connection.flow().driver().core().end.peer();
     handle.put(driven);
     report_peer(peer, addr, port)
 }

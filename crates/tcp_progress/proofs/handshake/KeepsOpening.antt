@@ -5,8 +5,9 @@ use Rattle.tcp_replay.proofs.Words.{FitsPhase, has, has_discarded, inl, inr, is_
 use Rattle.tcp_replay.proofs.Words.{NotEnded, other, party_of, PartyState, PeerAccepts, PeerOpens, Phase, Receive, refl, ResendFirst, rst, side_of, State}
 use Rattle.tcp_replay.proofs.Words.{subst, sym, SynReceived, SynSent, Taken, TakenShut, Timer, true, world_after, world_after_all, WorldState, ℕ, ◌∙◌, ◌∷◌}
 use Rattle.tcp_replay.proofs.Words.{◌≡◌, ◌≤◌, ◌⊎◌}
+use Rattle.tcp_replay.specs.Events.{Resend}
 use Rattle.tcp_progress.proofs.Lemmas.{at-event, both-live, delivered, ends-plainly, GoOn, IsKept, IsMoved, moves-event, side-pair, steady-back, steps-all}
-use Rattle.tcp_progress.proofs.Lemmas.{steps-event, still-ack_alone, still-acknowledging, still-emission, still-resend_first, still-reading, still-reorder}
+use Rattle.tcp_progress.proofs.Lemmas.{steps-event, still-ack_alone, still-acknowledging, still-emission, still-resend, still-resend_first, still-reading, still-reorder}
 use Rattle.tcp_progress.proofs.Lemmas.{still-retransmit}
 use Rattle.tcp_replay.proofs.{Lemmas.finds-damage, Lemmas.IsAckOnly, Lemmas.IsAfterSyn, Lemmas.judged, Lemmas.pair-swapped, one_end.Judgements.IsSyn, one_end.Judgements.IsTaken}
 use Rattle.tcp_progress.proofs.Words.{A, AreOpen, B, IsCalm, IsLive, NoneDiscarded, Side}
@@ -47,6 +48,7 @@ here-phase life p q (Timer side timers.Reorder) calm = (still-reorder p).phase
 here-phase life p q (Emit side) calm = (still-emission p).phase
 here-phase life p q (EmitAcknowledgement side) calm = (still-ack_alone p).phase
 here-phase life p q (ResendFirst side) calm = (still-resend_first p).phase
+here-phase life p q (Resend side from to) calm = (still-resend p from to).phase
 here-phase life p q (Deliver from k) calm = refl
 here-phase life p q (Damage from k place value) calm = refl
 here-phase life p q other calm = absurd calm

@@ -322,7 +322,7 @@ edge-calls p q pair h =
       probes = probe;
       fills = λ end _ e. edge-gaps _ _ _ d s.pending.probe (Some end) e h;
       ends = λ _. edge-orderly _ _ _ d s.pending.probe h;
-      resends-first = λ _. record { sent = h.sent; near = h.near; window = h.window; probed = h.probed; range = omega arith; marks = h.marks };
+      resends-between = λ from to _. record { sent = h.sent; near = h.near; window = h.window; probed = h.probed; range = omega arith; marks = h.marks };
       emits = λ due may _. elim may [
         | inl is ↦ subst (λ (o : Option Due). IfSome o (EdgedAfter p q)) is (due-kept s (EdgedAfter p q) (edge-due p q pair h))
         | inr is ↦ subst (λ (o : Option Due). IfSome o (EdgedAfter p q)) is (ack_alone-kept s (EdgedAfter p q) (edge-due p q pair h))

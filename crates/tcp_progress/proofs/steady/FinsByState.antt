@@ -107,7 +107,7 @@ may_be-calls p q pair h =
         last = λ never. absurd (cc);
         released = h.released;
       };
-      resends-first = λ _. h;
+      resends-between = λ _ _ _. h;
       emits = λ _ _ _. h;
     }
 

@@ -4,14 +4,14 @@ use Rattle.tcp_replay.proofs.Words.{after_acked_text, after_its_ack, after_judge
 use Rattle.tcp_replay.proofs.Words.{after_taking_shut, after_window_and_blocks, arith, Bool, cases_Bool, closed_judgement, cond_both, Content}
 use Rattle.tcp_replay.proofs.Words.{delivery_refusal, discards, Ending, false, false≢true, Foreign, has, has_discarded, if◌then◌else◌, inl, inr, is_closed}
 use Rattle.tcp_replay.proofs.Words.{is_foreign, is_listening, IsAlone, IsSoundPair, Judgement, judgement, LastAck, length, List, max_life, None, NotEnded}
-use Rattle.tcp_replay.proofs.Words.{Orderly, party_after_ack_alone, party_after_arrival, party_after_emission, party_after_resend_first, party_after_timer}
+use Rattle.tcp_replay.proofs.Words.{Orderly, party_after_ack_alone, party_after_arrival, party_after_emission, party_after_resend, party_after_resend_first, party_after_timer}
 use Rattle.tcp_replay.proofs.Words.{PartyState, PeerRefuses, PeerResets, Phase, phase_judgement, rcv_position_of, refl, ResetIgnored, rst, segment_at}
 use Rattle.tcp_replay.proofs.Words.{SentSegment, slice_get, Some, State, Stray, subst, sym, Taken, TakenShut, Timer, true, ℕ, ◌∙◌, ◌≡◌, ◌≤◌, ◌⊎◌}
 use Rattle.tcp_replay.proofs.Lemmas.{after_segment, at-listen, Both, fair-judgement, judged, kept-same, not-closed-ended, slice_get-before}
 use Rattle.tcp_progress.proofs.turn.Delivered.{last-before, own_fin-ends, same-ending, same-phase, shut-as, taken-as}
 use Rattle.tcp_conn.specs.declared.phase.Timer.{Timer as Which}
 use Rattle.tcp_progress.proofs.{Words.IsCalm, Words.Side, turn.Emitted.delivered, turn.Emitted.IsOnItsWay, steady.OnlySent.KeepsSent, steady.OnlySent.reaches-arrive, turn.Live.IsStill}
-use Rattle.tcp_progress.proofs.{turn.Live.still-ack_alone, turn.Live.still-resend_first, turn.Live.still-emission, turn.Live.still-next, turn.Live.still-reorder}
+use Rattle.tcp_progress.proofs.{turn.Live.still-ack_alone, turn.Live.still-resend, turn.Live.still-resend_first, turn.Live.still-emission, turn.Live.still-next, turn.Live.still-reorder}
 use Rattle.tcp_progress.proofs.{turn.Live.still-retransmit, turn.Live.still-same, turn.Answering.its_ack-range}
 use Rattle.tcp_replay.proofs.one_end.Judgements.{IsSyn}
 use Rattle.tcp_conn.specs.declared.phase.Timer.TheVariants as timers
@@ -100,10 +100,14 @@ pub moves-ack_alone : (p : PartyState) → IsMoved p (party_after_ack_alone p)
 unfolding party_after_ack_alone
 moves-ack_alone p = moves-still p (party_after_ack_alone p) (still-ack_alone p) (slice_get-before p.sent _) (omega arith) (λ e. e)
 
--- the first segment is to go out again
+-- the first segment is to go out again, or what lies between two positions
 pub moves-resend_first : (p : PartyState) → IsMoved p (party_after_resend_first p)
 unfolding party_after_resend_first
 moves-resend_first p = moves-still p (party_after_resend_first p) (still-resend_first p) (λ k g e. e) (omega arith) (λ e. e)
+
+pub moves-resend : (p : PartyState) (from to : ℕ) → IsMoved p (party_after_resend p from to)
+unfolding party_after_resend
+moves-resend p from to = moves-still p (party_after_resend p from to) (still-resend p from to) (λ k g e. e) (omega arith) (λ e. e)
 
 una-judgement : (s : State) (src dst : List ℕ) (v : Content) (accepted : List ℕ) (closed : Bool) → IsAlone s accepted closed
     → s.sending.snd_una ≤ (after_judgement (judgement s src dst v) s src v).sending.snd_una

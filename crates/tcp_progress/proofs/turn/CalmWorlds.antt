@@ -4,11 +4,12 @@ use Rattle.tcp_replay.proofs.Words.{EmitAcknowledgement, EventContent, false, Fi
 use Rattle.tcp_replay.proofs.Words.{length-append, List, max_life, None, NotEnded, Orderly, other, party_after_acknowledge, party_after_receive, party_of}
 use Rattle.tcp_replay.proofs.Words.{PartyState, Phase, rcv_position_of, Receive, refl, refusal_of, ResendFirst, Send, Sends, side_of, State, subst, sym}
 use Rattle.tcp_replay.proofs.Words.{Timer, true, world_after, world_after_all, world_with_effect, WorldState, ℕ, ◌∙◌, ◌∷◌, ◌≡◌, ◌≤◌, ◌⊎◌}
+use Rattle.tcp_replay.specs.Events.{Resend}
 use Rattle.tcp_replay.proofs.Lemmas.{Both, both-swapped, discards-not_ended, finds-damage, one_if, one_if-most, pair-swapped}
 use Rattle.tcp_progress.proofs.Words.{A, B, HasStreamsOf, IsCalm, IsLive, IsSteadyPair, left_in, left_of_both, NeverGrows, NoneDiscarded, Says}
 use Rattle.tcp_progress.proofs.Words.{SaysByPhase, Side, WhatIsLeftNeverGrows}
 use Rattle.tcp_progress.proofs.steady.AlwaysSteady.{in-every-world, IsKept, kept-after, kept-steady, side-pair, side-sent}
-use Rattle.tcp_progress.proofs.turn.Calm.{ends-plainly, Grows, grows-then, IsMoved, moves-ack_alone, moves-arrival, moves-emission, moves-resend_first}
+use Rattle.tcp_progress.proofs.turn.Calm.{ends-plainly, Grows, grows-then, IsMoved, moves-ack_alone, moves-arrival, moves-emission, moves-resend, moves-resend_first}
 use Rattle.tcp_progress.proofs.turn.Calm.{moves-same, moves-still, moves-timer, not-both}
 use Rattle.tcp_progress.proofs.{steady.OnlySent.KeepsSent, steady.Table.own_fin-acked, turn.Delivered.nothing-left, turn.Live.GoOn, turn.Live.steady-back}
 use Rattle.tcp_progress.proofs.{turn.Live.still-acknowledging, turn.Live.still-reading, turn.Live.swapped, turn.Sides.after-either, turn.Sides.at-event}
@@ -33,6 +34,7 @@ calm-effect life p q (Timer side which) calm most e pair h = inl (moves-timer p 
 calm-effect life p q (Emit side) calm most e pair h = inl (moves-emission p, refl)
 calm-effect life p q (EmitAcknowledgement side) calm most e pair h = inl (moves-ack_alone p, refl)
 calm-effect life p q (ResendFirst side) calm most e pair h = inl (moves-resend_first p, refl)
+calm-effect life p q (Resend side from to) calm most e pair h = inl (moves-resend p from to, refl)
 calm-effect life p q (Deliver from k) calm most e pair h = inr (refl, moves-arrival q p life k most e (pair-swapped _ _ pair) (both-swapped KeepsSent _ _ h))
 calm-effect life p q (Damage from k place value) calm most e pair h =
     inr (refl, subst (λ (x : PartyState). IsMoved q x) (sym (finds-damage q p life k place value calm e (pair-swapped _ _ pair)).same) (moves-same q))

@@ -1,13 +1,13 @@
 -- Ways on: quiet events one after another, at one of two parties or from one to the other, and what stays true on the way.
-use Rattle.tcp_replay.proofs.Words.{◌++◌, ◌<◌, ◌==◌, [], ack_alone, after_acknowledge, after_due, after_emission, after_gaps, after_receive, after_reorder}
-use Rattle.tcp_replay.proofs.Words.{after_resend_first, after_retransmit, and_parts, ap, arith, Bool, CallError, cases_Bool, cond_both, count_unsent, Due}
+use Rattle.tcp_replay.proofs.Words.{◌+◌, ◌++◌, ◌<◌, ◌==◌, [], ack_alone, after_acknowledge, after_due, after_emission, after_gaps, after_receive, after_reorder}
+use Rattle.tcp_replay.proofs.Words.{after_resend, after_resend_first, after_retransmit, and_parts, ap, arith, Bool, CallError, cases_Bool, cond_both, count_unsent, Due}
 use Rattle.tcp_replay.proofs.Words.{due_of, end_of_text, Ending, eqb-true, EventContent, false, false≢true, FitsPhase, if◌then◌else◌, inl, inr}
 use Rattle.tcp_replay.proofs.Words.{is_fin_acked, is_handshake, later, length, List, marks_end, nat_lt, None, NotEnded, Option, Orderly}
-use Rattle.tcp_replay.proofs.Words.{party_after_ack_alone, party_after_acknowledge, party_after_emission, party_after_receive, party_after_resend_first}
-use Rattle.tcp_replay.proofs.Words.{party_after_timer, PartyState, Phase, rcv_position_of, receive_refusal, refl, refusal_of, Reorder}
+use Rattle.tcp_replay.proofs.Words.{party_after_ack_alone, party_after_acknowledge, party_after_emission, party_after_receive, party_after_resend, party_after_resend_first}
+use Rattle.tcp_replay.proofs.Words.{party_after_timer, PartyState, Phase, rcv_position_of, receive_refusal, refl, refusal_of, Reorder, resends_between}
 use Rattle.tcp_replay.proofs.Words.{report_options_short, Retransmit, run_of, Sending, Sends, sends_again, sends_text, SentSegment, slice_get, Some, State}
 use Rattle.tcp_replay.proofs.Words.{state_after, state_unless, stay_or, stop_of, stop_or, subst, sym, SynReceived, text_limit, true, with_all_resent}
-use Rattle.tcp_replay.proofs.Words.{with_bytes_received, with_first_resent, world_with_effect, WorldState, ℕ, ◌∙◌, ◌∷◌, ◌≡◌, ◌≤◌, ◌⊎◌}
+use Rattle.tcp_replay.proofs.Words.{with_bytes_received, with_resent, world_with_effect, WorldState, ℕ, ◌∙◌, ◌∷◌, ◌≡◌, ◌≤◌, ◌⊎◌}
 use Rattle.tcp_progress.proofs.Words.{all_of, CanReach, IsInFlight, IsLive, IsQuiet, IsSteadyPair, left_of_both, SaysByPhase}
 use Rattle.tcp_replay.proofs.Lemmas.{discards-not_ended, end-is, going-on, one_if-most}
 use Rattle.tcp_progress.proofs.{laws.NextTaken.IsAfterSyn, steady.Table.own_fin-acked}
@@ -104,16 +104,26 @@ still-ack_alone p =
     let h = due-still p (ack_alone p.endpoint) in
     assumption
 
--- THE FIRST SEGMENT AGAIN
+-- A STRETCH AGAIN, whatever test says so
+still-stretch : (p : PartyState) (test : Bool) (from to : ℕ)
+    → IsStill p (record p { endpoint = record p.endpoint { sending = if test then with_resent p.endpoint.sending from to else p.endpoint.sending } })
+still-stretch p test from to =
+    let s = p.endpoint in
+    let d = with_resent s.sending from to in
+    let Same : Sending → Type 0 = λ d. (d.snd_una ≡ s.sending.snd_una) × (s.sending.snd_nxt ≤ d.snd_nxt) in
+    let same : Same (if test then d else s.sending) = cond_both test d s.sending Same (λ _. (refl, omega arith)) (λ _. (refl, omega arith)) in
+    assumption
+
+-- THE FIRST SEGMENT AGAIN, and what lies between two positions
 pub still-resend_first : (p : PartyState) → IsStill p (party_after_resend_first p)
 unfolding party_after_resend_first after_resend_first
 still-resend_first p =
-    let s = p.endpoint in
-    let d = with_first_resent s.sending (text_limit s) in
-    let Same : Sending → Type 0 = λ d. (d.snd_una ≡ s.sending.snd_una) × (s.sending.snd_nxt ≤ d.snd_nxt) in
-    let same : Same (if sends_again s then d else s.sending) = cond_both (sends_again s) d s.sending Same (λ _. (refl, omega arith))
-    (λ _. (refl, omega arith)) in
-    assumption
+    let una = p.endpoint.sending.snd_una in
+    still-stretch p (sends_again p.endpoint) una (una + text_limit p.endpoint)
+
+pub still-resend : (p : PartyState) (from to : ℕ) → IsStill p (party_after_resend p from to)
+unfolding party_after_resend after_resend
+still-resend p from to = still-stretch p (resends_between p.endpoint from to) from to
 
 -- what the marks leave
 gaps-still : (p : PartyState) (end : Option ℕ) → IsStill p (record p { endpoint = record p.endpoint { sending = after_gaps p.endpoint.sending end } })

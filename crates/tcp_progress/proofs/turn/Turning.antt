@@ -8,6 +8,7 @@ use Rattle.tcp_progress.proofs.Words.{A, all_room, AllCome, B, both_served, Come
 use Rattle.tcp_progress.proofs.Words.{is_reset, IsCalm, IsSteadyPair, IsTurn, IsUntimed, left_in, NoneDiscarded, reads, served, Side}
 use Rattle.tcp_progress.proofs.Words.{WhoIsServedGetsThrough}
 use Rattle.tcp_progress.proofs.turn.Ended.{all-come, complete, delivers-still, IsAllTaken, IsComplete, read-end, through, up-stays, waited}
+use Rattle.tcp_replay.specs.Events.{Resend}
 use Rattle.tcp_replay.proofs.Lemmas.{both-swapped}
 use Rattle.tcp_progress.proofs.{steady.AlwaysSteady.in-every-world, steady.AlwaysSteady.IsKept, steady.AlwaysSteady.kept-steady, turn.Calm.Grows}
 use Rattle.tcp_progress.proofs.{turn.CalmWorlds.Steps, turn.CalmWorlds.steps-all, turn.CalmWorlds.steps-left, turn.CalmWorlds.steps-streams}
@@ -78,6 +79,7 @@ pub untimed-calm : (event : EventContent) → IsUntimed event → IsCalm event
 untimed-calm (Timer side which) h = absurd h
 untimed-calm (EmitAcknowledgement side) h = tt
 untimed-calm (ResendFirst side) h = tt
+untimed-calm (Resend side from to) h = tt
 untimed-calm other h = h
 
 -- what follows of each of some events follows of all

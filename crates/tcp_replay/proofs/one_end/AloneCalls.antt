@@ -6,9 +6,9 @@ use Rattle.tcp_replay.proofs.Words.{is_handshake, is_listening, is_syn_sent, IsA
 use Rattle.tcp_replay.proofs.Words.{length-drop, length-replicate, List, Listen, max, min, nat_lt, None, not, NotConnected, NotEnded, NotOpen, number}
 use Rattle.tcp_replay.proofs.Words.{open_refusal, opens_window, Option, option_or, or_cases, own_reset, PartyState, Peer, phase_after_close, position_at}
 use Rattle.tcp_replay.proofs.Words.{Queue, receive_refusal, refl, refusal_if, replicate, reset_after_abort, reset_at_ack, reset_of_stray, resets_on_abort}
-use Rattle.tcp_replay.proofs.Words.{send_refusal, Sending, Sends, sends_text, Seq, Some, State, StreamFull, sym, take, takes_text, text_limit, true}
-use Rattle.tcp_replay.proofs.Words.{WaitingReset, with_ack_pending, with_all_resent, with_bytes_received, with_connection, with_first_resent}
-use Rattle.tcp_replay.proofs.Words.{with_gaps_resent, with_reset, with_text, without_marks, ◌||◌, ℕ, ◌∙◌, ◌≡◌, ◌≤◌, ⊎_elim}
+use Rattle.tcp_replay.proofs.Words.{send_refusal, Sending, Sends, sends_text, Seq, Some, State, StreamFull, sym, take, takes_text, true}
+use Rattle.tcp_replay.proofs.Words.{WaitingReset, with_ack_pending, with_all_resent, with_bytes_received, with_connection}
+use Rattle.tcp_replay.proofs.Words.{with_gaps_resent, with_resent, with_reset, with_text, without_marks, ◌||◌, ℕ, ◌∙◌, ◌≡◌, ◌≤◌, ⊎_elim}
 use Rattle.tcp_conn.specs.declared.phase.Ending.TheVariants.{Reset}
 use Rattle.tcp_replay.proofs.one_end.Phases.{after_syn-knows, after_syn-opened, closed-unknown, discards-not_ended, end-closed, end-listen, end-syn_sent}
 use Rattle.tcp_replay.proofs.one_end.Phases.{end-synchronized, fits-closing, handshake-closing, handshake-knows, knows-closing, not_ended}
@@ -225,10 +225,10 @@ sends-all_resent d accepted closed gone h =
     let range : d.snd_nxt ≤ max d.snd_nxt (1 + length accepted) = omega arith in
     assumption
 
-sends-first_resent : (d : Sending) (accepted : List ℕ) (closed gone : Bool) (limit : ℕ) → Sends d accepted closed gone
-    → Sends (with_first_resent d limit) accepted closed gone
-sends-first_resent d accepted closed gone limit h =
-    let range : min d.snd_nxt (d.snd_una + limit) ≤ max d.snd_nxt (1 + length accepted) = omega arith in
+sends-resent : (d : Sending) (accepted : List ℕ) (closed gone : Bool) (from to : ℕ) → Sends d accepted closed gone
+    → Sends (with_resent d from to) accepted closed gone
+sends-resent d accepted closed gone from to h =
+    let range : min d.snd_nxt to ≤ max d.snd_nxt (1 + length accepted) = omega arith in
     assumption
 
 mark_end-inside : (q : Queue) (end : ℕ) → last_mark_end q ≡ Some end → end ≤ length q.marks
@@ -289,7 +289,7 @@ alone-calls peer p port h =
       ends = λ e.
           let synced = time_wait-synchronized s.phase e in
           alone-orderly s p.accepted p.closed (end-synchronized s synced h.progress).0 h;
-      resends-first = λ _. alone-sending s p.accepted p.closed (with_first_resent d (text_limit s)) refl refl
-          (sends-first_resent d p.accepted p.closed (discards s.ending) (text_limit s) h.sends) h;
+      resends-between = λ from to _. alone-sending s p.accepted p.closed (with_resent d from to) refl refl
+          (sends-resent d p.accepted p.closed (discards s.ending) from to h.sends) h;
       emits = λ due _ out. out.alone;
     }

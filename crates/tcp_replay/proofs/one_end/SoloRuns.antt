@@ -6,14 +6,14 @@ use Rattle.tcp_replay.proofs.Words.{decoded_valid, DecodeError, DeliversWhatCame
 use Rattle.tcp_replay.proofs.Words.{front_taken, has, HasRanges, IfSome, if◌then◌else◌, is_acceptable_segment, is_close, is_foreign, IsAlone, IsConfig}
 use Rattle.tcp_replay.proofs.Words.{IsOfUser, List, end_with_runs, None, number, Ok, OneEndIsTrueWithRuns, Option, option_map, option_to_list, party_after_abort}
 use Rattle.tcp_replay.proofs.Words.{party_after_acknowledge, party_after_close, party_after_connect, party_after_listen, party_after_receive}
-use Rattle.tcp_replay.proofs.Words.{party_after_resend_first, party_after_send, party_after_timer, PartyState, Peer, rcv_position_with, refl, Reset}
+use Rattle.tcp_replay.proofs.Words.{party_after_resend, party_after_resend_first, party_after_send, party_after_timer, PartyState, Peer, rcv_position_with, refl, Reset}
 use Rattle.tcp_replay.proofs.Words.{Result, rst, alone_with_runs, segment_alone, segment_due, segment_emitted, segment_of, send_refusal, SendsItsUsers}
 use Rattle.tcp_replay.proofs.Words.{slice_get, solo_run, solo_with_runs, SoloContent, SoloState, Some, State, subst, sym, Syn, syn, TookSynWith, true, ◌||◌, ℕ}
 use Rattle.tcp_replay.proofs.Words.{◌∙◌, ◌∷◌, ◌≡◌, ⊎_elim}
-use Rattle.tcp_replay.specs.SoloEvents.{Abort, Acknowledge, Close, Connect, Emit, EmitAcknowledgement, Listen, Receive, ResendFirst, Send, Timer}
+use Rattle.tcp_replay.specs.SoloEvents.{Abort, Acknowledge, Close, Connect, Emit, EmitAcknowledgement, Listen, Receive, Resend, ResendFirst, Send, Timer}
 use Rattle.tcp_replay.proofs.one_end.Feeds.{AllText, ByNumber, fed-any, fed-more, fed-new, IsFed, text-at, text-front, text-of}
 use Rattle.tcp_replay.proofs.pair.Calls.{KeptByCalls, on-abort, on-ack-alone, on-acknowledge, on-close, on-connect, on-emission, on-listen, on-receive}
-use Rattle.tcp_replay.proofs.pair.Calls.{on-resend-first, on-send, on-timer, or-false, with_end}
+use Rattle.tcp_replay.proofs.pair.Calls.{on-resend, on-resend-first, on-send, on-timer, or-false, with_end}
 use Rattle.tcp_replay.proofs.{Lists.by_test, Lists.one_if, one_end.Alone.alone-new, one_end.AloneCalls.alone-calls, one_end.AloneCalls.alone-judgement}
 use Rattle.tcp_replay.proofs.{one_end.AloneCalls.IsAloneIn, one_end.AloneCalls.send-unclosed, one_end.AloneEmissions.ack-alone-goes}
 use Rattle.tcp_replay.proofs.{one_end.AloneEmissions.due-alone, one_end.AloneEmissions.GoesOutAlone, one_end.AloneEmissions.IsSaid}
@@ -63,7 +63,7 @@ module _ (x : SoloState) (P : PartyState → Type 0) (alone : IsAloneIn (party_i
     pub solo-step : (e : SoloContent) → HasRanges e
         → ((src dst bytes : List ℕ) → e ≡ Arrive src dst bytes → P (with_end (party_in x) (after_arrival x.endpoint src dst bytes)))
         → P (party_in (after_solo x e))
-    unfolding party_after_connect party_after_listen party_after_send party_after_receive party_after_close party_after_abort party_after_acknowledge party_after_timer party_after_resend_first
+    unfolding party_after_connect party_after_listen party_after_send party_after_receive party_after_close party_after_abort party_after_acknowledge party_after_timer party_after_resend_first party_after_resend
     solo-step (Connect addr port) fits arrives = nothing-added _ (on-connect _ (party_in x) P (calls _ fits))
     solo-step Listen fits arrives = nothing-added _ (on-listen _ (party_in x) P own-calls)
     solo-step (Send text) fits arrives = rw (append-nil x.delivered, or-false x.closed, or-false x.ended) (on-send _ (party_in x) P own-calls text fits)
@@ -75,6 +75,7 @@ module _ (x : SoloState) (P : PartyState → Type 0) (alone : IsAloneIn (party_i
     solo-step Emit fits arrives = nothing-added _ (on-emission _ (party_in x) P own-calls alone)
     solo-step EmitAcknowledgement fits arrives = nothing-added _ (on-ack-alone _ (party_in x) P own-calls alone)
     solo-step ResendFirst fits arrives = nothing-added _ (on-resend-first _ (party_in x) P own-calls)
+    solo-step (Resend from to) fits arrives = nothing-added _ (on-resend _ (party_in x) P own-calls from to)
     solo-step (Arrive src dst bytes) fits arrives = nothing-added _ (arrives src dst bytes refl)
 
 -- any event keeps what an end keeps by itself

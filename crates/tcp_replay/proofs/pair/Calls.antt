@@ -1,16 +1,16 @@
 -- THE CALLS, TIMERS AND EMISSIONS OF A PARTY, gone through once: what each has to keep, where it isn't refused.
 use Rattle.tcp_replay.proofs.Words.{◌++◌, Aborted, ack_alone, after_abort, after_ack_alone, after_acknowledge, after_close, after_closing, after_connect}
 use Rattle.tcp_replay.proofs.Words.{after_discarding, after_due, after_emission, after_gaps, after_listen, after_orderly_end, after_receive, after_reorder}
-use Rattle.tcp_replay.proofs.Words.{after_resend_first, after_retransmit, after_send, after_time_wait, AlreadyOpen, answer_unless, append-nil, AreBytes}
-use Rattle.tcp_replay.proofs.Words.{Bool, bytes_unless, CallError, close_refusal, cond_both, count_sendable, Due, due_of, Ended, false, front_taken}
+use Rattle.tcp_replay.proofs.Words.{after_resend, after_resend_first, after_retransmit, and_parts, arith, after_send, after_time_wait, AlreadyOpen, answer_unless, append-nil, AreBytes}
+use Rattle.tcp_replay.proofs.Words.{and_from, Bool, bytes_unless, CallError, close_refusal, cond_both, count_sendable, Due, due_of, Ended, false, front_taken}
 use Rattle.tcp_replay.proofs.Words.{IfSome, inl, inr, is_closed, is_end_of_stream, is_ended, is_handshake, is_ok, is_time_wait, is_unanswered, IsAlone}
-use Rattle.tcp_replay.proofs.Words.{last_mark_end, length, List, Listen, min, needs_probe, None, not, not-false, NotEnded, Ok, open_refusal}
+use Rattle.tcp_replay.proofs.Words.{last_mark_end, length, List, Listen, lt-ltb, ltb-true, max, min, nat_lt, needs_probe, None, not, not-false, NotEnded, Ok, open_refusal}
 use Rattle.tcp_replay.proofs.Words.{opening_refusal, Option, or_right, party_after_abort, party_after_acknowledge, party_after_close, party_after_connect}
-use Rattle.tcp_replay.proofs.Words.{party_after_listen, party_after_receive, party_after_resend_first, party_after_send, party_after_timer, PartyState}
-use Rattle.tcp_replay.proofs.Words.{Peer, Pending, receive_refusal, Received, received_value, refl, refusal_if, Reorder, Retransmit, send_refusal, Sending}
+use Rattle.tcp_replay.proofs.Words.{party_after_listen, party_after_receive, party_after_resend, party_after_resend_first, party_after_send, party_after_timer, PartyState}
+use Rattle.tcp_replay.proofs.Words.{Peer, Pending, receive_refusal, Received, received_value, refl, refusal_if, Reorder, resends_between, Retransmit, send_refusal, Sending}
 use Rattle.tcp_replay.proofs.Words.{sends_again, sends_text, Some, State, state_after, state_unless, take, takes_text, text_limit, true, with_abort}
-use Rattle.tcp_replay.proofs.Words.{with_all_resent, with_bytes_received, with_closing, with_connection, with_first_resent, with_gaps_resent, with_text}
-use Rattle.tcp_replay.proofs.Words.{◌||◌, ℕ, ◌≡◌, ◌⊎◌}
+use Rattle.tcp_replay.proofs.Words.{with_all_resent, with_bytes_received, with_closing, with_connection, with_gaps_resent, with_resent, with_text}
+use Rattle.tcp_replay.proofs.Words.{◌+◌, ◌||◌, ℕ, ◌≡◌, ◌⊎◌, if◌then◌else◌}
 use Rattle.tcp_conn.specs.declared.phase.Timer.{Timer}
 use Rattle.tcp_conn.specs.declared.phase.Timer.TheVariants.{TimeWait}
 use Rattle.tcp_replay.proofs.{one_end.Dues.or-none, one_end.AloneEmissions.ack-alone-goes, one_end.AloneEmissions.due-alone, one_end.AloneEmissions.GoesOutAlone, one_end.Phases.not_ended}
@@ -68,6 +68,13 @@ pending_on_timeout s = record s.pending { syn = s.pending.syn || is_handshake s.
 abbrev pub MayGoOut : State → Due → Type 0
 MayGoOut s due = (due_of s ≡ Some due) ⊎ (ack_alone s ≡ Some due)
 
+-- where something in flight lies between two positions, something is in flight
+between-in_flight : (s : State) (from to : ℕ) → resends_between s from to ≡ true → sends_again s ≡ true
+between-in_flight s from to e =
+    let parts = and_parts (sends_text s.phase) (nat_lt (max s.sending.snd_una from) (min s.sending.snd_nxt to)) e in
+    and_from (sends_text s.phase) (nat_lt s.sending.snd_una s.sending.snd_nxt) parts.0
+    (lt-ltb s.sending.snd_una s.sending.snd_nxt (omega (arith, ltb-true (max s.sending.snd_una from) (min s.sending.snd_nxt to) parts.1)))
+
 -- WHAT EACH HAS TO KEEP of party p, a connection being opened to this peer
 pub record KeptByCalls (peer : Peer) (p : PartyState) (P : PartyState → Type 0) : Type 0 where
   pub same : P p
@@ -89,8 +96,8 @@ pub record KeptByCalls (peer : Peer) (p : PartyState) (P : PartyState → Type 0
   pub fills : (end : ℕ) → sends_text p.endpoint.phase ≡ true → last_mark_end p.endpoint.sending.queue ≡ Some end
       → P (with_end p (record p.endpoint { sending = with_gaps_resent p.endpoint.sending end }))
   pub ends : is_time_wait p.endpoint.phase ≡ true → P (with_end p (after_orderly_end p.endpoint))
-  pub resends-first : sends_again p.endpoint ≡ true
-      → P (with_end p (record p.endpoint { sending = with_first_resent p.endpoint.sending (text_limit p.endpoint) }))
+  pub resends-between : (from to : ℕ) → sends_again p.endpoint ≡ true
+      → P (with_end p (record p.endpoint { sending = with_resent p.endpoint.sending from to }))
   pub emits : (due : Due) → MayGoOut p.endpoint due → GoesOutAlone p.endpoint p.accepted p.closed due → P (with_end p (state_after p.endpoint due))
 
 module _ (peer : Peer) (p : PartyState) (P : PartyState → Type 0) (h : KeptByCalls peer p P) where
@@ -169,12 +176,24 @@ module _ (peer : Peer) (p : PartyState) (P : PartyState → Type 0) (h : KeptByC
       (on-gaps (last_mark_end p.endpoint.sending.queue) refl) (λ _. h.same)
   on-timer TimeWait = cond_both (is_time_wait p.endpoint.phase) (after_orderly_end p.endpoint) p.endpoint (λ (s : State). P (with_end p s)) h.ends (λ _. h.same)
 
+  -- A STRETCH AGAIN, where a test of what is in flight says so
+  on-stretch : (test : Bool) (from to : ℕ) → (test ≡ true → sends_again p.endpoint ≡ true)
+      → P (with_end p (record p.endpoint { sending = if test then with_resent p.endpoint.sending from to else p.endpoint.sending }))
+  on-stretch test from to flight =
+      cond_both test (with_resent p.endpoint.sending from to) p.endpoint.sending
+      (λ (d : Sending). P (with_end p (record p.endpoint { sending = d }))) (λ e. h.resends-between from to (flight e)) (λ _. h.same)
+
   -- after the call that sends the first segment again
   pub on-resend-first : P (party_after_resend_first p)
   unfolding party_after_resend_first after_resend_first
   on-resend-first =
-      cond_both (sends_again p.endpoint) (with_first_resent p.endpoint.sending (text_limit p.endpoint)) p.endpoint.sending
-      (λ (d : Sending). P (with_end p (record p.endpoint { sending = d }))) h.resends-first (λ _. h.same)
+      let una = p.endpoint.sending.snd_una in
+      on-stretch (sends_again p.endpoint) una (una + text_limit p.endpoint) (λ e. e)
+
+  -- after the call that sends what lies between two positions again
+  pub on-resend : (from to : ℕ) → P (party_after_resend p from to)
+  unfolding party_after_resend after_resend
+  on-resend from to = on-stretch (resends_between p.endpoint from to) from to (between-in_flight p.endpoint from to)
 
   -- EMIT, by what goes out
   pub on-due : (due : Option Due) → ((d : Due) → due ≡ Some d → MayGoOut p.endpoint d) → IfSome due (GoesOutAlone p.endpoint p.accepted p.closed)

@@ -8,15 +8,15 @@ use Rattle.tcp_replay.proofs.Words.{emitted_bytes, eqb-false, Err, EventContent,
 use Rattle.tcp_replay.proofs.Words.{is_expired, is_late, is_missing, IsOwn, IsSoundEnd, IsSoundPair, IsWire, IsWire_encoded, judgement, leb-false, length}
 use Rattle.tcp_replay.proofs.Words.{List, Malformed, max_life, nat_le, NoChange, None, NoSuchSegment, not, Ok, Option, option_map, option_to_list, other}
 use Rattle.tcp_replay.proofs.Words.{party_after_abort, party_after_ack_alone, party_after_acknowledge, party_after_arrival, party_after_close}
-use Rattle.tcp_replay.proofs.Words.{party_after_connect, party_after_emission, party_after_listen, party_after_receive, party_after_resend_first}
+use Rattle.tcp_replay.proofs.Words.{party_after_connect, party_after_emission, party_after_listen, party_after_receive, party_after_resend, party_after_resend_first}
 use Rattle.tcp_replay.proofs.Words.{party_after_send, party_after_timer, party_of, party_out, PartyState, PlaceOutside, position_of, rcv_position, Receive}
 use Rattle.tcp_replay.proofs.Words.{refl, refusal_of, ResendFirst, Result, rst, segment_at, segment_of, Send, sent_at, sent_by, SentSegment, Side, side_of}
 use Rattle.tcp_replay.proofs.Words.{slice_get, slice_get-get_or, slice_index, Some, State, state_after, StepError, subst, sym, Timer, true}
 use Rattle.tcp_replay.proofs.Words.{unwrap_or-slice_get, WaitingReset, world_from, world_with_effect, WorldState, xor_assoc, xor_of_8, xor_self}
 use Rattle.tcp_replay.proofs.Words.{xor_zero_l, ◌||◌, ℕ, ◌∙◌, ◌≡◌, ◌≢◌, ◌≤◌, ⊎_elim}
 use Rattle.tcp_replay.proofs.pair.Calls.{KeptByCalls, MayGoOut, on-abort, on-acknowledge, on-close, on-connect, on-due, on-listen, on-receive}
-use Rattle.tcp_replay.proofs.pair.Calls.{on-resend-first, on-send, on-timer, with_end}
-use Rattle.tcp_replay.specs.Events.{Listen}
+use Rattle.tcp_replay.proofs.pair.Calls.{on-resend, on-resend-first, on-send, on-timer, with_end}
+use Rattle.tcp_replay.specs.Events.{Listen, Resend}
 use Rattle.tcp_replay.specs.Among.{with_pending}
 use Rattle.std.proofs.lemmas.Bool.{or_parts}
 use Rattle.tcp_replay.proofs.{Lists.and-fails, Lists.one_if-most, pair.Arrivals.Comes, pair.Arrivals.fair-judgement, pair.Emissions.due-decodes}
@@ -311,7 +311,7 @@ module _ (G K : PartyState → PartyState → Type 0) (Stays : PartyState → Pa
   every-event : (life : ℕ) (p q : PartyState) (event : EventContent) → life ≤ max_life → HasBytes event → (effect_of life p q event).refusal ≡ None
       → G q p → IsSoundPair p q → K p q
       → K (effect_of life p q event).here (effect_of life p q event).there
-  unfolding effect_of party_after_connect party_after_listen party_after_send party_after_receive party_after_close party_after_abort party_after_acknowledge party_after_timer party_after_resend_first
+  unfolding effect_of party_after_connect party_after_listen party_after_send party_after_receive party_after_close party_after_abort party_after_acknowledge party_after_timer party_after_resend_first party_after_resend
   every-event life p q (Connect side) most fits e given pair k =
       on-moved p _ q pair k refl (on-connect _ p _ (sound-calls p q pair)) (on-connect _ p _ (h.calls p q pair k))
   every-event life p q (Listen side) most fits e given pair k =
@@ -332,6 +332,8 @@ module _ (G K : PartyState → PartyState → Type 0) (Stays : PartyState → Pa
   every-event life p q (EmitAcknowledgement side) most fits e given pair k = on-answering p q pair k
   every-event life p q (ResendFirst side) most fits e given pair k =
       on-moved p _ q pair k refl (on-resend-first _ p _ (sound-calls p q pair)) (on-resend-first _ p _ (h.calls p q pair k))
+  every-event life p q (Resend side from to) most fits e given pair k =
+      on-moved p _ q pair k refl (on-resend _ p _ (sound-calls p q pair) from to) (on-resend _ p _ (h.calls p q pair k) from to)
   every-event life p q (Deliver from k) most fits e given pair kept =
       h.swapped _ _ (on-delivery q p life k most e given (pair-swapped _ _ pair) (h.swapped _ _ kept))
   every-event life p q (Damage from k place value) most fits e given pair kept =

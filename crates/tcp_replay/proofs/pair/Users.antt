@@ -138,6 +138,6 @@ sound-calls p q h =
       ends = λ e.
           let synced = time_wait-synchronized s.phase e in
           kept-orderly p q s (end-synchronized s synced h.there.alone.progress).0 k;
-      resends-first = λ e. kept-alone p q s _ k refl (alone.resends-first e) (record { peer = peer; reset = reset }) refl refl low;
+      resends-between = λ from to e. kept-alone p q s _ k refl (alone.resends-between from to e) (record { peer = peer; reset = reset }) refl refl low;
       emits = λ due _ out. (goes-out p q due h out).kept;
     }

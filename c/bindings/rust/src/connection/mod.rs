@@ -1,11 +1,13 @@
 //! An end that keeps its own times.
 mod congestion;
 mod making;
+mod policy;
 mod rules;
 mod train;
 
 pub use congestion::{Congestion, CongestionWindow};
 pub use making::{connection_memory, connection_memory_with_runs};
+pub use policy::Policy;
 pub(crate) use rules::reach_of;
 pub use rules::Rules;
 
@@ -63,8 +65,9 @@ use rules::NEVER;
 /// # Ok::<(), tcpcore::Error>(())
 /// ```
 ///
-/// Where the path may be congested [`set_congestion`](Connection::set_congestion) chooses a congestion window. Left to the caller are
-/// delayed acknowledgements: who has some of the emissions wait goes by [`ArriveReport::at_once`] (RFC 5681, 4.2).
+/// Where the path may be congested [`set_congestion`](Connection::set_congestion) chooses a congestion window, and
+/// [`set_policy`](Connection::set_policy) when acknowledgements and small segments wait. Who has emissions wait by a rule of his own goes by
+/// [`ArriveReport::at_once`] (RFC 5681, 4.2).
 pub struct Connection<'m> {
     /// The C struct, at the front of the block, where it stays.
     raw: NonNull<sys::Connection>,
@@ -237,6 +240,13 @@ impl Connection<'_> {
     /// acknowledged.
     pub fn resend_first(&mut self, now: Time) -> bool {
         unsafe { sys::tcpcore_connection_resend_first(self.raw.as_ptr(), now.as_micros()) == 0 }
+    }
+
+    /// Says that what lies from one position on and before another must be sent again at once, and nothing else of what is in flight, for a
+    /// caller that knows which stretch is lost (RFC 6675, 5; RFC 8985, 6.2). Positions are those of a [`Segment`]. Answers whether anything in
+    /// flight lies there.
+    pub fn resend(&mut self, now: Time, from: u64, to: u64) -> bool {
+        unsafe { sys::tcpcore_connection_resend(self.raw.as_ptr(), now.as_micros(), from, to) == 0 }
     }
 
     /// The peer's address and port, once they are known.

@@ -156,6 +156,33 @@ fn a_user_timeout_is_set() {
     assert_eq!(end.status().ending, Ending::Aborted);
 }
 
+/// RFC 9293, 3.8.6.3 and 3.7.4: an acknowledgement of one segment waits 40 ms, and a second small segment for the first one's acknowledgement.
+#[test]
+fn a_policy_is_chosen() {
+    let now = seconds(10);
+    let mut ends = [config(0), config(1)].map(|it| Connection::listen(&it, &Rules::new(), now).unwrap());
+    ends[0] = Connection::connect(&config(0), &Rules::new(), (ADDRS[1], 2), now).unwrap();
+    for end in &mut ends {
+        end.set_policy(Policy::standard());
+    }
+    exchange(&mut ends, now);
+    assert_eq!((ends[0].send(now, b"a"), ends[0].send(now, b"b")), (Ok(1), Ok(1)));
+    let first = emitted(&mut ends[0], now);
+    assert_eq!(first.len(), 1);
+    assert_eq!((ends[0].send(now, b"c"), emitted(&mut ends[0], now).len()), (Ok(1), 0));
+    for bytes in first {
+        ends[1].handle_segment(now, ADDRS[0], ADDRS[1], &bytes).unwrap();
+    }
+    let late = now + Duration::from_millis(40);
+    assert_eq!((emitted(&mut ends[1], now).len(), ends[1].poll_timeout()), (0, Some(late)));
+    let answer = emitted(&mut ends[1], late);
+    assert_eq!(answer.len(), 1);
+    ends[0].handle_segment(late, ADDRS[1], ADDRS[0], &answer[0]).unwrap();
+    assert_eq!(emitted(&mut ends[0], late).len(), 1);
+    ends[1].set_policy(Policy::immediate());
+    assert_eq!(ends[1].poll_timeout(), None);
+}
+
 /// RFC 6928, 2: of segments of 1,000 bytes ten go out at first, of 536 before both SYNs have agreed on them (RFC 9293, 3.7.1). RFC 5681, 3.1,
 /// and RFC 9438, 4.8: after a timeout ssthresh is half of the 4,000 bytes in flight, and 0.7 of them, and the window a segment.
 #[test]
@@ -197,6 +224,20 @@ fn the_first_goes_out_again() {
         assert_eq!(emitted(end, later), sent[..1]);
         assert_eq!(end.poll_timeout(), Some(now + Duration::from_millis(1500)));
     }
+}
+
+/// RFC 6675, 5: the second of three segments goes out again, and nothing else.
+#[test]
+fn a_stretch_goes_out_again() {
+    let now = seconds(10);
+    let mut ends = established(now);
+    let end = &mut ends[0];
+    assert_eq!((end.resend(now, 0, 9999), end.send(now, &[7; 3000])), (false, Ok(3000)));
+    let sent = emitted(end, now);
+    let full = sent[0].len() as u64 - 20;
+    assert!(end.resend(now, 1 + full, 1 + 2 * full));
+    assert_eq!(emitted(end, now), sent[1..2]);
+    assert!(!end.resend(now, 3001, 9999));
 }
 
 /// RFC 9293, 3.10.6: known from the opening, or from the SYN that came, on, also behind the end.
@@ -495,6 +536,8 @@ fn any_calls_at_any_times() {
                 }
                 10 if any.below(2) == 0 => ends[side].acknowledge(now),
                 10 if any.below(2) == 0 => drop(ends[side].resend_first(now)),
+                10 if any.below(2) == 0 => drop(ends[side].resend(now, any.below(2000), any.below(4000))),
+                10 if any.below(2) == 0 => ends[side].set_policy([Policy::immediate(), Policy::standard()][any.below(2) as usize]),
                 10 => {
                     let rule = [Congestion::None, Congestion::Reno, Congestion::Cubic][any.below(3) as usize];
                     assert!(!ends[side].set_congestion(rule) || ends[side].congestion().congestion == rule);

@@ -1,6 +1,6 @@
 use Rattle.std.proofs.Common.{◌≡◌, Some, false}
 use Rattle.tcp_c.specs.Connections.{arrived_by}
-use Rattle.tcp_c.proofs.Connected.{moved_by, of, with_flow}
+use Rattle.tcp_c.proofs.Connected.{moved_by, of, with_connection}
 use Rattle.tcp_c.proofs.connection.segments.tcp_c_connection_arrive.Goals as goal
 
 pub returns-clause-state : goal.returns-clause-state
@@ -9,4 +9,4 @@ returns-clause-state c =
     let h : c.args.handle.now.held.end ≡ Some d = (let t = c.in-Some.ensures.taken in let v = c.deref_mut.ensures.value in cc) in
     let n : c.put.new.self.held.end ≡ Some (of c.arrive.new.self) = (let p = c.put.ensures in let w = c.deref_mut.ensures.writes_back in cc) in
     moved_by (arrived_by false c.args.now c.args.src.now.byte c.args.dst.now.byte c.args.bytes.now) c.args.handle.now.held.end c.put.new.self.held.end
-    d (of c.arrive.new.self) h n (with_flow c.arrive.new.self _ c.arrive.ensures.state)
+    d (of c.arrive.new.self) h n (with_connection c.arrive.new.self _ c.arrive.ensures.state)

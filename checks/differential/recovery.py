@@ -1,0 +1,207 @@
+"""Losses by time written a second time, plainly, from RFC 8985, 5 to 7: `python3 checks/differential/recovery.py --check N [SEED]` makes N
+random calls of crates/test_recovery, runs them through the built program and compares. The rows that the program's stdin and stdout have
+are worked out by hand.
+"""
+
+import pathlib
+import random
+import sys
+from dataclasses import dataclass, replace
+
+import times
+
+CRATE = pathlib.Path(__file__).resolve().parents[2] / "crates" / "test_recovery"
+MOST = 64
+
+
+@dataclass
+class Stretch:
+    """RFC 8985, 5.2: what it keeps of a segment, of several that were sent at nearly one time."""
+
+    start: int
+    end: int
+    first: int
+    last: int
+    again: bool
+
+
+class Rack:
+    """RFC 8985, 6.2."""
+
+    def __init__(self):
+        self.stretches = []
+        self.nxt = 0
+        self.xmit_ts = self.end_seq = self.rtt = self.fack = 0
+        self.reordering_seen = False
+        self.mult, self.persist, self.round = 1, 16, 0
+
+    def parts(self, start, end):
+        cut = (replace(s, start=max(s.start, start), end=min(s.end, end)) for s in self.stretches)
+        return [s for s in cut if s.start < s.end]
+
+    def fit(self):
+        """The two neighbours nearest in time are joined, until there are few enough."""
+        while len(self.stretches) > MOST:
+            pairs = list(zip(self.stretches, self.stretches[1:]))
+            at = min(range(len(pairs)), key=lambda i: max(s.last for s in pairs[i]) - min(s.first for s in pairs[i]))
+            a, b = pairs[at]
+            first = min(a.first, b.first) if a.end == b.start else 0
+            self.stretches[at : at + 2] = [Stretch(a.start, b.end, first, max(a.last, b.last), a.again or b.again)]
+
+    def sent(self, start, count, now, min_rtt):
+        if count == 0:
+            return
+        end = start + count
+        last = self.stretches[-1] if self.stretches else None
+        if start < self.nxt:
+            above = max(end, self.nxt)
+            self.stretches = self.parts(0, start) + [Stretch(start, end, now, now, True)] + self.parts(end, above)
+        elif last and last.end == start and not last.again and now - last.first <= min_rtt // 64:
+            last.end, last.first, last.last = end, min(last.first, now), max(last.last, now)
+        else:
+            self.stretches.append(Stretch(start, end, now, now, False))
+        self.nxt = max(self.nxt, end)
+        self.fit()
+
+    def received(self, start, end, now, min_rtt):
+        end = min(end, self.nxt)
+        for part in self.parts(start, end):
+            self.delivered(part, now, min_rtt)
+        self.settled(start, end)
+
+    def delivered(self, part, now, min_rtt):
+        if part.again and now - part.last < min_rtt:
+            if self.round <= part.start:
+                self.mult, self.persist, self.round = min(MOST, self.mult + 1), 16, self.nxt
+            return
+        if (self.xmit_ts, self.end_seq) < (part.first, part.end):
+            self.xmit_ts, self.end_seq, self.rtt = part.first, part.end, now - part.first
+        if part.end < self.fack and not part.again:
+            self.reordering_seen = True
+        self.fack = max(self.fack, part.end)
+
+    def settled(self, start, end):
+        end = min(end, self.nxt)
+        if start < end:
+            self.stretches = self.parts(0, start) + self.parts(end, self.nxt)
+            self.fit()
+
+    def recovered(self):
+        self.persist = max(0, self.persist - 1)
+        if self.persist == 0:
+            self.mult = 1
+
+    def window(self, srtt, min_rtt, certain):
+        return 0 if certain and not self.reordering_seen else min(srtt, self.mult * min_rtt // 4)
+
+    def losses(self, window):
+        """Each stretch that is lost, and when."""
+        for s in self.stretches:
+            if (s.last, s.end) < (self.xmit_ts, self.end_seq) or (not s.again and s.end < self.fack):
+                yield s, s.last + self.rtt + window
+
+    def lost(self, window, now):
+        return next((f"{s.start} {s.end}" for s, at in self.losses(window) if at <= now), "-")
+
+    def deadline(self, window):
+        return str(min((at for _, at in self.losses(window)), default="-"))
+
+    def shown(self):
+        told = f"{self.xmit_ts} {self.end_seq} {self.rtt} {self.fack} {self.mult}"
+        return told + (" reordered" if self.reordering_seen else "")
+
+
+class Probe:
+    """RFC 8985, 7."""
+
+    def __init__(self):
+        self.at = self.end_seq = None
+        self.is_retrans = False
+
+    def start(self, now, srtt, one, rto_at):
+        pto = 2 * srtt + 200_000 * one if srtt else 1_000_000
+        self.at = min(now + pto, rto_at) if self.end_seq is None else None
+
+    def stop(self):
+        self.at = None
+
+    def probed(self, nxt, again):
+        self.at, self.end_seq, self.is_retrans = None, nxt, bool(again)
+
+    def acked(self, una, duplicate):
+        if self.end_seq is None or una < self.end_seq:
+            return False
+        is_repaired = self.is_retrans and self.end_seq < una
+        if is_repaired or not self.is_retrans or duplicate:
+            self.end_seq = None
+        return is_repaired
+
+
+def answers(lines):
+    rack, probe = Rack(), Probe()
+    for line in lines:
+        word, *numbers = line.split()
+        numbers = [int(number) for number in numbers]
+        if word in ("window", "lost", "deadline"):
+            yield str(getattr(rack, word)(*numbers))
+        elif word in ("probe", "start", "stop", "probed", "acked"):
+            probe = Probe() if word == "probe" else probe
+            is_repaired = word != "probe" and getattr(probe, word)(*numbers)
+            yield ("-" if probe.at is None else str(probe.at)) + (" repaired" if is_repaired else "")
+        else:
+            rack = Rack() if word == "rack" else rack
+            if word != "rack":
+                getattr(rack, word)(*numbers)
+            yield rack.shown()
+
+
+def random_lines(count, rng):
+    """Calls as a sender makes them, and blocks of any kind; time doesn't go back."""
+    now = nxt = 0
+    for _ in range(count):
+        now += rng.choice((0, 0, 10, 300, 1_500, 5_000, 20_000))
+        min_rtt, window = rng.choice((0, 20_000, 100_000)), rng.choice((0, 1_000, 25_000))
+        any_start = rng.randint(0, nxt + 3)
+        kind = rng.choices(range(9), (40, 15, 14, 6, 3, 2, 20, 3, 12))[0]
+        if kind == 0 or (kind == 1 and nxt == 0):
+            length = rng.choice((0, 1, 10, 100))
+            yield f"sent {nxt} {length} {now} {min_rtt}"
+            nxt += length
+        elif kind == 1:
+            start, length = rng.randrange(nxt), rng.randint(1, 60)
+            yield f"sent {start} {length} {now} {min_rtt}"
+            nxt = max(nxt, start + length)
+        elif kind == 2:
+            yield f"received {any_start} {any_start + rng.randint(0, 80)} {now} {min_rtt}"
+        elif kind == 3:
+            yield f"received 0 {rng.randint(0, max(1, nxt - 500))} {now} {min_rtt}"
+        elif kind == 4:
+            yield f"settled {any_start} {any_start + rng.randint(0, 20)}"
+        elif kind == 5:
+            yield rng.choice(("recovered", f"window {rng.choice((50_000, 200_000))} {min_rtt} {rng.randint(0, 1)}"))
+        elif kind == 6:
+            yield rng.choice((f"lost {window} {now}", f"deadline {window}"))
+        elif kind == 7 and rng.random() < 0.05:
+            nxt = 0
+            yield "rack"
+        else:
+            una = rng.randint(0, 4)
+            yield rng.choice(
+                (
+                    f"start {now} {rng.choice((0, 40_000))} {rng.randint(0, 1)} {now + rng.choice((50_000, 2_000_000))}",
+                    "stop",
+                    f"probed {una} {rng.randint(0, 1)}",
+                    f"acked {una} {rng.randint(0, 1)}",
+                )
+            )
+
+
+def check(count, seed):
+    lines = list(random_lines(count, random.Random(seed)))
+    times.compared(CRATE, lines, list(answers(lines)), seed, "losses by time")
+
+
+if __name__ == "__main__":
+    if sys.argv[1:2] != ["--check"]:
+        sys.exit(__doc__)
+    check(int(sys.argv[2]), int(sys.argv[3]) if len(sys.argv) > 3 else 1)

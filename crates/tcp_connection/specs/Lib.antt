@@ -1,0 +1,11 @@
+pub mod Insight
+pub mod Policy
+pub mod Segment
+pub mod Connection
+pub mod Windows
+pub mod Going
+pub mod Trains
+pub mod Deadlines
+pub mod Using
+pub mod Wired
+pub mod Calls

@@ -1,0 +1,42 @@
+-- What a connection knows of an end of a TCP connection: each function is one of tcp_conn's.
+use Rattle.std.specs.Prelude.{ℕ, ◌-◌, ◌*◌, ◌^◌, Option, Some, None, min, option_map}
+use Rattle.tcp_halves.specs.Config.{max_shift}
+use Rattle.tcp_halves.specs.Receiver.{rcv_position}
+use Rattle.tcp_conn.specs.declared.emit.transmit.Kind.TheVariants as kinds
+use Rattle.tcp_conn.specs.declared.emit.transmit.Kind as conn
+use Rattle.tcp_conn.specs.declared.status.Negotiated.{Negotiated}
+use Rattle.tcp_conn.specs.State.{State}
+use Rattle.tcp_conn.specs.Status.{in_flight_of, negotiated_of, queued_of}
+use Rattle.tcp_conn.specs.Transmission.{transmit_due}
+use Rattle.tcp_conn.specs.Windows.{receive_window, window_field}
+use Rattle.tcp_end.specs.declared.wired.Wired.{Wired}
+use Rattle.tcp_connection.specs.declared.deferring.Kind.{Kind}
+use Rattle.tcp_connection.specs.declared.deferring.Kind.TheVariants.{Acknowledgement, NewText, Other}
+use Rattle.tcp_connection.specs.Insight.{Insight}
+
+abbrev pub kind_of : conn.Kind → Kind
+kind_of kinds.Acknowledgement = Acknowledgement
+kind_of kinds.NewText = NewText
+kind_of other = Other
+
+-- what was accepted and isn't in flight
+abbrev pub unsent_of : State → ℕ
+unsent_of s = queued_of s - in_flight_of s
+
+-- RCV.WND, as the window field of a segment has it, and the peer reads it, by a shift of at most 14 (RFC 7323, 2.3)
+abbrev pub shift_of : Option Negotiated → ℕ
+shift_of None = 0
+shift_of (Some agreed) = min max_shift agreed.own_shift
+
+abbrev pub window_of : State → ℕ
+window_of s = window_field (shift_of (negotiated_of s)) (receive_window s) * 2 ^ shift_of (negotiated_of s)
+
+abbrev pub insight : {A : Type 0} → Insight (Wired A)
+insight = record {
+  kind = λ w. option_map (λ t. kind_of t.kind) (transmit_due w.end);
+  rcv_nxt = λ w. rcv_position w.end.receiving;
+  snd_wnd = λ w. w.end.sending.snd_wnd;
+  unsent = λ w. unsent_of w.end;
+  window = λ w. window_of w.end;
+  capacity = λ w. w.end.config.recv_capacity;
+}

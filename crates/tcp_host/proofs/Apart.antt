@@ -1,0 +1,57 @@
+-- Sockets and pairs of them are equal in their order where they are one.
+use Rattle.std.proofs.Common.{◌≡◌, ℕ, List, [], ◌∷◌, Ordering, refl, sym, ap, ◌∙◌, arith}
+use Rattle.std.proofs.lemmas.Bool.Decides.{nat_tests}
+use Rattle.std.proofs.lemmas.Cmp.{nat_cmp_total, nat_list_cmp_total, tied_itself}
+use Rattle.std.specs.Ordering.{nat_cmp, ordering_then}
+use Rattle.std.specs.Cmp.Lexicographic.{slice_cmp}
+use Rattle.std.specs.declared.cmp.Ordering.TheVariants.{Less, Equal, Greater}
+use Rattle.tcp_host.specs.declared.pair.Pair.{Pair}
+use Rattle.tcp_host.specs.declared.pair.Socket.{Socket}
+
+both : (a b : Ordering) → ordering_then a b ≡ Equal → (a ≡ Equal) × (b ≡ Equal)
+both Less b e = absurd (cc (e))
+both Equal b e = (refl, e)
+both Greater b e = absurd (cc (e))
+
+same-number : (x y : ℕ) → nat_cmp x y ≡ Equal → x ≡ y
+same-number x y e = grind (arith, nat_tests)
+
+same-list : (xs ys : List ℕ) → slice_cmp nat_cmp xs ys ≡ Equal → xs ≡ ys
+same-list [] [] e = refl
+same-list [] (y ∷ ys) e = absurd (cc (e))
+same-list (x ∷ xs) [] e = absurd (cc (e))
+same-list (x ∷ xs) (y ∷ ys) e =
+    let parts = both (nat_cmp x y) (slice_cmp nat_cmp xs ys) e in
+    cc (same-number x y parts.0, same-list xs ys parts.1)
+
+abbrev pub socket_cmp : Socket → Socket → Ordering
+socket_cmp a b = ordering_then (slice_cmp nat_cmp a.addr b.addr) (nat_cmp a.port b.port)
+
+abbrev pub pair_cmp : Pair → Pair → Ordering
+pair_cmp a b = ordering_then (socket_cmp a.local b.local) (socket_cmp a.peer b.peer)
+
+socket : List ℕ → ℕ → Socket
+socket addr port = record { addr = addr; port = port }
+
+pair : Socket → Socket → Pair
+pair local peer = record { local = local; peer = peer }
+
+pub same_socket : (a b : Socket) → socket_cmp a b ≡ Equal → a ≡ b
+unfolding socket
+same_socket a b e =
+    let parts = both (slice_cmp nat_cmp a.addr b.addr) (nat_cmp a.port b.port) e in
+    ap (λ addr. socket addr a.port) (same-list a.addr b.addr parts.0) ∙ ap (socket b.addr) (same-number a.port b.port parts.1)
+
+pub same_pair : (a b : Pair) → pair_cmp a b ≡ Equal → a ≡ b
+unfolding pair
+same_pair a b e =
+    let parts = both (socket_cmp a.local b.local) (socket_cmp a.peer b.peer) e in
+    ap (λ local. pair local a.peer) (same_socket a.local b.local parts.0) ∙ ap (pair b.local) (same_socket a.peer b.peer parts.1)
+
+pub socket_itself : (a b : Socket) → a ≡ b → socket_cmp a b ≡ Equal
+socket_itself a b e =
+    ap (socket_cmp a) (sym e) ∙ ap (λ o. ordering_then o (nat_cmp a.port a.port)) (tied_itself nat_list_cmp_total a.addr) ∙ tied_itself nat_cmp_total a.port
+
+pub pair_itself : (a b : Pair) → a ≡ b → pair_cmp a b ≡ Equal
+pair_itself a b e =
+    ap (pair_cmp a) (sym e) ∙ ap (λ o. ordering_then o (socket_cmp a.peer a.peer)) (socket_itself a.local a.local refl) ∙ socket_itself a.peer a.peer refl

@@ -1,0 +1,36 @@
+use Rattle.std.proofs.Common.{◌≡◌, ◌<◌, ℕ, length, set, ap, ◌∙◌}
+use Rattle.tcp_driver.specs.Driver.{Driving}
+use Rattle.tcp_driver.specs.Times.{next_expiry}
+use Rattle.tcp_table.specs.declared.held.Held.{Held}
+use Rattle.tcp_table.specs.Table.{held_at}
+use Rattle.tcp_host.proofs.Timed.{from_ok, put_back, timed_as_before, timed_opened}
+use Rattle.tcp_host.specs.declared.pair.Pair.{Pair}
+use Rattle.tcp_host.proofs.host.Host.open.Goals as goal
+
+pub invariant_of-self-then-is_err : goal.invariant_of-self-then-is_err
+invariant_of-self-then-is_err g c =
+    let e = c.make_room.ensures in
+    timed_as_before c.self.inside.ends c.self.inside.deadlines c.self.inside.turns.room c.self.invariant c.remove.new.self
+    c.make_room.new.deadlines c.make_room.new.turns.room
+    (put_back c.self.inside.ends c.insert.new.self c.remove.new.self c.in-Ok.id.slot _ c.in-Ok.ensures.changes c.in-Ok.ensures.was_free c.remove.ensures.changes)
+    e.due e.longer e.roomier
+
+pub returns-then-is_err-clause-err : goal.returns-then-is_err-clause-err
+returns-then-is_err-clause-err g c at =
+    put_back c.self.inside.ends c.insert.new.self c.remove.new.self c.in-Ok.id.slot _ c.in-Ok.ensures.changes c.in-Ok.ensures.was_free c.remove.ensures.changes at
+    ∙ ap (λ h. held_at h.ends at) c.self.view_is
+
+pub invariant_of-self-2 : goal.invariant_of-self-2
+invariant_of-self-2 g c =
+    let e = c.make_room.ensures in
+    let slot = c.in-Ok.id.slot in
+    let after = c.make_room.new.deadlines in
+    let more : ℕ = c.make_room.new.turns.room in
+    let held : Held Pair (Driving g.row.C.Denot) = record { key = c.args.pair; number = c.in-Ok.id.number; value = c.args.end } in
+    let timed : slot < length after = from_ok c.make_room.result (slot < length after) c.if-is_err.ensures.negation e.timed in
+    let roomy : slot < more = from_ok c.make_room.result (slot < more) c.if-is_err.ensures.negation e.roomy in
+    let is = timed_opened c.self.inside.ends c.self.inside.deadlines c.self.inside.turns.room c.self.invariant c.insert.new.self after more slot held
+    c.in-Ok.ensures.changes e.due e.longer e.roomier timed roomy in
+    let due : c.set.new.self ≡ set after slot (next_expiry c.args.end.times) = c.set.ensures ∙ ap (set after slot) c.poll_at-due.ensures.value in
+    let room : c.add.new.self.room ≡ more = ap (λ t. t.room) c.add.ensures in
+    rw (due, room) is

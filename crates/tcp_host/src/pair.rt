@@ -1,0 +1,40 @@
+//! The four values of a connection.
+ghost use Rattle.std.specs.Prelude.{◌≡◌};
+ghost use Rattle.tcp_host.specs.Pair.{pair_of};
+
+/// A socket: an IPv4 address and a port (RFC 9293, 3.3.1).
+#[derive(Clone, Copy, Debug, PartialEq, Eq, PartialOrd, Ord)]
+pub struct Socket {
+    /// The address.
+    pub addr: [u8; 4],
+    /// The port.
+    pub port: u16,
+}
+
+/// The pair of sockets that identifies a connection (RFC 9293, 3.3.1).
+#[derive(Clone, Copy, Debug, PartialEq, Eq, PartialOrd, Ord)]
+pub struct Pair {
+    /// This end's.
+    pub local: Socket,
+    /// The peer's.
+    pub peer: Socket,
+}
+
+/// The pair that a segment from `src` to `dst` is for, if it has ports (RFC 9293, 3.1).
+#[must_use]
+pub fn pair_of(src: [u8; 4], dst: [u8; 4], bytes: &[u8]) -> Option<Pair>
+    ensures { result ≡ pair_of src dst bytes.now }
+{
+    let [first, second, third, fourth, ..] = bytes else {
+        return None;
+    };
+    let peer = Socket {
+        addr: src,
+        port: u16::from(*first) * 256 + u16::from(*second),
+    };
+    let local = Socket {
+        addr: dst,
+        port: u16::from(*third) * 256 + u16::from(*fourth),
+    };
+    Some(Pair { local, peer })
+}

@@ -1,0 +1,14 @@
+mod Covering
+mod Deadlines
+mod Firsts
+mod Flights
+mod Having
+mod Jitter
+mod Joining
+mod Lists
+mod Lows
+mod Order
+mod Orderly
+mod Overdue
+mod Probes
+mod Told

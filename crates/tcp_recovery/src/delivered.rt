@@ -1,0 +1,144 @@
+ghost use Rattle.std.specs.Prelude.{ℕ, ◌≡◌, ◌≤◌};
+ghost use Rattle.tcp_recovery.specs.Delivered.{after_deliveries, after_delivery, after_recovery, after_spurious, new_delivered, reo_wnd_of, with_latest};
+ghost use Rattle.tcp_recovery.specs.Stretches.{AreInOrder, between};
+
+use crate::stretch::Stretch;
+
+/// No reordering window is longer than so many quarters of a round trip.
+const MAX_MULT: u64 = 64;
+
+/// What deliveries have told (RFC 8985, 5.3). Positions and times are those of [`Rack`](crate::Rack).
+#[derive(Clone, Copy, Debug, PartialEq, Eq)]
+pub struct Delivered {
+    /// RACK.xmit_ts: something was delivered that was sent then or later. 0 before anything was.
+    pub xmit_ts: u64,
+    /// RACK.end_seq: the position after it.
+    pub end_seq: u64,
+    /// RACK.rtt: so long it took at most, in microseconds.
+    pub rtt: u64,
+    /// RACK.fack: the highest position before which anything was delivered.
+    pub fack: u64,
+    /// RACK.reordering_seen: what was never sent again was delivered behind something that was sent later.
+    pub reordering_seen: bool,
+    /// RACK.reo_wnd_mult: how many quarters of the least round trip the window has, 64 at most.
+    pub reo_wnd_mult: u64,
+    /// RACK.reo_wnd_persist: for how many recoveries it keeps so many.
+    pub reo_wnd_persist: u64,
+    /// In place of RACK.dsack_round: a needless resend of what is before this position is known already.
+    pub round: u64,
+}
+
+impl Delivered {
+    /// Nothing was delivered yet.
+    pub(crate) fn new() -> Delivered
+        ensures { result ≡ new_delivered }
+    {
+        Delivered {
+            xmit_ts: 0,
+            end_seq: 0,
+            rtt: 0,
+            fack: 0,
+            reordering_seen: false,
+            reo_wnd_mult: 1,
+            reo_wnd_persist: 16,
+            round: 0,
+        }
+    }
+
+    /// A stretch, or a part of one, was delivered.
+    pub(crate) fn after(self, part: Stretch, now: u64, min_rtt: u64, next: u64) -> Delivered
+        ensures { result ≡ after_delivery self part now min_rtt next }
+    {
+        if part.is_again && now.saturating_sub(part.last) < min_rtt {
+            return self.after_spurious(part.start, next);
+        }
+        let seen = !part.is_again && part.end < self.fack;
+        let told = self.with_latest(part, now);
+        Delivered {
+            fack: self.fack.max(part.end),
+            reordering_seen: self.reordering_seen || seen,
+            ..told
+        }
+    }
+
+    /// What was sent again had been delivered before (RFC 8985, 6.2, step 4).
+    fn after_spurious(self, start: u64, next: u64) -> Delivered
+        ensures { result ≡ after_spurious self start next }
+    {
+        if start < self.round {
+            return self;
+        }
+        Delivered {
+            reo_wnd_mult: MAX_MULT.min(self.reo_wnd_mult.saturating_add(1)),
+            reo_wnd_persist: 16,
+            round: next,
+            ..self
+        }
+    }
+
+    /// The part is what was sent last of all that was delivered (RFC 8985, 6.2, step 2).
+    fn with_latest(self, part: Stretch, now: u64) -> Delivered
+        ensures { result ≡ with_latest self part now }
+    {
+        if part.first > self.xmit_ts || (part.first == self.xmit_ts && part.end > self.end_seq) {
+            return Delivered {
+                xmit_ts: part.first,
+                end_seq: part.end,
+                rtt: now.saturating_sub(part.first),
+                ..self
+            };
+        }
+        self
+    }
+
+    /// What of these stretches is from one position on and before another was delivered.
+    pub(crate) fn after_all(
+        self,
+        all: &[Stretch],
+        piece: (u64, u64),
+        now: u64,
+        min_rtt: u64,
+        next: u64,
+    ) -> Delivered
+        requires { (to : ℕ) × AreInOrder 0 to all.now }
+        ensures { result ≡ after_deliveries self (between piece.0 piece.1 all.now) now min_rtt next }
+    {
+        let (start, end) = piece;
+        let mut told = self;
+        for s in all {
+            if end <= s.start {
+                return told;
+            }
+            if start < s.end.min(end) {
+                told = told.after(s.before(end).behind(start), now, min_rtt, next);
+            }
+        }
+        told
+    }
+
+    /// A recovery is over.
+    pub(crate) fn after_recovery(self) -> Delivered
+        ensures { result ≡ after_recovery self }
+    {
+        Delivered {
+            reo_wnd_persist: self.reo_wnd_persist.saturating_sub(1),
+            reo_wnd_mult: if self.reo_wnd_persist <= 1 {
+                1
+            } else {
+                self.reo_wnd_mult
+            },
+            ..self
+        }
+    }
+
+    /// RACK.reo_wnd (RFC 8985, 6.2, step 4).
+    pub(crate) fn reo_wnd(&self, srtt: u64, min_rtt: u64, is_certain: bool) -> u64
+        ensures most { result ≤ srtt }
+        ensures value { result ≡ reo_wnd_of self.now srtt min_rtt is_certain }
+    {
+        if !self.reordering_seen && is_certain {
+            return 0;
+        }
+        srtt.min(self.reo_wnd_mult.saturating_mul(min_rtt) / 4)
+    }
+}
