@@ -9,18 +9,21 @@ library := $(prebuilt)/x86-64-v2/libtcp_c.a
 once := checks/attempt.sh
 timed := checks/attempt.sh --again
 
+tcpkit := $(addprefix tcpkit_,machine_code sanitized translated emulated)
+wrong := wrong_bodies wrong_bodies_for_c
 builds := prebuilt module portable_file program_files
-steady := debian portable machine tcpcore companions dist rust bindings bench tcpkit aarch64 lwip segments \
+steady := debian portable machine tcpcore companions dist rust bindings bench $(tcpkit) aarch64 lwip segments \
     statuses memory readme paste lint lib_test gate_test programs differential
 clocked := examples live usernet capture tcptest
 beside := release judge page site
 
-.PHONY: all wrong_bodies $(builds) $(steady) $(clocked) $(beside)
-all: wrong_bodies $(builds) $(steady) $(clocked) $(beside)
+.PHONY: all $(wrong) $(builds) $(steady) $(clocked) $(beside)
+all: $(wrong) $(builds) $(steady) $(clocked) $(beside)
 
-# Beside all others, on what they leave of the processors, since nothing waits for it: but behind the builds, which prove the libraries for C
-# that it goes on with.
-wrong_bodies: | $(builds) ; nice -n 19 python3 checks/gate/wrong_bodies.py
+# Beside all others, on what they leave of the processors, since nothing waits for them. Those of the libraries for C go on with what the
+# builds have proved of these.
+wrong_bodies: ; nice -n 19 python3 checks/gate/wrong_bodies.py --rust
+wrong_bodies_for_c: | $(builds) ; nice -n 19 python3 checks/gate/wrong_bodies.py --c
 
 # The libraries and the module are built over what the gate has proved, one after another, since each takes all processors.
 prebuilt: ; c/dist/prebuilt.sh
@@ -51,7 +54,7 @@ portable: portable_file ; $(once) c/portable/test.sh --short "$(library)"
 machine: portable_file ; $(once) c/machine/test.sh --short
 bindings: portable_file rust paste ; $(once) c/bindings/test.sh "$(library)"
 dist: portable_file ; $(once) c/dist/test.sh
-tcpkit: program_files ; $(once) apps/tcpkit/test.sh
+$(tcpkit): program_files ; $(once) apps/tcpkit/test.sh --only $(@:tcpkit_%=%)
 
 $(clocked) $(beside): | $(builds) $(steady)
 examples: ; $(timed) checks/examples/test.sh

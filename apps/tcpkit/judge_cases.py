@@ -1,9 +1,9 @@
-"""Runs a tcpjudge on stored cases and random logs: python3 judge_cases.py PROGRAM [PROVED]. The words and files of
+"""Runs a tcpjudge on stored cases and random logs: python3 judge_cases.py FIRST COUNT PROGRAM [PROVED]. The words and files of
 checks/program/judge_statuses and capture_statuses have their statuses, the log of crates/tcpjudge its report, and the captures of
 checks/judge/captures.py theirs, as a file and as the standard input; and on random logs, whole and with a digit of what went changed, the
 program says what the second program of checks/differential does. With PROVED, the program that crates/tcpjudge is built to, both write and
-answer the same to the letter on all these captures, those of checks/judge/data, spoiled ones and random words. Ends with 1 where the
-program writes or answers anything else.
+answer the same to the letter on all these captures, those of checks/judge/data, spoiled ones and random words. So many as COUNT are
+spoiled and random, a quarter of them logs, from the number FIRST on. Ends with 1 where the program writes or answers anything else.
 """
 
 import pathlib
@@ -22,7 +22,8 @@ from conversation import end_log  # noqa: E402
 
 STATUSES = TOP / "checks/program"
 DATA = TOP / "checks/judge/data"
-PROGRAM, *PROVED = (str(pathlib.Path(word).resolve()) for word in sys.argv[1:])
+NUMBERS = range(int(sys.argv[1]), int(sys.argv[1]) + int(sys.argv[2]))
+PROGRAM, *PROVED = (str(pathlib.Path(word).resolve()) for word in sys.argv[3:])
 # Words that a random command has, of both forms, right and wrong.
 WORDS = ["--at", "--at=10.0.0.2", "--at=", "10.0.0.2", "::1", "10.0.0", "", "-", "-x", "--", "--json", "--json=yes", "--complete", "--complete=", "--color",
          "--color=never", "--color=always", "always", "never", "auto", "--colour", "--help", "-h", "-hx", "--help=1", "--js", "{}", "{}", "{}", "no such file"]
@@ -84,7 +85,7 @@ def compare(expect):
         for path in sorted(DATA.glob("*.pcap")):
             for words in ([], ["--json"], ["--color=always"], ["--at", "10.7.0.1"], ["--at", "10.7.0.2", "--json"]):
                 both(path.name, path.read_bytes(), *words, "{}")
-        for number in range(600):
+        for number in NUMBERS:
             rng = random.Random(number)
             both(f"spoiled {number}", spoiled(rng), *rng.choice(([], ["--json"], ["--at", "10.0.0.2"])), "{}")
             words = [rng.choice(WORDS) for _ in range(rng.choice((1, 2, 2, 3, 3, 4)))]
@@ -123,7 +124,7 @@ def main():
     judge_captures(expect)
     if PROVED:
         compare(expect)
-    for number in range(150):
+    for number in NUMBERS[::4]:
         rng = random.Random(number)
         log = end_log(rng)
         for lines in (log, broken(rng, log)):
@@ -135,7 +136,7 @@ def main():
     for line in wrong:
         print(line)
     print(f"judge_cases: {count} looked at, {len(wrong)} wrong")
-    sys.exit(bool(wrong) or count < 300)
+    sys.exit(bool(wrong) or count < 150 + len(NUMBERS) // 2)
 
 
 if __name__ == "__main__":

@@ -1,7 +1,8 @@
 #!/usr/bin/env python3
-"""Tries the wrong bodies of crates/NAME/wrong/, many at once: checks/gate/wrong_bodies.py [--kept] [NAME..] has the prover check, of each
-crate or of those named, the functions that have one and what they call, with wrong bodies in many of them, and looks at each one's own
-verdict, which must be that it isn't proved.
+"""Tries the wrong bodies of crates/NAME/wrong/, many at once: checks/gate/wrong_bodies.py [--kept] [--rust] [--c] [NAME..] has the prover
+check, of each crate or of those named, the functions that have one and what they call, with wrong bodies in many of them, and looks at
+each one's own verdict, which must be that it isn't proved. With --rust these are the crates that Rattle's callers use, with --c those
+for C.
 
 The gate's must-fail edits are one run each, behind a proof of the whole crate. A function is proved by the contracts of those that it
 calls, not by their bodies, so that the verdicts on two wrong bodies in two functions are apart: but for this, that the prover leaves a
@@ -161,12 +162,16 @@ def build_below(crates):
 
 
 def main(words):
-    names = [it for it in words if it != "--kept"]
+    names = [it for it in words if not it.startswith("--")]
+    if set(words) - {*names, "--kept", "--rust", "--c"}:
+        sys.exit(__doc__)
     rt = kit.program()
     found = [it for it in kit.crates(rt) if any(Path(it.folder).glob("wrong/*"))]
     unknown = set(names) - {it.name for it in found}
     if unknown:
         sys.exit(f"wrong bodies: no crate {' '.join(sorted(unknown))} has any")
+    for kind, is_wanted in ("--rust", lambda it: not it.is_static), ("--c", lambda it: it.is_static):
+        found = [it for it in found if kind not in words or is_wanted(it)]
     found = sorted((it for it in found if not names or it.name in names), key=lambda it: -it.count(rb"\n"))
     build_below(found)
     with ThreadPoolExecutor(rt.processors()) as lanes:

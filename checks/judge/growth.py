@@ -17,6 +17,7 @@ import sys
 import tempfile
 
 from long import KINDS
+from twice import side_by_side
 
 # The length of the shorter log of each kind, and by how much the instructions grow at most.
 LIMITS = {"held": (8000, 2.2), "older": (8000, 2.2), "batched": (8000, 2.2), "accused": (1000, 4.4), "syns": (1000, 4.4),
@@ -25,8 +26,9 @@ LIMITS = {"held": (8000, 2.2), "older": (8000, 2.2), "batched": (8000, 2.2), "ac
 ACCUSED = {"held": lambda count: 0, "older": lambda count: count}
 
 
-def instructions(program, kind, count):
-    """The instructions by which the program judges the log; what it says has to be right."""
+def instructions(wanted):
+    """The instructions by which a program judges a kind of log of so many segments; what it says has to be right."""
+    program, kind, count = wanted
     with tempfile.NamedTemporaryFile("w", suffix=".log") as file:
         file.writelines(KINDS[kind](count))
         file.flush()
@@ -40,8 +42,10 @@ def instructions(program, kind, count):
 
 def growths(program):
     """Each kind of log, by how much its instructions grow where it has twice the segments, and by how much they may."""
+    wanted = [(program, kind, length) for kind, (count, _) in LIMITS.items() for length in (0, count, 2 * count)]
+    taken = dict(zip(wanted, side_by_side(instructions, wanted)))
     for kind, (count, most) in LIMITS.items():
-        start, short, long = (instructions(program, kind, length) for length in (0, count, 2 * count))
+        start, short, long = (taken[program, kind, length] for length in (0, count, 2 * count))
         ratio = (long - start) / (short - start)
         print(f"{kind}: {ratio:.2f} times the instructions for {2 * count:,} segments as for {count:,} (at most {most})", flush=True)
         yield kind, ratio, most

@@ -11,14 +11,16 @@ checks/peers/lwip.sh builds. --short has fewer random logs. Prints what each sta
 import argparse
 import collections
 import contextlib
+import functools
 import io
+import itertools
 import os
 import pathlib
 import random
 import subprocess
 import tempfile
 
-from twice import Differs, Judges, rules
+from twice import Differs, Judges, rules, side_by_side
 
 import capture
 import captures as captures_by_hand
@@ -118,27 +120,49 @@ def judge_captures(cases, judges, captures):
     return clean
 
 
+def first_accused(program, logs, is_complete):
+    """How many of these logs were judged up to the first that is accused, or that the judges differ on, and what is said of that one."""
+    judges = Judges(program)
+    try:
+        for log in logs:
+            found, status = judges.report(log, is_complete)
+            if status == 1:
+                return judges.count, found
+    except (Differs, OSError, subprocess.SubprocessError) as fault:
+        return judges.count, str(fault)
+    return judges.count, None
+
+
+def judge_side_by_side(cases, judges, call, items):
+    """Judges by `call`, an item a case, which is its name and what it is made of; answers how many logs there were."""
+    found = side_by_side(functools.partial(call, judges.program), [made for _, made in items])
+    for (name, _), (_, fault) in zip(items, found):
+        cases.holds(name, fault is None, fault)
+    count = sum(count for count, _ in found)
+    judges.count += count
+    return count
+
+
+def judge_cut(program, lines):
+    cuts = ((lines[at + 1 :], lines[:at], lines[:at] + lines[at + 1 :]) for at in range(len(lines)))
+    return first_accused(program, itertools.chain.from_iterable(cuts), is_complete=False)
+
+
 def judge_cuts(cases, judges, clean):
     """A clean log that begins later, ends earlier or lacks one segment isn't accused where it isn't said to be complete."""
-    count = 0
-    for taken, lines in clean:
-        with cases.case(f"{taken.stack}: {taken.path.name}, cut"):
-            for at in range(len(lines)):
-                for cut in lines[at + 1 :], lines[:at], lines[:at] + lines[at + 1 :]:
-                    count += 1
-                    if judges.accuses(cut, is_complete=False):
-                        raise Differs(f"cut at {at}: {judges.report(cut, False)[0]}")
-    print(f"{len(clean)} clean logs, cut in {count} ways: none is accused")
+    count = judge_side_by_side(cases, judges, judge_cut, [(f"{taken.stack}: {taken.path.name}, cut", lines) for taken, lines in clean])
+    print(f"{len(clean)} clean logs, cut in {count} ways")
+
+
+def judge_one_at_random(program, number):
+    rng = random.Random(number)
+    log = end_log(rng) if number % 2 else world_logs(rng)[number // 2 % 2]
+    return first_accused(program, [log], is_complete=True)
 
 
 def judge_random(cases, judges, count):
     """Logs of the second program's ends under random calls, on random segments and under random scripts."""
-    for number in range(count):
-        rng = random.Random(number)
-        with cases.case(f"random log {number}"):
-            log = end_log(rng) if number % 2 else world_logs(rng)[number // 2 % 2]
-            if judges.accuses(log):
-                raise Differs(judges.report(log)[0])
+    judge_side_by_side(cases, judges, judge_one_at_random, [(f"random log {number}", number) for number in range(count)])
 
 
 def read_words():

@@ -13,8 +13,8 @@ kind is planted at each place, the second program alone judges, and there is a l
 """
 
 import collections
-import concurrent.futures
 import contextlib
+import functools
 import json
 import re
 import struct
@@ -22,7 +22,7 @@ import subprocess
 import sys
 import tempfile
 
-from twice import HERE, Differs, Judges
+from twice import HERE, Differs, Judges, side_by_side
 
 import capture
 from correct import ORDINARY
@@ -121,7 +121,7 @@ class Base:
         return row
 
 
-def kind_row(kind, program, bases):
+def kind_row(program, bases, kind):
     """How often this kind is planted and found, by each column; and where no finding or note names it."""
     row, missed, judges = collections.Counter(), [], Judges(program)
     for base in bases:
@@ -151,10 +151,10 @@ def table(judges, shows_kinds=False, has_others=True):
         warned, told = at_least(base.experts, WARNING), at_least(base.experts, NOTE)
         others = f"; tshark: {warned} errors and warnings, {told - warned} notes; tcptrace: {base.warnings} warnings" if has_others else ""
         print(f"{base.name}: {base.count} segments: the judge {accused}{others}")
-    with concurrent.futures.ThreadPoolExecutor(4) as pool:
-        rows = {kind: pool.submit(kind_row, kind, judges.program, bases) for kinds in GROUPS.values() for kind in kinds}
+    kinds = [kind for group in GROUPS.values() for kind in group]
+    rows = dict(zip(kinds, side_by_side(functools.partial(kind_row, judges.program, bases), kinds)))
     for group, kinds in GROUPS.items():
-        found = {kind: rows[kind].result() for kind in kinds}
+        found = {kind: rows[kind] for kind in kinds}
         total = sum((row for row, _, _ in found.values()), collections.Counter())
         judges.count += sum(count for _, _, count in found.values())
         lines.append(text_row(group, len(kinds), total, has_others))

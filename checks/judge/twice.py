@@ -1,5 +1,8 @@
 """A log judged by `tcpjudge` and by the second program, which have to say the same."""
 
+import concurrent.futures
+import multiprocessing
+import os
 import pathlib
 import subprocess
 import sys
@@ -38,6 +41,13 @@ class Judges:
 
     def accuses(self, lines, is_complete=True):
         return self.report(lines, is_complete)[1] == 1
+
+
+def side_by_side(call, items):
+    """What `call` answers of each, in a process for each processor; they give way to what runs against a clock beside them."""
+    fork = multiprocessing.get_context("fork")
+    with concurrent.futures.ProcessPoolExecutor(len(os.sched_getaffinity(0)), fork, initializer=os.nice, initargs=(10,)) as pool:
+        return list(pool.map(call, items))
 
 
 def rules(lines, is_complete=True):

@@ -317,9 +317,9 @@ func (connection *Connection) Congestion() Congestion {
 type Policy struct {
 	// An acknowledgement of text waits so long for a second full segment, less than 0.5 s whatever is chosen (RFC 9293, 3.8.6.3); 0: none waits.
 	AckDelay time.Duration
-	// Text that isn't worth a segment waits so long at most, 0.1 to 1 s (RFC 9293, 3.8.6.2): until then no small segment goes into a small
-	// window, and none goes out just for a window that opened by little. Never: no text waits, and a window that was opened by reading is
-	// advertised only where it was shut.
+	// Text that isn't worth a segment waits so long since nothing but its size has held it back, 0.1 to 1 s (RFC 9293, 3.8.6.2): until then
+	// no small segment goes into a small window, and none goes out just for a window that opened by little. Never: no text waits, and a
+	// window that was opened by reading is advertised only where it was shut.
 	OverrideTimeout time.Duration
 	// Of the acknowledgements that only answer segments without text, SYN and FIN one goes out in so long (RFC 5961, 7), some seconds at
 	// most; 0: all do.

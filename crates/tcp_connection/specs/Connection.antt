@@ -84,7 +84,8 @@ abbrev pub after_taken : Sender → Option ℕ → Sender
 after_taken s None = s
 after_taken s (Some window) = after_window s window
 
--- WHAT ANSWERS TEXT, SYN OR FIN isn't bare, and neither is what was pending before (RFC 5961, 7)
+-- WHAT ANSWERS TEXT, SYN OR FIN isn't bare, and neither is what was pending before: of such answers alone the number is limited
+-- (own; RFC 5961, 7 limits challenge acknowledgements, which these two ends would send each other without end)
 abbrev pub bare_after : {S W : Type 0} → Connecting S W → Bool → List ℕ → Bool → Bool
 bare_after k pending bytes at_once =
     if takes_numbers bytes then false

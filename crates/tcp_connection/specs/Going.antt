@@ -39,7 +39,7 @@ is_new_text (Some NewText) = true
 is_new_text other = false
 
 -- or for a segment that is worth it: what is asked for is D, where new text is due and nothing else holds it back, of which the
--- window has room for U (RFC 9293, 3.8.6.2.1). A burst asks for nothing: what is due in it goes out
+-- window has room for U (RFC 9293, 3.8.6.2.1). A burst asks for nothing: what is due in it goes out (own)
 abbrev pub is_asked : {S W : Type 0} → Insight S → Connecting S W → Bool → Bool
 is_asked i k past =
     is_some k.policy.override_timeout && (not k.flowing.driving.times.bursting && (is_new_text (i.kind (core_of k)) && not past))
@@ -65,7 +65,7 @@ abbrev pub asked : {S W : Type 0} → Machine S → Insight S → Control W → 
 asked m i c k window now = asked_by m i k (is_past m c k window) now
 
 -- ---- WHAT IS HELD BACK: an acknowledgement while it waits, and new text while it does, unless an acknowledgement goes out
--- now, which takes it along. Text again, SYN, FIN and resets never are, and nothing is in a burst
+-- now, which takes it along (own). Text again, SYN, FIN and resets never are, and nothing is in a burst (own)
 abbrev pub is_held : Option Kind → Bool → Bool → Bool → Bool
 is_held (Some Acknowledgement) text pending ack = ack
 is_held (Some NewText) text pending ack = text && (not pending || ack)

@@ -4,7 +4,8 @@ use Rattle.tcp_connection.specs.Connection.{Connecting, core_of, edge_by}
 use Rattle.tcp_connection.specs.Insight.{Insight}
 
 -- A WINDOW IS WORTH ADVERTISING that has grown by a full segment, or by half of the receive buffer, since it was advertised
--- last (RFC 9293, 3.8.6.2.2), and of which the peer has less than half of that buffer left
+-- last (RFC 9293, 3.8.6.2.2), and of which the peer has less than half of that buffer left (own: with more a sender isn't held
+-- up, and the next segment that goes out for another reason has the window as it is)
 abbrev pub worth : {S W : Type 0} → Insight S → Connecting S W → ℕ
 worth i k = max 1 (min k.smss (i.capacity (core_of k) / 2))
 

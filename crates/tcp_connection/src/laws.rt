@@ -12,8 +12,8 @@ pub fn connection_is_flow<C: Deferring, W: Congestion>()
     ensures { ConnectionIsFlow C.machine C.insight C.smss_of W.control }
 {}
 
-/// Where an acknowledgement of text is pending, `poll_at` is at most the delay after the first of that text came, and an
-/// emission from then on isn't held back (RFC 9293, 3.8.6.3).
+/// Where an acknowledgement waits since text came, `poll_at` is at most the delay after the first of that text, and an emission
+/// from then on isn't held back (RFC 9293, 3.8.6.3).
 pub fn no_acknowledgement_is_late<C: Deferring, W: Congestion>()
     ensures { NoAcknowledgementIsLate C.machine C.insight W.control }
 {}

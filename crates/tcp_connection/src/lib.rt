@@ -1,5 +1,5 @@
-//! One end with its times, under a congestion window, that also decides when an acknowledgement and a small segment go out: a
-//! caller writes no line of any.
+//! One end with its times, under a congestion window, that also decides when an acknowledgement and a small segment go out, so
+//! that its caller has none of this to write.
 //!
 //! - [`Connection`]: a [`Flow`](tcp_flow::Flow) whose acknowledgements wait for a second full segment (RFC 9293, 3.8.6.3),
 //!   whose text waits for a segment that is worth it (3.8.6.2.1 and 3.7.4), that advertises a window once it has grown

@@ -14,9 +14,10 @@ pub struct Policy {
     /// Whether text that doesn't fill a segment waits while anything is in flight: the Nagle algorithm (RFC 9293, 3.7.4). It
     /// counts only where `override_timeout` is set.
     pub is_nagle: bool,
-    /// How long text that isn't worth a segment waits at most, and silly windows are avoided on both sides: the override
-    /// timeout, 0.1 to 1 s, and at least 1 µs (RFC 9293, 3.8.6.2.1). `None`: text never waits, and a window that a read has
-    /// opened is advertised only where it was shut, or the user asks for it.
+    /// The override timeout, 0.1 to 1 s, and at least 1 µs (RFC 9293, 3.8.6.2.1): so long text that isn't worth a segment
+    /// waits since nothing but its size has held it back, which begins anew behind whatever else goes out; and silly windows
+    /// are avoided on both sides. `None`: text never waits, and a window that a read has opened is advertised only where it
+    /// was shut, or the user asks for it.
     pub override_timeout: Option<u64>,
     /// Of the acknowledgements that only answer segments without text, SYN and FIN one goes out in so long (RFC 5961, 7). With
     /// 0 all do.

@@ -12,9 +12,9 @@ pub struct Policy {
     /// How long an acknowledgement of text waits for a second full segment, less than 0.5 s whatever is chosen (RFC 9293, 3.8.6.3). 0: none
     /// waits.
     pub ack_delay: Duration,
-    /// How long text that isn't worth a segment waits at most, 0.1 to 1 s (RFC 9293, 3.8.6.2): until then no small segment goes into a small
-    /// window, and none goes out just for a window that opened by little. `None`: no text waits, and a window that was opened by reading is
-    /// advertised only where it was shut.
+    /// How long text that isn't worth a segment waits since nothing but its size has held it back, 0.1 to 1 s (RFC 9293, 3.8.6.2): until
+    /// then no small segment goes into a small window, and none goes out just for a window that opened by little. `None`: no text waits,
+    /// and a window that was opened by reading is advertised only where it was shut.
     pub override_timeout: Option<Duration>,
     /// Of the acknowledgements that only answer segments without text, SYN and FIN one goes out in so long (RFC 5961, 7), some seconds at
     /// most. 0: all do.
