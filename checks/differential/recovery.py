@@ -1,6 +1,6 @@
-"""Losses by time written a second time, plainly, from RFC 8985, 5 to 7: `python3 checks/differential/recovery.py --check N [SEED]` makes N
-random calls of crates/test_recovery, runs them through the built program and compares. The rows that the program's stdin and stdout have
-are worked out by hand.
+"""Losses by time written a second time, plainly, from RFC 8985, 5 to 7: `python3 checks/differential/recovery.py` answers the calls of
+crates/test_recovery, which were chosen by hand (stdin), and writes what they answer (stdout). `--check N [SEED]` makes N random calls, runs
+them through the built program and compares.
 """
 
 import pathlib
@@ -16,7 +16,8 @@ MOST = 64
 
 @dataclass
 class Stretch:
-    """RFC 8985, 5.2: what it keeps of a segment, of several that were sent at nearly one time."""
+    """RFC 8985, 5.2: what it keeps of a segment, of several that were sent at nearly one time. The first of these times is 0 where it
+    isn't known."""
 
     start: int
     end: int
@@ -31,7 +32,8 @@ class Rack:
     def __init__(self):
         self.stretches = []
         self.nxt = 0
-        self.xmit_ts = self.end_seq = self.rtt = self.fack = 0
+        self.xmit_ts = self.end_seq = self.fack = 0
+        self.rtt = None
         self.reordering_seen = False
         self.mult, self.persist, self.round = 1, 16, 0
 
@@ -70,15 +72,19 @@ class Rack:
         self.settled(start, end)
 
     def delivered(self, part, now, min_rtt):
+        """6.2, steps 2 to 4, of a segment that is newly acknowledged."""
         if part.again and now - part.last < min_rtt:
             if self.round <= part.start:
                 self.mult, self.persist, self.round = min(MOST, self.mult + 1), 16, self.nxt
-            return
-        if (self.xmit_ts, self.end_seq) < (part.first, part.end):
-            self.xmit_ts, self.end_seq, self.rtt = part.first, part.end, now - part.first
-        if part.end < self.fack and not part.again:
+        else:
+            if part.first > 0 or self.rtt is None:
+                self.rtt = now - part.first
+            if (self.xmit_ts, self.end_seq) < (part.first, part.end):
+                self.xmit_ts, self.end_seq = part.first, part.end
+        if self.fack < part.end:
+            self.fack = part.end
+        elif part.end < self.fack and not part.again:
             self.reordering_seen = True
-        self.fack = max(self.fack, part.end)
 
     def settled(self, start, end):
         end = min(end, self.nxt)
@@ -95,8 +101,8 @@ class Rack:
         return 0 if certain and not self.reordering_seen else min(srtt, self.mult * min_rtt // 4)
 
     def losses(self, window):
-        """Each stretch that is lost, and when."""
-        for s in self.stretches:
+        """Each stretch that is lost, and when: none before a round trip is known."""
+        for s in self.stretches if self.rtt is not None else []:
             if (s.last, s.end) < (self.xmit_ts, self.end_seq) or (not s.again and s.end < self.fack):
                 yield s, s.last + self.rtt + window
 
@@ -107,7 +113,7 @@ class Rack:
         return str(min((at for _, at in self.losses(window)), default="-"))
 
     def shown(self):
-        told = f"{self.xmit_ts} {self.end_seq} {self.rtt} {self.fack} {self.mult}"
+        told = f"{self.xmit_ts} {self.end_seq} {self.rtt or 0} {self.fack} {self.mult}"
         return told + (" reordered" if self.reordering_seen else "")
 
 
@@ -116,25 +122,43 @@ class Probe:
 
     def __init__(self):
         self.at = self.end_seq = None
-        self.is_retrans = False
+        self.is_retrans = self.has_sample = False
 
     def start(self, now, srtt, one, rto_at):
+        """7.2. The two conditions of 7.3 are asked here, and not when the timer fires."""
         pto = 2 * srtt + 200_000 * one if srtt else 1_000_000
-        self.at = min(now + pto, rto_at) if self.end_seq is None else None
+        self.at = None
+        if self.end_seq is None and self.has_sample:
+            self.at = min(now + pto, rto_at)
 
     def stop(self):
         self.at = None
 
+    def recovering(self):
+        """7.1 and 7.2."""
+        self.at = self.end_seq = None
+        self.is_retrans = False
+
+    def measured(self):
+        self.has_sample = True
+
     def probed(self, nxt, again):
         self.at, self.end_seq, self.is_retrans = None, nxt, bool(again)
+        self.has_sample = False
 
-    def acked(self, una, duplicate):
-        if self.end_seq is None or una < self.end_seq:
+    def acked(self, una, both_came):
+        """7.4.2, TLP_process_ack. By a DSACK of TLP.end_seq, or a duplicate acknowledgement of it without blocks, both came."""
+        end = self.end_seq
+        if end is None or una < end:
             return False
-        is_repaired = self.is_retrans and self.end_seq < una
-        if is_repaired or not self.is_retrans or duplicate:
+        if not self.is_retrans:
             self.end_seq = None
-        return is_repaired
+        elif both_came:
+            self.end_seq = None
+        elif una > end:
+            self.end_seq = None
+            return True
+        return False
 
 
 def answers(lines):
@@ -144,7 +168,7 @@ def answers(lines):
         numbers = [int(number) for number in numbers]
         if word in ("window", "lost", "deadline"):
             yield str(getattr(rack, word)(*numbers))
-        elif word in ("probe", "start", "stop", "probed", "acked"):
+        elif word in ("probe", "start", "stop", "recovering", "measured", "probed", "acked"):
             probe = Probe() if word == "probe" else probe
             is_repaired = word != "probe" and getattr(probe, word)(*numbers)
             yield ("-" if probe.at is None else str(probe.at)) + (" repaired" if is_repaired else "")
@@ -189,8 +213,12 @@ def random_lines(count, rng):
             yield rng.choice(
                 (
                     f"start {now} {rng.choice((0, 40_000))} {rng.randint(0, 1)} {now + rng.choice((50_000, 2_000_000))}",
-                    "stop",
+                    f"start {now} {rng.choice((0, 40_000))} {rng.randint(0, 1)} {now + rng.choice((50_000, 2_000_000))}",
+                    "measured",
+                    "measured",
+                    rng.choice(("stop", "recovering")),
                     f"probed {una} {rng.randint(0, 1)}",
+                    f"acked {una} {rng.randint(0, 1)}",
                     f"acked {una} {rng.randint(0, 1)}",
                 )
             )
@@ -201,7 +229,15 @@ def check(count, seed):
     times.compared(CRATE, lines, list(answers(lines)), seed, "losses by time")
 
 
+def write():
+    lines = (CRATE / "stdin").read_text().splitlines()
+    times.stored(CRATE, lines, list(answers(lines)))
+
+
 if __name__ == "__main__":
-    if sys.argv[1:2] != ["--check"]:
+    if sys.argv[1:2] == ["--check"]:
+        check(int(sys.argv[2]), int(sys.argv[3]) if len(sys.argv) > 3 else 1)
+    elif sys.argv[1:]:
         sys.exit(__doc__)
-    check(int(sys.argv[2]), int(sys.argv[3]) if len(sys.argv) > 3 else 1)
+    else:
+        write()

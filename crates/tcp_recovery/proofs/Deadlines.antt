@@ -5,10 +5,10 @@ use Rattle.std.proofs.lemmas.Bool.Decides.{nat_tests}
 use Rattle.tcp_recovery.specs.declared.stretch.Stretch.{Stretch}
 use Rattle.tcp_recovery.specs.declared.delivered.Delivered.{Delivered}
 use Rattle.tcp_recovery.specs.Delivered.{greatest}
-use Rattle.tcp_recovery.specs.Rack.{deadline_of, is_overtaken, lost_in, sooner}
+use Rattle.tcp_recovery.specs.Rack.{deadline_of, due_of, is_overtaken, lost_in, sooner}
 use Rattle.tcp_recovery.specs.Laws.{DeadlinesAreLosses}
 
--- a time is one of those from which on something is lost, where `none` says that it is what was looked at before
+-- a time has come, or is to come, where there is one
 abbrev IsBy : Option ℕ → ℕ → Type 0
 IsBy None now = ⊥
 IsBy (Some time) now = time ≤ now
@@ -17,76 +17,59 @@ abbrev IsAfter : Option ℕ → ℕ → Type 0
 IsAfter None now = Unit {0}
 IsAfter (Some time) now = now < time
 
--- what is found is found in one or the other
-after-soon : (at : Option ℕ) (time now : ℕ) → IsAfter (sooner at time) now → IsAfter at now × (now < time)
-after-soon None time now h = (tt, h)
-after-soon (Some at) time now h = (omega (arith, h), omega (arith, h))
+-- the sooner of two
+after-both : (at time : Option ℕ) (now : ℕ) → IsAfter (sooner at time) now → IsAfter at now × IsAfter time now
+after-both None time now h = (tt, h)
+after-both (Some at) None now h = (h, tt)
+after-both (Some at) (Some time) now h = (omega (arith, h), omega (arith, h))
 
-by-soon : (at : Option ℕ) (time now : ℕ) → IsBy (sooner at time) now → IsBy at now ⊎ (time ≤ now)
-by-soon None time now h = inr h
-by-soon (Some at) time now h = by (nat_le at now) refl
+by-either : (at time : Option ℕ) (now : ℕ) → IsBy (sooner at time) now → IsBy at now ⊎ IsBy time now
+by-either None time now h = inr h
+by-either (Some at) None now h = inl h
+by-either (Some at) (Some time) now h = by (nat_le at now) refl
   where
     by : (b : Bool) → nat_le at now ≡ b → (at ≤ now) ⊎ (time ≤ now)
     by true e = inl (grind (arith, nat_tests, e))
     by false e = let past : now < at = grind (arith, nat_tests, e) in inr (omega (arith, past, h))
 
-not-lost : (a b : Bool) → (a && b) ≡ false → (a ≡ false) ⊎ (b ≡ false)
-not-lost true b e = inr e
-not-lost false b e = inl refl
-
-early-step : (d : Delivered) (window now : ℕ) (at : Option ℕ) (s : Stretch) (later : List Stretch) (a b : Bool) → nat_le (s.last + d.rtt + window) now ≡ b
-    → ((at : Option ℕ) → IsAfter (deadline_of d window at later) now → IsAfter at now × (lost_in d window now later ≡ None))
-    → IsAfter (deadline_of d window (if a then sooner at (min greatest (s.last + d.rtt + window)) else at) later) now
-    → IsAfter at now × ((if a && b then Some (s.start, s.end) else lost_in d window now later) ≡ None)
-early-step d window now at s later true true e rest h =
-    let low = rest (sooner at (min greatest (s.last + d.rtt + window))) h in
-    let both = after-soon at (min greatest (s.last + d.rtt + window)) now (low.0) in
+-- before it nothing is lost
+early-step : (d : Delivered) (window now : ℕ) (s : Stretch) (later : List Stretch) (a b : Bool) → nat_le (s.last + d.rtt + window) now ≡ b
+    → IsAfter (if a then Some (min greatest (s.last + d.rtt + window)) else None) now → lost_in d window now later ≡ None
+    → (if a && b then Some (s.start, s.end) else lost_in d window now later) ≡ None
+early-step d window now s later true true e h rest =
     let past : s.last + d.rtt + window ≤ now = grind (arith, nat_tests, e) in
-    let less : now < min greatest (s.last + d.rtt + window) = both.1 in
-    absurd (omega (arith, past, less))
-early-step d window now at s later true false e rest h =
-    let low = rest (sooner at (min greatest (s.last + d.rtt + window))) h in
-    ((after-soon at (min greatest (s.last + d.rtt + window)) now (low.0)).0, low.1)
-early-step d window now at s later false b e rest h = rest at h
+    absurd (omega (arith, past, h))
+early-step d window now s later true false e h rest = rest
+early-step d window now s later false b e h rest = rest
 
-early : (d : Delivered) (window now : ℕ) (at : Option ℕ) (all : List Stretch) → IsAfter (deadline_of d window at all) now
-    → IsAfter at now × (lost_in d window now all ≡ None)
-early d window now at [] h = (h, refl)
-early d window now at (s ∷ later) h =
-    early-step d window now at s later (is_overtaken d s) (nat_le (s.last + d.rtt + window) now) refl
-    (λ a r. early d window now a later r) h
+early : (d : Delivered) (window now : ℕ) (all : List Stretch) → IsAfter (deadline_of d window all) now → lost_in d window now all ≡ None
+early d window now [] h = refl
+early d window now (s ∷ later) h =
+    let both = after-both (due_of d window s) (deadline_of d window later) now h in
+    early-step d window now s later (is_overtaken d s) (nat_le (s.last + d.rtt + window) now) refl (both.0) (early d window now later (both.1))
 
-due-step : (d : Delivered) (window now : ℕ) (at : Option ℕ) (s : Stretch) (later : List Stretch) (a b : Bool) → nat_le (s.last + d.rtt + window) now ≡ b
-    → now < greatest
-    → ((at : Option ℕ) → IsBy (deadline_of d window at later) now → IsBy at now ⊎ IsSome (lost_in d window now later))
-    → IsBy (deadline_of d window (if a then sooner at (min greatest (s.last + d.rtt + window)) else at) later) now
-    → IsBy at now ⊎ IsSome (if a && b then Some (s.start, s.end) else lost_in d window now later)
-due-step d window now at s later true true e fits rest h = inr refl
-due-step d window now at s later true false e fits rest h =
-    by (rest (sooner at (min greatest (s.last + d.rtt + window))) h)
+-- from it on something is
+due-step : (d : Delivered) (window now : ℕ) (s : Stretch) (later : List Stretch) (a b : Bool) → nat_le (s.last + d.rtt + window) now ≡ b
+    → now < greatest → IsBy (if a then Some (min greatest (s.last + d.rtt + window)) else None) now ⊎ IsSome (lost_in d window now later)
+    → IsSome (if a && b then Some (s.start, s.end) else lost_in d window now later)
+due-step d window now s later true true e fits h = refl
+due-step d window now s later true false e fits (inl h) =
+    let past : now < s.last + d.rtt + window = grind (arith, nat_tests, e) in
+    absurd (omega (arith, past, h, fits))
+due-step d window now s later true false e fits (inr found) = found
+due-step d window now s later false b e fits (inl h) = absurd h
+due-step d window now s later false b e fits (inr found) = found
+
+due : (d : Delivered) (window now : ℕ) (all : List Stretch) → now < greatest → IsBy (deadline_of d window all) now → IsSome (lost_in d window now all)
+due d window now [] fits h = absurd h
+due d window now (s ∷ later) fits h =
+    due-step d window now s later (is_overtaken d s) (nat_le (s.last + d.rtt + window) now) refl fits
+    (by (λ rest. due d window now later fits rest) (by-either (due_of d window s) (deadline_of d window later) now h))
   where
-    past : now < s.last + d.rtt + window
-    past = grind (arith, nat_tests, e)
-
-    this : (IsBy at now) ⊎ (min greatest (s.last + d.rtt + window) ≤ now) → IsBy at now ⊎ IsSome (lost_in d window now later)
-    this (inl before) = inl before
-    this (inr here) = let less : now < s.last + d.rtt + window = past in absurd (omega (arith, less, here, fits))
-
-    by : IsBy (sooner at (min greatest (s.last + d.rtt + window))) now ⊎ IsSome (lost_in d window now later) → IsBy at now ⊎ IsSome (lost_in d window now later)
-    by (inl soon) = this (by-soon at (min greatest (s.last + d.rtt + window)) now soon)
-    by (inr found) = inr found
-due-step d window now at s later false b e fits rest h = rest at h
-
-due : (d : Delivered) (window now : ℕ) (at : Option ℕ) (all : List Stretch) → now < greatest → IsBy (deadline_of d window at all) now
-    → IsBy at now ⊎ IsSome (lost_in d window now all)
-due d window now at [] fits h = inl h
-due d window now at (s ∷ later) fits h =
-    due-step d window now at s later (is_overtaken d s) (nat_le (s.last + d.rtt + window) now) refl fits
-    (λ a r. due d window now a later fits r) h
-
-found : (now : ℕ) (P : Type 0) → IsBy None now ⊎ P → P
-found now P (inl none) = absurd none
-found now P (inr h) = h
+    by : (IsBy (deadline_of d window later) now → IsSome (lost_in d window now later)) → IsBy (due_of d window s) now ⊎ IsBy (deadline_of d window later) now
+        → IsBy (due_of d window s) now ⊎ IsSome (lost_in d window now later)
+    by some (inl one) = inl one
+    by some (inr rest) = inr (some rest)
 
 is-after : (at : Option ℕ) (time now : ℕ) → at ≡ Some time → now < time → IsAfter at now
 is-after None time now e h = tt
@@ -102,8 +85,7 @@ is-never (Some at) now e = absurd (cc)
 
 pub deadline_lem : DeadlinesAreLosses
 deadline_lem d window now all = record {
-  before = λ time e h. (early d window now None all (is-after (deadline_of d window None all) time now e h)).1;
-  due = λ time e h fits.
-      found now (IsSome (lost_in d window now all)) (due d window now None all fits (is-by (deadline_of d window None all) time now e h));
-  none = λ e. (early d window now None all (is-never (deadline_of d window None all) now e)).1;
+  before = λ time e h. early d window now all (is-after (deadline_of d window all) time now e h);
+  due = λ time e h fits. due d window now all fits (is-by (deadline_of d window all) time now e h);
+  none = λ e. early d window now all (is-never (deadline_of d window all) now e);
 }

@@ -6,8 +6,8 @@ use Rattle.tcp_recovery.specs.declared.stretch.Stretch.{Stretch}
 use Rattle.tcp_recovery.specs.Stretches.{AreInOrder, appended, before, behind, cut_out, distance, extends, fitted, followed_by, joined, least_distance, max_stretches, segment, thinned, with_joined, without}
 use Rattle.tcp_recovery.specs.History.{IsIn, IsOut}
 
--- a number that was sent last at a time is in a stretch, whose times lie around that; and where the stretch was never sent again, neither
--- was the number, as `once` says
+-- a number that was sent last at a time is in a stretch, whose times lie around that; and where the stretch was never
+-- sent again, neither was the number, as `once` says
 pub record HasAt (number at : ℕ) (once : Type 0) (s : Stretch) : Type 0 where
   pub within : IsIn number s.start s.end
   pub first : s.first ≤ at

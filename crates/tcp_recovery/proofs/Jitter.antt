@@ -1,11 +1,11 @@
 -- What isn't late isn't lost.
-use Rattle.std.proofs.Common.{◌≡◌, ℕ, suc, ◌+◌, ◌-◌, ◌/◌, ◌<◌, ◌≤◌, inl, inr, Bool, true, false, List, [], ◌∷◌, arith, refl}
-use Rattle.std.specs.Prelude.{◌⊎◌, ◌==◌, ◌&&◌, ◌||◌, min, max, nat_lt, nat_le, if◌then◌else◌}
+use Rattle.std.proofs.Common.{◌≡◌, ℕ, ◌+◌, ◌-◌, ◌/◌, ◌<◌, ◌≤◌, inl, inr, Bool, true, false, List, [], ◌∷◌, arith, refl}
+use Rattle.std.specs.Prelude.{◌⊎◌, ◌==◌, ◌&&◌, min, max, nat_lt, nat_le, if◌then◌else◌}
 use Rattle.std.proofs.lemmas.Bool.Decides.{nat_tests}
 use Rattle.tcp_recovery.specs.declared.stretch.Stretch.{Stretch}
 use Rattle.tcp_recovery.specs.declared.delivered.Delivered.{Delivered}
 use Rattle.tcp_recovery.specs.Stretches.{appended, between, cut_out, fitted, without}
-use Rattle.tcp_recovery.specs.Delivered.{after_delivery, after_deliveries, after_spurious, is_ambiguous, is_later, with_latest, with_order}
+use Rattle.tcp_recovery.specs.Delivered.{after_delivery, after_deliveries, after_spurious, is_ambiguous, is_later, with_latest, with_order, with_trip}
 use Rattle.tcp_recovery.specs.Rack.{Flight, IsFlight}
 use Rattle.tcp_recovery.specs.History.{AreOrderly, Event, Sent, Received, Recovered, Settled, IsIn, SentLast, flight_after}
 use Rattle.tcp_recovery.specs.Laws.{AllTake, JitterIsNoLoss}
@@ -13,36 +13,34 @@ use Rattle.tcp_recovery.proofs.Covering.{SentOnce, always, kept}
 use Rattle.tcp_recovery.proofs.Overdue.{HasLost, IsOver, found}
 use Rattle.tcp_recovery.proofs.Told.{AreParts, IsPart, parts}
 
--- nothing was delivered yet, or RACK.rtt is so long at least
+-- nothing has told a round trip yet, or RACK.rtt is so long at least
 abbrev IsLong : ℕ → Delivered → Type 0
-IsLong least d = (((d.xmit_ts ≡ 0) × (d.end_seq ≡ 0)) × (d.fack ≡ 0)) ⊎ (least ≤ d.rtt)
+IsLong least d = ((d.xmit_ts ≡ 0) × (d.end_seq ≡ 0)) ⊎ (least ≤ d.rtt)
 
-first-told : (d : Delivered) (first end number : ℕ) (b c e : Bool) → nat_lt d.xmit_ts first ≡ b → (first == d.xmit_ts) ≡ c → nat_lt d.end_seq end ≡ e
-    → d.xmit_ts ≡ 0 → d.end_seq ≡ 0 → end ≡ suc number → (b || (c && e)) ≡ false → ⊥
-first-told d first end number true c e eb ec ee x y n h = absurd (cc)
-first-told d first end number false true true eb ec ee x y n h = absurd (cc)
-first-told d first end number false true false eb ec ee x y n h = grind (arith, nat_tests, ee, y, n)
-first-told d first end number false false e eb ec ee x y n h = grind (arith, nat_tests, eb, ec, x)
+trip-by : (least now : ℕ) (d : Delivered) (part : Stretch) (a b : Bool) → nat_lt 0 d.end_seq ≡ b → least ≤ now - part.first → IsLong least d
+    → least ≤ (if a && b then d else record d { rtt = now - part.first }).rtt
+trip-by least now d part true true e long (inr l) = l
+trip-by least now d part true true e long (inl none) = let zero : d.end_seq ≡ 0 = none.1 in absurd (grind (arith, nat_tests, e, zero))
+trip-by least now d part true false e long l = long
+trip-by least now d part false b e long l = long
 
-latest-by : (least now number : ℕ) (d : Delivered) (part : Stretch) (b : Bool) → is_later part.first part.end d.xmit_ts d.end_seq ≡ b
-    → part.end ≡ suc number → least ≤ now - part.first → IsLong least d
-    → least ≤ (if b then record d { xmit_ts = part.first; end_seq = part.end; rtt = now - part.first } else d).rtt
-latest-by least now number d part true e n long l = long
-latest-by least now number d part false e n long (inr l) = l
-latest-by least now number d part false e n long (inl none) =
-    absurd (first-told d part.first part.end number (nat_lt d.xmit_ts part.first) (part.first == d.xmit_ts) (nat_lt d.end_seq part.end) refl refl refl
-    (none.0.0) (none.0.1) n e)
+latest-by : (least : ℕ) (d : Delivered) (part : Stretch) (b : Bool) → least ≤ d.rtt
+    → least ≤ (if b then record d { xmit_ts = part.first; end_seq = part.end } else d).rtt
+latest-by least d part true l = l
+latest-by least d part false l = l
 
 spurious : (least next : ℕ) (d : Delivered) (b : Bool) → IsLong least d
     → IsLong least (if b then d else record d { reo_wnd_mult = min 64 (d.reo_wnd_mult + 1); reo_wnd_persist = 16; round = next })
 spurious least next d true l = l
 spurious least next d false l = l
 
-delivery-by : (least now next number : ℕ) (d : Delivered) (part : Stretch) (b : Bool) → part.end ≡ suc number → least ≤ now - part.first → IsLong least d
-    → IsLong least (if b then after_spurious d part.start next else with_order (with_latest d part now) part)
-delivery-by least now next number d part true n long l = spurious least next d (nat_lt part.start d.round) l
-delivery-by least now next number d part false n long l =
-    inr (latest-by least now number d part (is_later part.first part.end d.xmit_ts d.end_seq) refl n long l)
+delivery-by : (least now next : ℕ) (d : Delivered) (part : Stretch) (b : Bool) → least ≤ now - part.first → IsLong least d
+    → IsLong least (with_order (if b then after_spurious d part.start next else with_latest (with_trip d part now) part) part)
+delivery-by least now next d part true long l = spurious least next d (nat_lt part.start d.round) l
+delivery-by least now next d part false long l =
+    let e : Delivered = with_trip d part now in
+    inr (latest-by least e part (is_later part.first part.end e.xmit_ts e.end_seq)
+    (trip-by least now d part (part.first == 0) (nat_lt 0 d.end_seq) refl long l))
 
 deliveries : (least start to end now min_rtt next : ℕ) (earlier : List Event) (d : Delivered) (all : List Stretch) → to ≤ end → AreParts start to earlier all
     → ((number at : ℕ) → IsIn number start end → SentLast number at earlier → at + least ≤ now) → IsLong least d
@@ -54,7 +52,7 @@ deliveries least start to end now min_rtt next earlier d (part ∷ later) h are 
     let took : one.time + least ≤ now = take one.number one.time (one.within.0, omega (arith, below, h)) one.sent in
     let first : part.first ≤ one.time = one.first in
     deliveries least start to end now min_rtt next earlier (after_delivery d part now min_rtt next) later h (are.1) take
-    (delivery-by least now next one.number d part (is_ambiguous part now min_rtt) one.ends (omega (arith, took, first)) l)
+    (delivery-by least now next d part (is_ambiguous part now min_rtt) (omega (arith, took, first)) l)
 
 received-by : (least start to end now min_rtt : ℕ) (earlier : List Event) (b : Bool) → nat_lt start to ≡ b → to ≤ end → to ≤ (flight_after earlier).next
     → AreOrderly earlier → ((number at : ℕ) → IsIn number start end → SentLast number at earlier → at + least ≤ now)
@@ -82,7 +80,7 @@ settled-by least f start end true l = l
 settled-by least f start end false l = l
 
 long : (least : ℕ) (events : List Event) → AreOrderly events → AllTake least events → IsLong least (flight_after events).delivered
-long least [] o all = inl ((refl, refl), refl)
+long least [] o all = inl (refl, refl)
 long least (Sent start count now min_rtt ∷ earlier) o all =
     sent-by least (flight_after earlier) start count now min_rtt (count == 0) (long least earlier (o.2) all)
 long least (Received start end now min_rtt ∷ earlier) o all =
@@ -97,15 +95,15 @@ long least (Recovered ∷ earlier) o all = long least earlier o all
 -- what is overtaken was overtaken by something
 some-told : (least : ℕ) (d : Delivered) (s : Stretch) → IsLong least d → IsOver d s → least ≤ d.rtt
 some-told least d s (inr l) o = l
-some-told least d s (inl none) (inl earlier) = let zero-time : d.xmit_ts ≡ 0 = none.0.0 in absurd (omega (arith, earlier, zero-time))
+some-told least d s (inl none) (inl earlier) = let zero-time : d.xmit_ts ≡ 0 = none.0 in absurd (omega (arith, earlier, zero-time))
 some-told least d s (inl none) (inr (inl tied)) =
     let less : s.end < d.end_seq = tied.1 in
-    let zero-end : d.end_seq ≡ 0 = none.0.1 in
+    let zero-end : d.end_seq ≡ 0 = none.1 in
     absurd (omega (arith, less, zero-end))
 some-told least d s (inl none) (inr (inr fresh)) =
-    let less : s.end < d.fack = fresh.1 in
-    let zero-fack : d.fack ≡ 0 = none.1 in
-    absurd (omega (arith, less, zero-fack))
+    let some : 0 < d.end_seq = fresh.2 in
+    let zero-end : d.end_seq ≡ 0 = none.1 in
+    absurd (omega (arith, some, zero-end))
 
 pub jitter_lem : JitterIsNoLoss
 jitter_lem events least window now start end p at o all young e within out =

@@ -20,12 +20,13 @@ second-true false true true y e f = refl
 second-true false true false y e f = absurd (cc)
 second-true false false c y e f = absurd (cc)
 
-third-true : (a x r e : Bool) → r ≡ false → e ≡ true → (a || x || (not r && e)) ≡ true
-third-true true x r e f g = refl
-third-true false true r e f g = refl
-third-true false false false true f g = refl
-third-true false false false false f g = absurd (cc)
-third-true false false true e f g = absurd (cc)
+third-true : (a x r e g : Bool) → r ≡ false → e ≡ true → g ≡ true → (a || x || (not r && e && g)) ≡ true
+third-true true x r e g f h i = refl
+third-true false true r e g f h i = refl
+third-true false false false true true f h i = refl
+third-true false false false true false f h i = absurd (cc)
+third-true false false false false g f h i = absurd (cc)
+third-true false false true e g f h i = absurd (cc)
 
 both-true : (a b : Bool) → a ≡ true → b ≡ true → (a && b) ≡ true
 both-true true b e f = f
@@ -33,17 +34,19 @@ both-true false b e f = absurd (cc)
 
 over-test : (d : Delivered) (s : Stretch) → IsOver d s → is_overtaken d s ≡ true
 over-test d s (inl earlier) =
-    first-true (nat_lt s.last d.xmit_ts) (d.xmit_ts == s.last && nat_lt s.end d.end_seq) (not s.is_again && nat_lt s.end d.fack)
+    first-true (nat_lt s.last d.xmit_ts) (d.xmit_ts == s.last && nat_lt s.end d.end_seq) (not s.is_again && nat_lt s.end d.fack && nat_lt 0 d.end_seq)
     (grind (arith, nat_tests, earlier))
 over-test d s (inr (inl tied)) =
     let same : d.xmit_ts ≡ s.last = tied.0 in
     let less : s.end < d.end_seq = tied.1 in
-    second-true (nat_lt s.last d.xmit_ts) (d.xmit_ts == s.last) (nat_lt s.end d.end_seq) (not s.is_again && nat_lt s.end d.fack)
+    second-true (nat_lt s.last d.xmit_ts) (d.xmit_ts == s.last) (nat_lt s.end d.end_seq)
+    (not s.is_again && nat_lt s.end d.fack && nat_lt 0 d.end_seq)
     (grind (arith, nat_tests, same)) (grind (arith, nat_tests, less))
 over-test d s (inr (inr fresh)) =
     let less : s.end < d.fack = fresh.1 in
-    third-true (nat_lt s.last d.xmit_ts) (d.xmit_ts == s.last && nat_lt s.end d.end_seq) s.is_again (nat_lt s.end d.fack)
-    (fresh.0) (grind (arith, nat_tests, less))
+    let some : 0 < d.end_seq = fresh.2 in
+    third-true (nat_lt s.last d.xmit_ts) (d.xmit_ts == s.last && nat_lt s.end d.end_seq) s.is_again (nat_lt s.end d.fack) (nat_lt 0 d.end_seq)
+    (fresh.0) (grind (arith, nat_tests, less)) (grind (arith, nat_tests, some))
 
 lost-test : (d : Delivered) (window now : ℕ) (s : Stretch) → IsOver d s → s.last + d.rtt + window ≤ now → is_lost d window now s ≡ true
 lost-test d window now s o waited =
@@ -69,13 +72,13 @@ over-first d s next h (inr (inl tied)) =
     tied-one d s (max s.last next.last) (nat_lt s.last (max s.last next.last)) refl (omega arith) (tied.0) (omega (arith, less, h))
 over-first d s next h (inr (inr fresh)) =
     let less : next.end < d.fack = fresh.1 in
-    inr (inr ((neither s.is_again next.is_again (fresh.0)).0, omega (arith, less, h)))
+    inr (inr ((neither s.is_again next.is_again (fresh.0)).0, omega (arith, less, h), fresh.2))
 
 over-second : (d : Delivered) (s next : Stretch) → IsOver d (joined s next) → IsOver d next
 over-second d s next (inl earlier) = inl (omega (arith, earlier))
 over-second d s next (inr (inl tied)) =
     tied-one d next (max s.last next.last) (nat_lt next.last (max s.last next.last)) refl (omega arith) (tied.0) (tied.1)
-over-second d s next (inr (inr fresh)) = inr (inr ((neither s.is_again next.is_again (fresh.0)).1, fresh.1))
+over-second d s next (inr (inr fresh)) = inr (inr ((neither s.is_again next.is_again (fresh.0)).1, fresh.1, fresh.2))
 
 pub joining_lem : JoiningIsNoLoss
 joining_lem d window now s next h e =

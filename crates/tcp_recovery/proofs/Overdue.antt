@@ -16,28 +16,43 @@ use Rattle.tcp_recovery.proofs.Told.{IsHighest, IsLatest, IsTold, told}
 -- ---- what the test of a stretch says
 abbrev pub IsOver : Delivered → Stretch → Type 0
 IsOver d s =
-    (s.last < d.xmit_ts) ⊎ ((((d.xmit_ts ≡ s.last) × (s.end < d.end_seq)) ⊎ ((s.is_again ≡ false) × (s.end < d.fack))))
+    (s.last < d.xmit_ts)
+    ⊎ ((((d.xmit_ts ≡ s.last) × (s.end < d.end_seq)) ⊎ ((s.is_again ≡ false) × (s.end < d.fack) × (0 < d.end_seq))))
 
-over-by : (d : Delivered) (s : Stretch) (a b c e r : Bool) → nat_lt s.last d.xmit_ts ≡ a → (d.xmit_ts == s.last) ≡ b → nat_lt s.end d.end_seq ≡ c
-    → nat_lt s.end d.fack ≡ e → s.is_again ≡ r → (a || (b && c) || (not r && e)) ≡ true → IsOver d s
-over-by d s true b c e r ea eb ec ee er h = inl (grind (arith, nat_tests, ea))
-over-by d s false true true e r ea eb ec ee er h = inr (inl (grind (arith, nat_tests, eb), grind (arith, nat_tests, ec)))
-over-by d s false true false true false ea eb ec ee er h = inr (inr (er, grind (arith, nat_tests, ee)))
-over-by d s false true false true true ea eb ec ee er h = absurd (cc)
-over-by d s false true false false false ea eb ec ee er h = absurd (cc)
-over-by d s false true false false true ea eb ec ee er h = absurd (cc)
-over-by d s false false c true false ea eb ec ee er h = inr (inr (er, grind (arith, nat_tests, ee)))
-over-by d s false false c true true ea eb ec ee er h = absurd (cc)
-over-by d s false false c false false ea eb ec ee er h = absurd (cc)
-over-by d s false false c false true ea eb ec ee er h = absurd (cc)
-
-pub over : (d : Delivered) (s : Stretch) → is_overtaken d s ≡ true → IsOver d s
-over d s h =
-    over-by d s (nat_lt s.last d.xmit_ts) (d.xmit_ts == s.last) (nat_lt s.end d.end_seq) (nat_lt s.end d.fack) s.is_again refl refl refl refl refl h
+any-of : (a b c : Bool) → (a || b || c) ≡ true → (a ≡ true) ⊎ ((b ≡ true) ⊎ (c ≡ true))
+any-of true b c h = inl refl
+any-of false true c h = inr (inl refl)
+any-of false false c h = inr (inr h)
 
 both : (a b : Bool) → (a && b) ≡ true → (a ≡ true) × (b ≡ true)
 both true b e = (refl, e)
 both false b e = absurd (cc)
+
+is-false : (a : Bool) → not a ≡ true → a ≡ false
+is-false true e = absurd (cc)
+is-false false e = refl
+
+over-by : (d : Delivered) (s : Stretch)
+    → (nat_lt s.last d.xmit_ts ≡ true)
+    ⊎ (((d.xmit_ts == s.last && nat_lt s.end d.end_seq) ≡ true) ⊎ ((not s.is_again && nat_lt s.end d.fack && nat_lt 0 d.end_seq) ≡ true))
+    → IsOver d s
+over-by d s (inl e) = inl (grind (arith, nat_tests, e))
+over-by d s (inr (inl e)) =
+    let t = both (d.xmit_ts == s.last) (nat_lt s.end d.end_seq) e in
+    let same : (d.xmit_ts == s.last) ≡ true = t.0 in
+    let less : nat_lt s.end d.end_seq ≡ true = t.1 in
+    inr (inl (grind (arith, nat_tests, same), grind (arith, nat_tests, less)))
+over-by d s (inr (inr e)) =
+    let t = both (not s.is_again && nat_lt s.end d.fack) (nat_lt 0 d.end_seq) e in
+    let tests = both (not s.is_again) (nat_lt s.end d.fack) (t.0) in
+    let less : nat_lt s.end d.fack ≡ true = tests.1 in
+    let some : nat_lt 0 d.end_seq ≡ true = t.1 in
+    inr (inr (is-false s.is_again (tests.0), grind (arith, nat_tests, less), grind (arith, nat_tests, some)))
+
+pub over : (d : Delivered) (s : Stretch) → is_overtaken d s ≡ true → IsOver d s
+over d s h =
+    over-by d s
+    (any-of (nat_lt s.last d.xmit_ts) (d.xmit_ts == s.last && nat_lt s.end d.end_seq) (not s.is_again && nat_lt s.end d.fack && nat_lt 0 d.end_seq) h)
 
 pub record IsLost (d : Delivered) (window now : ℕ) (s : Stretch) : Type 0 where
   pub over : IsOver d s

@@ -1,11 +1,11 @@
 -- What deliveries tell is true: something was delivered that was sent at RACK.xmit_ts or later.
 use Rattle.std.proofs.Common.{◌≡◌, ℕ, suc, ◌+◌, ◌-◌, ◌/◌, ◌<◌, ◌≤◌, inl, inr, Bool, true, false, List, [], ◌∷◌, arith, refl, subst}
-use Rattle.std.specs.Prelude.{◌⊎◌, ◌==◌, min, max, nat_lt, nat_le, if◌then◌else◌}
+use Rattle.std.specs.Prelude.{◌⊎◌, ◌==◌, ◌&&◌, min, max, nat_lt, nat_le, if◌then◌else◌}
 use Rattle.std.proofs.lemmas.Bool.Decides.{nat_tests}
 use Rattle.tcp_recovery.specs.declared.stretch.Stretch.{Stretch}
 use Rattle.tcp_recovery.specs.declared.delivered.Delivered.{Delivered}
 use Rattle.tcp_recovery.specs.Stretches.{AreInOrder, appended, before, between, cut_out, fitted, without}
-use Rattle.tcp_recovery.specs.Delivered.{after_delivery, after_deliveries, after_spurious, is_ambiguous, is_later, with_latest, with_order}
+use Rattle.tcp_recovery.specs.Delivered.{after_delivery, after_deliveries, after_spurious, is_ambiguous, is_later, with_latest, with_order, with_trip}
 use Rattle.tcp_recovery.specs.Rack.{Flight, IsFlight}
 use Rattle.tcp_recovery.specs.History.{Event, Sent, Received, Recovered, Settled, IsIn, AreOrderly, SentLast, IsDelivered, flight_after}
 use Rattle.tcp_recovery.proofs.Order.{before-order, behind-order}
@@ -85,10 +85,15 @@ pub record IsTold (events : List Event) (d : Delivered) : Type 0 where
   pub latest : ((d.xmit_ts ≡ 0) × (d.end_seq ≡ 0)) ⊎ IsLatest events d.xmit_ts d.end_seq
   pub highest : (d.fack ≡ 0) ⊎ IsHighest events d.fack
 
-latest-by : (events : List Event) (d : Delivered) (part : Stretch) (now : ℕ) (b : Bool) → IsTold events d → IsLatest events part.first part.end
-    → IsTold events (if b then record d { xmit_ts = part.first; end_seq = part.end; rtt = now - part.first } else d)
-latest-by events d part now true t n = record { latest = inr n; highest = t.highest }
-latest-by events d part now false t n = t
+trip-by : (events : List Event) (d : Delivered) (part : Stretch) (now : ℕ) (b : Bool) → IsTold events d
+    → IsTold events (if b then d else record d { rtt = now - part.first })
+trip-by events d part now true t = t
+trip-by events d part now false t = record { latest = t.latest; highest = t.highest }
+
+latest-by : (events : List Event) (d : Delivered) (part : Stretch) (b : Bool) → IsTold events d → IsLatest events part.first part.end
+    → IsTold events (if b then record d { xmit_ts = part.first; end_seq = part.end } else d)
+latest-by events d part true t n = record { latest = inr n; highest = t.highest }
+latest-by events d part false t n = t
 
 greater : (events : List Event) (fack end : ℕ) (b : Bool) → nat_lt fack end ≡ b → (fack ≡ 0) ⊎ IsHighest events fack → IsHighest events end
     → (max fack end ≡ 0) ⊎ IsHighest events (max fack end)
@@ -114,10 +119,14 @@ spurious events d next false t = record { latest = t.latest; highest = t.highest
 
 delivery-by : (events : List Event) (d : Delivered) (part : Stretch) (now next : ℕ) (b : Bool) → IsTold events d → IsLatest events part.first part.end
     → IsHighest events part.end
-    → IsTold events (if b then after_spurious d part.start next else with_order (with_latest d part now) part)
-delivery-by events d part now next true t n h = spurious events d next (nat_lt part.start d.round) t
+    → IsTold events (with_order (if b then after_spurious d part.start next else with_latest (with_trip d part now) part) part)
+delivery-by events d part now next true t n h =
+    ordered events (after_spurious d part.start next) part (spurious events d next (nat_lt part.start d.round) t) h
 delivery-by events d part now next false t n h =
-    ordered events (with_latest d part now) part (latest-by events d part now (is_later part.first part.end d.xmit_ts d.end_seq) t n) h
+    let e : Delivered = with_trip d part now in
+    ordered events (with_latest e part) part
+    (latest-by events e part (is_later part.first part.end e.xmit_ts e.end_seq)
+    (trip-by events d part now (part.first == 0 && nat_lt 0 d.end_seq) t) n) h
 
 -- the calls before, and one more
 pub more : (start end now min_rtt : ℕ) (earlier : List Event) (d : Delivered) → IsTold earlier d → IsTold (Received start end now min_rtt ∷ earlier) d

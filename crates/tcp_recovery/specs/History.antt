@@ -29,7 +29,7 @@ IsIn number start end = (start ≤ number) × (number < end)
 abbrev pub IsOut : ℕ → ℕ → ℕ → Type 0
 IsOut number start end = (number < start) ⊎ (end ≤ number)
 
--- SENT LAST at a time
+-- SENT LAST at a time: Segment.xmit_ts (RFC 8985, 5.2)
 abbrev pub SentLast : ℕ → ℕ → List Event → Type 0
 SentLast number at [] = ⊥
 SentLast number at (Sent start count now min_rtt ∷ earlier) =
@@ -38,7 +38,7 @@ SentLast number at (Received start end now min_rtt ∷ earlier) = SentLast numbe
 SentLast number at (Settled start end ∷ earlier) = SentLast number at earlier
 SentLast number at (Recovered ∷ earlier) = SentLast number at earlier
 
--- OUTSTANDING: sent last at a time, and not reported as received since
+-- OUTSTANDING (RFC 8985, 5.2): sent last at a time, and not reported as received since
 abbrev pub IsOutstanding : ℕ → ℕ → List Event → Type 0
 IsOutstanding number at [] = ⊥
 IsOutstanding number at (Sent start count now min_rtt ∷ earlier) =
@@ -47,7 +47,7 @@ IsOutstanding number at (Received start end now min_rtt ∷ earlier) = IsOut num
 IsOutstanding number at (Settled start end ∷ earlier) = IsOut number start end × IsOutstanding number at earlier
 IsOutstanding number at (Recovered ∷ earlier) = IsOutstanding number at earlier
 
--- DELIVERED: reported as received, when it had been sent last at a time
+-- DELIVERED (RFC 8985, 6.2, step 2): reported as received, when it had been sent last at a time
 abbrev pub IsDelivered : ℕ → ℕ → List Event → Type 0
 IsDelivered number at [] = ⊥
 IsDelivered number at (Sent start count now min_rtt ∷ earlier) = IsDelivered number at earlier

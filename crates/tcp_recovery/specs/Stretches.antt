@@ -2,15 +2,16 @@
 use Rattle.std.specs.Prelude.{ℕ, ◌+◌, ◌-◌, ◌<◌, ◌≤◌, ◌==◌, ◌++◌, ◌&&◌, ◌||◌, not, min, max, Bool, true, false, nat_lt, nat_le, if◌then◌else◌, List, [], ◌∷◌, length, Option, Some, None}
 use Rattle.tcp_recovery.specs.declared.stretch.Stretch.{Stretch}
 
--- so many are kept
+-- so many are kept (own)
 abbrev pub max_stretches : ℕ
 max_stretches = 64
 
--- what is sent at a time
+-- what is sent at a time (RFC 8985, 5.2: Segment.xmit_ts, Segment.end_seq and Segment.retransmitted)
 abbrev pub segment : ℕ → ℕ → ℕ → Bool → Stretch
 segment start end now is_again = record { start = start; end = end; first = now; last = now; is_again = is_again }
 
--- ---- PARTS: what of the stretches is before a position, and what is from one on
+-- ---- PARTS (RFC 8985, 6.2, steps 2 and 3, for what is newly acknowledged): what of the stretches is before a
+-- position, and what is from one on
 abbrev pub before : ℕ → List Stretch → List Stretch
 before at [] = []
 before at (s ∷ later) = if nat_lt s.start at then record s { end = min s.end at } ∷ before at later else before at later
@@ -37,8 +38,8 @@ abbrev pub are_first : ℕ → ℕ → List Stretch → Bool
 are_first start end [] = false
 are_first start end (s ∷ later) = nat_le start s.start && nat_lt end s.end
 
--- ---- SENT. New text extends the last stretch where it follows it within a span of its first, and is one of its own
--- otherwise
+-- ---- SENT (RFC 8985, 6.1). New text extends the last stretch where it follows it within a span of its first time
+-- (own), and is one of its own otherwise
 abbrev pub extends : Stretch → ℕ → ℕ → ℕ → Bool
 extends s start now span = not s.is_again && s.end == start && nat_le now (s.first + span)
 
@@ -50,12 +51,12 @@ appended start end now span [] = segment start end now false ∷ []
 appended start end now span (s ∷ []) = if extends s start now span then followed_by s end now ∷ [] else s ∷ segment start end now false ∷ []
 appended start end now span (s ∷ next ∷ later) = s ∷ appended start end now span (next ∷ later)
 
--- what goes out again is a stretch of its own, cut out of those that had it
+-- what goes out again is a stretch of its own, cut out of those that had it (RFC 8985, 6.1)
 abbrev pub cut_out : ℕ → ℕ → ℕ → List Stretch → List Stretch
 cut_out start end now all = before start all ++ segment start end now true ∷ behind end all
 
--- ---- JOINED. Two neighbours as one: with the later time, so that it is found lost later, never earlier. Where numbers
--- between them have come it isn't known when these were sent
+-- ---- JOINED (own). Two neighbours as one: with the later time, so that it is found lost later, never earlier. It has
+-- the gap between them as well, whose numbers have come, and of which it isn't known when they were sent
 abbrev pub joined : Stretch → Stretch → Stretch
 joined s next = record {
   start = s.start;

@@ -1,20 +1,21 @@
 ghost use Rattle.std.specs.Prelude.{ℕ, ◌≡◌, ◌≤◌};
-ghost use Rattle.tcp_recovery.specs.Delivered.{after_deliveries, after_delivery, after_recovery, after_spurious, new_delivered, reo_wnd_of, with_latest};
+ghost use Rattle.tcp_recovery.specs.Delivered.{after_deliveries, after_delivery, after_recovery, after_spurious, new_delivered, reo_wnd_of, with_latest, with_order, with_trip};
 ghost use Rattle.tcp_recovery.specs.Stretches.{AreInOrder, between};
 
 use crate::stretch::Stretch;
 
-/// No reordering window is longer than so many quarters of a round trip.
+/// No reordering window is longer than so many quarters of a round trip: the project's own choice.
 const MAX_MULT: u64 = 64;
 
 /// What deliveries have told (RFC 8985, 5.3). Positions and times are those of [`Rack`](crate::Rack).
 #[derive(Clone, Copy, Debug, PartialEq, Eq)]
 pub struct Delivered {
-    /// RACK.xmit_ts: something was delivered that was sent then or later. 0 before anything was.
+    /// RACK.xmit_ts, in microseconds: something was delivered that was sent then or later. 0 before anything was of
+    /// which that is known.
     pub xmit_ts: u64,
-    /// RACK.end_seq: the position after it.
+    /// RACK.end_seq: the position after it, and 0 before there is one.
     pub end_seq: u64,
-    /// RACK.rtt: so long it took at most, in microseconds.
+    /// RACK.rtt, in microseconds: what was delivered last, of all of which that is known, took so long at most.
     pub rtt: u64,
     /// RACK.fack: the highest position before which anything was delivered.
     pub fack: u64,
@@ -49,16 +50,12 @@ impl Delivered {
     pub(crate) fn after(self, part: Stretch, now: u64, min_rtt: u64, next: u64) -> Delivered
         ensures { result ≡ after_delivery self part now min_rtt next }
     {
-        if part.is_again && now.saturating_sub(part.last) < min_rtt {
-            return self.after_spurious(part.start, next);
-        }
-        let seen = !part.is_again && part.end < self.fack;
-        let told = self.with_latest(part, now);
-        Delivered {
-            fack: self.fack.max(part.end),
-            reordering_seen: self.reordering_seen || seen,
-            ..told
-        }
+        let told = if part.is_again && now.saturating_sub(part.last) < min_rtt {
+            self.after_spurious(part.start, next)
+        } else {
+            self.with_trip(part, now).with_latest(part)
+        };
+        told.with_order(part)
     }
 
     /// What was sent again had been delivered before (RFC 8985, 6.2, step 4).
@@ -76,19 +73,43 @@ impl Delivered {
         }
     }
 
-    /// The part is what was sent last of all that was delivered (RFC 8985, 6.2, step 2).
-    fn with_latest(self, part: Stretch, now: u64) -> Delivered
-        ensures { result ≡ with_latest self part now }
+    /// How long the part took at most, where it is known when it was sent (RFC 8985, 6.2, step 2).
+    fn with_trip(self, part: Stretch, now: u64) -> Delivered
+        ensures { result ≡ with_trip self part now }
+    {
+        if part.first == 0 && self.end_seq > 0 {
+            return self;
+        }
+        Delivered {
+            rtt: now.saturating_sub(part.first),
+            ..self
+        }
+    }
+
+    /// The part may be what was sent last of all that was delivered (RFC 8985, 6.2, step 2).
+    fn with_latest(self, part: Stretch) -> Delivered
+        ensures { result ≡ with_latest self part }
     {
         if part.first > self.xmit_ts || (part.first == self.xmit_ts && part.end > self.end_seq) {
             return Delivered {
                 xmit_ts: part.first,
                 end_seq: part.end,
-                rtt: now.saturating_sub(part.first),
                 ..self
             };
         }
         self
+    }
+
+    /// The part may be the highest that was delivered, or show reordering (RFC 8985, 6.2, step 3).
+    fn with_order(self, part: Stretch) -> Delivered
+        ensures { result ≡ with_order self part }
+    {
+        let seen = !part.is_again && part.end < self.fack;
+        Delivered {
+            fack: self.fack.max(part.end),
+            reordering_seen: self.reordering_seen || seen,
+            ..self
+        }
     }
 
     /// What of these stretches is from one position on and before another was delivered.

@@ -1,5 +1,5 @@
 //! Which stretches are lost (RFC 8985, 6.2, step 5).
-ghost use Rattle.std.specs.Prelude.{◌≡◌, Option, ℕ, None};
+ghost use Rattle.std.specs.Prelude.{◌≡◌, Option, ℕ, Some};
 ghost use Rattle.tcp_recovery.specs.Rack.{deadline_of, is_lost, is_overtaken, lost_in, sooner};
 
 use crate::delivered::Delivered;
@@ -11,7 +11,7 @@ fn is_overtaken(d: &Delivered, s: &Stretch) -> bool
 {
     s.last < d.xmit_ts
         || (s.last == d.xmit_ts && s.end < d.end_seq)
-        || (!s.is_again && s.end < d.fack)
+        || (!s.is_again && s.end < d.fack && d.end_seq > 0)
 }
 
 /// Whether it is lost.
@@ -39,7 +39,7 @@ pub(crate) fn lost_in(d: &Delivered, all: &[Stretch], reo_wnd: u64, now: u64) ->
 
 /// The sooner of two times.
 fn sooner(at: Option<u64>, time: u64) -> Option<u64>
-    ensures { result ≡ sooner at time }
+    ensures { result ≡ sooner at (Some time) }
 {
     match at {
         None => Some(time),
@@ -47,9 +47,9 @@ fn sooner(at: Option<u64>, time: u64) -> Option<u64>
     }
 }
 
-/// When the next one is lost.
+/// When the next one is lost: the soonest of the times at which one is.
 pub(crate) fn deadline_of(d: &Delivered, all: &[Stretch], reo_wnd: u64) -> Option<u64>
-    ensures { result ≡ deadline_of d.now reo_wnd None all.now }
+    ensures { result ≡ deadline_of d.now reo_wnd all.now }
 {
     let mut at = None;
     for s in all {

@@ -1,15 +1,15 @@
 ghost use Rattle.std.specs.Prelude.{◌≡◌, ◌<◌, min, max};
 ghost use Rattle.tcp_recovery.specs.Stretches.{distance, extends, followed_by, joined, segment};
 
-/// A stretch of what is in flight: the numbers from `start` on and before `end`, with the times at which they were sent last
-/// (RFC 8985, 5.2, has them for each segment).
+/// A stretch of what is in flight: the numbers from `start` on and before `end`, with the times at which they were sent
+/// last, in microseconds (RFC 8985, 5.2, has them for each segment).
 #[derive(Clone, Copy, Debug, Default, PartialEq, Eq)]
 pub struct Stretch {
     /// The position of its first number.
     pub start: u64,
     /// The position after its last number.
     pub end: u64,
-    /// None of it was sent before this.
+    /// None of it was sent before this: 0 where that isn't known, as of stretches that were joined over a gap.
     pub first: u64,
     /// None of it was sent after this: Segment.xmit_ts.
     pub last: u64,

@@ -143,8 +143,8 @@ pub(crate) fn place_again(all: &mut ArrayVec<Stretch, ROOM>, start: u64, end: u6
     fit(all);
 }
 
-/// Removes the numbers from `start` on and before `end`. Mostly they are the first of the first stretch, and no other one is
-/// touched.
+/// Removes the numbers from `start` on and before `end`. Mostly they are the first of the first stretch, and no other
+/// one is touched.
 pub(crate) fn remove(all: &mut ArrayVec<Stretch, ROOM>, start: u64, end: u64)
     requires order { (to : ℕ) × AreInOrder 0 to all.old.items }
     requires some { start < end }

@@ -1,11 +1,12 @@
 //! What is in flight and what of it is lost, for tests: reads calls, a line each, and answers each.
-//! - `rack` begins with nothing in flight. `sent START COUNT NOW MIN_RTT`, `received START END NOW MIN_RTT`, `settled START
-//!   END` and `recovered` answer RACK.xmit_ts, RACK.end_seq, RACK.rtt, RACK.fack and RACK.reo_wnd_mult, and `reordered` once
-//!   reordering was seen.
+//! - `rack` begins with nothing in flight. `sent START COUNT NOW MIN_RTT`, `received START END NOW MIN_RTT`, `settled
+//!   START END` and `recovered` answer RACK.xmit_ts, RACK.end_seq, RACK.rtt, RACK.fack and RACK.reo_wnd_mult, and
+//!   `reordered` once reordering was seen.
 //! - `window SRTT MIN_RTT CERTAIN` answers the reordering window, `lost WINDOW NOW` the first stretch that is lost, and
 //!   `deadline WINDOW` when the next one is.
-//! - `probe` begins with no probe; `start NOW SRTT ONE RTO_AT`, with a SRTT of 0 where none was measured, `stop`, `probed NXT
-//!   AGAIN` and `acked UNA DUPLICATE` answer when the probe is sent, and `repaired` where it has repaired a loss.
+//! - `probe` begins with no probe; `start NOW SRTT ONE RTO_AT`, with a SRTT of 0 where none is known, `stop`,
+//!   `recovering`, `measured`, `probed NXT AGAIN` and `acked UNA BOTH_CAME` answer when the probe is sent, and `repaired`
+//!   where it has repaired a loss.
 #![tactic(auto)]
 
 mod probing;
@@ -30,7 +31,7 @@ fn answer_line(
     let rest = rest.unwrap_or(b"");
     match word {
         b"window" | b"lost" | b"deadline" => answer_found(rack, word, rest, answers)?,
-        b"probe" | b"start" | b"stop" | b"probed" | b"acked" => {
+        b"probe" | b"start" | b"stop" | b"recovering" | b"measured" | b"probed" | b"acked" => {
             answer_probe(probe, word, rest, answers)?;
         }
         _ => answer_rack(rack, word, rest, answers)?,

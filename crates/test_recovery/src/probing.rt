@@ -16,6 +16,8 @@ pub(crate) fn answer_probe(
     match word {
         b"probe" => *probe = Probe::new(),
         b"stop" => probe.stop(),
+        b"recovering" => probe.recovering(),
+        b"measured" => probe.measured(),
         b"start" => {
             let (now, rest) = first_number(rest)?;
             let (srtt, rest) = first_number(rest)?;
