@@ -1,7 +1,7 @@
 # What stands behind the gate, and what each check waits for: checks/behind.sh runs it, as many at once as there are processors.
 # A check waits for the builds that it takes, and for those that write into the same folder, or read the whole tree while it writes. What
-# runs against the clocks of a kernel and of other programs waits for all that isn't, and runs alone but for what is of one thread, and once
-# more where it fails.
+# runs against the clocks of a kernel and of other programs waits for all that isn't, and runs beside nothing but what is of one thread or
+# gives way to it, and once more where it fails.
 
 top := $(CURDIR)
 prebuilt := $(top)/c/dist/out/prebuilt
@@ -20,8 +20,8 @@ beside := release judge page site
 .PHONY: all $(wrong) $(builds) $(steady) $(clocked) $(beside)
 all: $(wrong) $(builds) $(steady) $(clocked) $(beside)
 
-# Beside all others, on what they leave of the processors, since nothing waits for them. Those of the libraries for C go on with what the
-# builds have proved of these.
+# Beside all others, on what they leave of the processors: no check waits for them. Those of the libraries for C go on with what the builds
+# have proved of these.
 wrong_bodies: ; nice -n 19 python3 checks/gate/wrong_bodies.py --rust
 wrong_bodies_for_c: | $(builds) ; nice -n 19 python3 checks/gate/wrong_bodies.py --c
 

@@ -1,9 +1,10 @@
-"""Runs a tcpjudge on stored cases and random logs: python3 judge_cases.py FIRST COUNT PROGRAM [PROVED]. The words and files of
+"""Runs a tcpjudge on stored cases and random logs: python3 judge_cases.py [--numbers FIRST COUNT] PROGRAM [PROVED]. The words and files of
 checks/program/judge_statuses and capture_statuses have their statuses, the log of crates/tcpjudge its report, and the captures of
 checks/judge/captures.py theirs, as a file and as the standard input; and on random logs, whole and with a digit of what went changed, the
 program says what the second program of checks/differential does. With PROVED, the program that crates/tcpjudge is built to, both write and
-answer the same to the letter on all these captures, those of checks/judge/data, spoiled ones and random words. So many as COUNT are
-spoiled and random, a quarter of them logs, from the number FIRST on. Ends with 1 where the program writes or answers anything else.
+answer the same to the letter on all these captures, those of checks/judge/data, spoiled ones and random words. COUNT captures are spoiled, COUNT commands
+and a quarter as many logs are random, by the numbers from FIRST on: 600 from 0 on where none are given. Ends with 1 where the program
+writes or answers anything else.
 """
 
 import pathlib
@@ -22,8 +23,11 @@ from conversation import end_log  # noqa: E402
 
 STATUSES = TOP / "checks/program"
 DATA = TOP / "checks/judge/data"
-NUMBERS = range(int(sys.argv[1]), int(sys.argv[1]) + int(sys.argv[2]))
-PROGRAM, *PROVED = (str(pathlib.Path(word).resolve()) for word in sys.argv[3:])
+PLACES, NUMBERS = sys.argv[1:], range(600)
+if PLACES[:1] == ["--numbers"]:
+    FIRST, COUNT, PLACES = int(PLACES[1]), int(PLACES[2]), PLACES[3:]
+    NUMBERS = range(FIRST, FIRST + COUNT)
+PROGRAM, *PROVED = (str(pathlib.Path(word).resolve()) for word in PLACES)
 # Words that a random command has, of both forms, right and wrong.
 WORDS = ["--at", "--at=10.0.0.2", "--at=", "10.0.0.2", "::1", "10.0.0", "", "-", "-x", "--", "--json", "--json=yes", "--complete", "--complete=", "--color",
          "--color=never", "--color=always", "always", "never", "auto", "--colour", "--help", "-h", "-hx", "--help=1", "--js", "{}", "{}", "{}", "no such file"]

@@ -31,7 +31,7 @@ done
 # Both programs on all cases, by their words in tested.NAME, and on random ones: the number of the first, and how many.
 stored() {
     python3 cases.py "$out/tested.tcpkit"
-    python3 judge_cases.py "$1" "$2" "$out/tested.tcpjudge" "${proved[@]}"
+    python3 judge_cases.py --numbers "$1" "$2" "$out/tested.tcpjudge" "${proved[@]}"
     passed=$((passed + 2))
 }
 
@@ -60,7 +60,7 @@ little_memory() {
     pass
 }
 
-# The programs that a compiler makes with its words, behind the numbers of the random cases.
+# FIRST COUNT COMPILER WORDS..: the programs that a compiler makes with these words, on COUNT random cases from the number FIRST on.
 cases() {
     local first=$1 count=$2 program
     shift 2
@@ -70,7 +70,7 @@ cases() {
     stored "$first" "$count"
 }
 
-# The same of another machine, under its runner.
+# FIRST COUNT RUNNER COMPILER WORDS..: the same of another machine, under its runner.
 cases_under() {
     local first=$1 count=$2 runner=$3 program
     shift 3
@@ -99,26 +99,26 @@ machine_code() {
 }
 
 translated() {
-    cases 0 600 gcc -O2 -DTCPCORE_PORTABLE
+    cases 1050 600 gcc -O2 -DTCPCORE_PORTABLE
     is_machine_code "$out/tested.tcpkit" no
     is_machine_code "$out/tested.tcpjudge" no
     random 30 10
 }
 
 sanitized() {
-    cases 1050 150 gcc -g -O1 -fsanitize=address,undefined -fno-sanitize-recover=all
-    cases 1200 150 gcc -g -O1 -DTCPCORE_PORTABLE -fsanitize=address,undefined -fno-sanitize-recover=all
+    cases 1650 600 gcc -g -O1 -fsanitize=address,undefined -fno-sanitize-recover=all
+    cases 2250 600 gcc -g -O1 -DTCPCORE_PORTABLE -fsanitize=address,undefined -fno-sanitize-recover=all
 }
 
 emulated() {
-    if has_aarch64; then cases_under 1350 150 qemu-aarch64-static aarch64-linux-gnu-gcc; fi
+    if has_aarch64; then cases_under 2850 150 qemu-aarch64-static aarch64-linux-gnu-gcc; fi
     if has qemu-user-static qemu-s390x-static --version && has gcc-s390x-linux-gnu s390x-linux-gnu-gcc --version &&
         has libc6-dev-s390x-cross test -e /usr/s390x-linux-gnu/include/stdio.h; then
-        cases_under 1500 150 qemu-s390x-static s390x-linux-gnu-gcc
+        cases_under 3000 150 qemu-s390x-static s390x-linux-gnu-gcc
     fi
     if has qemu-user-static qemu-arm-static --version && has gcc-arm-linux-gnueabihf arm-linux-gnueabihf-gcc --version &&
         has libc6-dev-armhf-cross test -e /usr/arm-linux-gnueabihf/include/stdio.h; then
-        cases_under 1650 150 qemu-arm-static arm-linux-gnueabihf-gcc
+        cases_under 3150 150 qemu-arm-static arm-linux-gnueabihf-gcc
     fi
 }
 

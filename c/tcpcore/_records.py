@@ -220,10 +220,10 @@ class Policy(NamedTuple):
     """When an acknowledgement and a small segment of a connection go out (RFC 9293, 3.7.4 and 3.8.6; RFC 5961, 7); times are seconds.
 
     `ack_delay` is how long an acknowledgement of text waits for a second full segment, less than 0.5 s; 0 is not at all. `override_timeout`
-    is how long text that isn't worth a segment waits since nothing but its size has held it back: until then no small segment goes into a
-    small window, and none goes out just for a window that opened by little; with None no text waits, and silly windows aren't avoided. With `nagle` text that doesn't fill a
-    segment waits while anything is in flight. Of the acknowledgements that only answer segments without text, SYN and FIN one goes out in
-    `answer_interval`, some seconds at most; with 0 all do."""
+    is how long text that isn't worth a segment waits, counted from when only its size holds it back: until then no small segment goes
+    into a small window, and none goes out just for a window that opened by little; with None no text waits, and silly windows aren't
+    avoided. With `nagle` text that doesn't fill a segment waits while anything is in flight. Of the acknowledgements that only answer
+    segments without text, SYN and FIN one goes out in `answer_interval`, some seconds at most; with 0 all do."""
 
     ack_delay: float = 0.04
     override_timeout: Optional[float] = 0.5

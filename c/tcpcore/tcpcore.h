@@ -987,7 +987,7 @@ struct tcpcore_policy {
     /* How long an acknowledgement of text waits for a second full segment: 40 ms, and less than 500 ms whatever is chosen
        (RFC 9293, 3.8.6.3). 0: none waits. */
     uint64_t ack_delay;
-    /* How long text that isn't worth a segment waits since nothing but its size has held it back, 0.1 to 1 s (RFC 9293,
+    /* How long text that isn't worth a segment waits, counted from when only its size holds it back, 0.1 to 1 s (RFC 9293,
        3.8.6.2): until then no small segment goes into a small window, and none goes out just for a window that opened by
        little. TCPCORE_NEVER: no text waits, and a window that was opened by reading is advertised only where it was shut. */
     uint64_t override_timeout;
@@ -1001,8 +1001,8 @@ struct tcpcore_policy {
     uint32_t reserved[9];
 };
 
-/* Common values: an acknowledgement waits 40 ms, a small segment 0.5 s at most and while anything is in flight, and what brings nothing is
-   answered once in 0.5 s:
+/* Common values: an acknowledgement waits 40 ms, a small segment while anything is in flight, until the override timeout of 0.5 s, and what
+   brings nothing is answered once in 0.5 s:
        struct tcpcore_policy policy = TCPCORE_POLICY_DEFAULT; */
 #define TCPCORE_POLICY_DEFAULT {40000, 500000, 500000, 1, {0}}
 

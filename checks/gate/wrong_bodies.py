@@ -151,14 +151,23 @@ def tried(rt, crate, is_kept):
     return trial
 
 
-def build_below(crates):
+def build(rt, crate):
+    """Builds a library, unless another rt that works in its folder has done so meanwhile."""
+    held = rt.rtlib.lock([crate])
+    if not crate.is_built():
+        with tempfile.TemporaryFile("w+", errors="replace") as crate.out:
+            if crate.build_rlib(["--jobs", "1"], anew=False):
+                crate.out.seek(0)
+                sys.exit(f"wrong bodies: {crate.name} isn't built: {crate.out.read()[-600:]}")
+    for it in held:
+        os.close(it)
+
+
+def build_below(rt, crates):
     """Builds each library below these crates that isn't built, lower ones first: what the gate or 'rt lib' has left is taken as it is."""
     for dep in dict.fromkeys(dep for it in crates for dep in it.below()):
         if not dep.is_built():
-            with tempfile.TemporaryFile("w+", errors="replace") as dep.out:
-                if dep.build_rlib(["--jobs", "1"], anew=False):
-                    dep.out.seek(0)
-                    sys.exit(f"wrong bodies: {dep.name} isn't built: {dep.out.read()[-600:]}")
+            build(rt, dep)
 
 
 def main(words):
@@ -173,7 +182,7 @@ def main(words):
     for kind, is_wanted in ("--rust", lambda it: not it.is_static), ("--c", lambda it: it.is_static):
         found = [it for it in found if kind not in words or is_wanted(it)]
     found = sorted((it for it in found if not names or it.name in names), key=lambda it: -it.count(rb"\n"))
-    build_below(found)
+    build_below(rt, found)
     with ThreadPoolExecutor(rt.processors()) as lanes:
         trials = list(lanes.map(lambda it: tried(rt, it, "--kept" in words), found))
     refused, failed = sum(it.refused for it in trials), sum(len(it.failed) for it in trials)

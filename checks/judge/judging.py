@@ -127,9 +127,9 @@ def first_accused(program, logs, is_complete):
         for log in logs:
             found, status = judges.report(log, is_complete)
             if status == 1:
-                return judges.count, found
+                return judges.count, f"log {judges.count} of these: {found}"
     except (Differs, OSError, subprocess.SubprocessError) as fault:
-        return judges.count, str(fault)
+        return judges.count, f"log {judges.count} of these: {fault}"
     return judges.count, None
 
 

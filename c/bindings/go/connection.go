@@ -317,8 +317,8 @@ func (connection *Connection) Congestion() Congestion {
 type Policy struct {
 	// An acknowledgement of text waits so long for a second full segment, less than 0.5 s whatever is chosen (RFC 9293, 3.8.6.3); 0: none waits.
 	AckDelay time.Duration
-	// Text that isn't worth a segment waits so long since nothing but its size has held it back, 0.1 to 1 s (RFC 9293, 3.8.6.2): until then
-	// no small segment goes into a small window, and none goes out just for a window that opened by little. Never: no text waits, and a
+	// Text that isn't worth a segment waits so long, counted from when only its size holds it back, 0.1 to 1 s (RFC 9293, 3.8.6.2): until
+	// then no small segment goes into a small window, and none goes out just for a window that opened by little. Never: no text waits, and a
 	// window that was opened by reading is advertised only where it was shut.
 	OverrideTimeout time.Duration
 	// Of the acknowledgements that only answer segments without text, SYN and FIN one goes out in so long (RFC 5961, 7), some seconds at
@@ -329,8 +329,8 @@ type Policy struct {
 	Nagle bool
 }
 
-// DefaultPolicy has common values: an acknowledgement waits 40 ms, a small segment 0.5 s at most and while anything is in flight,
-// and what brings nothing is answered once in 0.5 s.
+// DefaultPolicy has common values: an acknowledgement waits 40 ms, a small segment while anything is in flight, until the override timeout of
+// 0.5 s, and what brings nothing is answered once in 0.5 s.
 func DefaultPolicy() Policy {
 	half := 500 * time.Millisecond
 	return Policy{AckDelay: 40 * time.Millisecond, OverrideTimeout: half, AnswerInterval: half, Nagle: true}

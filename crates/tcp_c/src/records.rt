@@ -291,9 +291,9 @@ pub struct CPolicy {
     /// How long an acknowledgement of text waits for a second full segment: 40 ms, and less than 500 ms whatever is chosen (RFC 9293,
     /// 3.8.6.3). 0: none waits.
     pub ack_delay: u64,
-    /// How long text that isn't worth a segment waits since nothing but its size has held it back, 0.1 to 1 s (RFC 9293, 3.8.6.2): until then
-    /// no small segment goes into a small window, and none goes out just for a window that opened by little. TCPCORE_NEVER: no text waits,
-    /// and a window that was opened by reading is advertised only where it was shut.
+    /// How long text that isn't worth a segment waits, counted from when only its size holds it back, 0.1 to 1 s (RFC 9293, 3.8.6.2): until
+    /// then no small segment goes into a small window, and none goes out just for a window that opened by little. TCPCORE_NEVER: no text
+    /// waits, and a window that was opened by reading is advertised only where it was shut.
     pub override_timeout: u64,
     /// Of the acknowledgements that only answer segments without text, SYN and FIN one goes out in so long (RFC 5961, 7). 0: all do.
     pub answer_interval: u64,

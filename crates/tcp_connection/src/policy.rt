@@ -15,9 +15,9 @@ pub struct Policy {
     /// counts only where `override_timeout` is set.
     pub is_nagle: bool,
     /// The override timeout, 0.1 to 1 s, and at least 1 µs (RFC 9293, 3.8.6.2.1): so long text that isn't worth a segment
-    /// waits since nothing but its size has held it back, which begins anew behind whatever else goes out; and silly windows
-    /// are avoided on both sides. `None`: text never waits, and a window that a read has opened is advertised only where it
-    /// was shut, or the user asks for it.
+    /// waits, counted from when only its size holds it back, and anew behind whatever else goes out; and silly windows are
+    /// avoided on both sides. `None`: text never waits, and a window that a read has opened is advertised only where it was
+    /// shut, or the user asks for it.
     pub override_timeout: Option<u64>,
     /// Of the acknowledgements that only answer segments without text, SYN and FIN one goes out in so long (RFC 5961, 7). With
     /// 0 all do.

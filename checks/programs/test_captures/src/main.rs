@@ -1,7 +1,7 @@
 //! Rows of captures: one that tcpdump wrote, read whole and by a window, cut, damaged, and what is no capture.
 #![tactic(auto)]
 
-use capture_form::{Found, Stop, packet_of, read, tcp_of};
+use capture_form::{Form, Found, Stop, packet_of, read, tcp_of};
 use capture_window::{Window, fill, open, pass_record, wire_lengths};
 use kit_io::Counted;
 use std::alloc::{AllocError, Global};
@@ -73,7 +73,7 @@ fn show_lengths(alloc: Global, parts: &[&[u8]], answers: &mut String) -> Result<
         return Err(AllocError);
     };
     let Some(form) = form else {
-        return write!(answers, "no capture, {} left\n", window.bytes().len());
+        return answers.push_str("no capture\n");
     };
     let Ok(found) = wire_lengths(alloc, form, &mut input, &mut window) else {
         return Err(AllocError);
@@ -84,7 +84,23 @@ fn show_lengths(alloc: Global, parts: &[&[u8]], answers: &mut String) -> Result<
     write!(answers, "and {} left\n", window.bytes().len())
 }
 
-/// Two records, one after another: a fill has both, and then there is none.
+/// Takes the record that begins what the window holds, and appends what is left, in decimal.
+fn show_record(
+    form: Form,
+    window: &mut Window,
+    answers: &mut String,
+) -> Result<(), AllocError> {
+    match pass_record(form, window) {
+        Some(wire) => write!(answers, "{wire}, left:")?,
+        None => answers.push_str("no record, left:")?,
+    }
+    for byte in window.bytes() {
+        write!(answers, " {byte}")?;
+    }
+    answers.push_str("\n")
+}
+
+/// Two records, of which the second is there by the first fill, and behind which there is none.
 fn show_records(alloc: Global, answers: &mut String) -> Result<(), AllocError> {
     let bytes = joined(alloc, &[&HEAD, &RECORD, &RECORD])?;
     let mut input = Counted::new(bytes.as_slice());
@@ -92,15 +108,30 @@ fn show_records(alloc: Global, answers: &mut String) -> Result<(), AllocError> {
     let Ok(Some(form)) = open(&mut input, &mut window) else {
         return Err(AllocError);
     };
-    for _ in 0..3 {
-        let Ok(is_record) = fill(form, &mut input, &mut window) else {
-            return Err(AllocError);
-        };
-        let wire = pass_record(form, &mut window).unwrap_or(0);
-        let left = window.bytes().len();
-        write!(answers, "{is_record}: {wire}, {left} left\n")?;
-    }
-    Ok(())
+    let Ok(is_record) = fill(form, &mut input, &mut window) else {
+        return Err(AllocError);
+    };
+    write!(answers, "{is_record}\n")?;
+    show_record(form, &mut window, answers)?;
+    show_record(form, &mut window, answers)?;
+    show_record(form, &mut window, answers)?;
+    let Ok(is_record) = fill(form, &mut input, &mut window) else {
+        return Err(AllocError);
+    };
+    write!(answers, "{is_record}\n")
+}
+
+/// What is no capture stays in the window as it came.
+fn show_text(alloc: Global, answers: &mut String) -> Result<(), AllocError> {
+    let text = b"came 10.0.0.1 10.0.0.2 -\n";
+    let mut input = Counted::new(text.as_slice());
+    let mut window = Window::new(alloc);
+    let Ok(form) = open(&mut input, &mut window) else {
+        return Err(AllocError);
+    };
+    let is_form = form.is_some();
+    let is_left = window.bytes() == text.as_slice();
+    write!(answers, "{is_form} {is_left}\n")
 }
 
 /// All rows.
@@ -112,8 +143,8 @@ fn rows(alloc: Global) -> Result<String, AllocError> {
     show_lengths(alloc, &[&HEAD, &RECORD, &RECORD], &mut answers)?;
     show_lengths(alloc, &[&HEAD, &RECORD, &RECORD[..18]], &mut answers)?;
     show_lengths(alloc, &[&HEAD, &RECORD, &DAMAGED, &RECORD], &mut answers)?;
-    show_lengths(alloc, &[b"came 10.0.0.1 10.0.0.2 -\n"], &mut answers)?;
     show_records(alloc, &mut answers)?;
+    show_text(alloc, &mut answers)?;
     Ok(answers)
 }
 

@@ -12,7 +12,7 @@ pub struct Policy {
     /// How long an acknowledgement of text waits for a second full segment, less than 0.5 s whatever is chosen (RFC 9293, 3.8.6.3). 0: none
     /// waits.
     pub ack_delay: Duration,
-    /// How long text that isn't worth a segment waits since nothing but its size has held it back, 0.1 to 1 s (RFC 9293, 3.8.6.2): until
+    /// How long text that isn't worth a segment waits, counted from when only its size holds it back, 0.1 to 1 s (RFC 9293, 3.8.6.2): until
     /// then no small segment goes into a small window, and none goes out just for a window that opened by little. `None`: no text waits,
     /// and a window that was opened by reading is advertised only where it was shut.
     pub override_timeout: Option<Duration>,
@@ -30,8 +30,8 @@ impl Policy {
         Policy { ack_delay: Duration::ZERO, override_timeout: None, answer_interval: Duration::ZERO, nagle: false }
     }
 
-    /// Common values: an acknowledgement waits 40 ms, a small segment 0.5 s at most and while anything is in flight, and what brings
-    /// nothing is answered once in 0.5 s.
+    /// Common values: an acknowledgement waits 40 ms, a small segment while anything is in flight, until the override timeout of 0.5 s, and
+    /// what brings nothing is answered once in 0.5 s.
     pub const fn standard() -> Policy {
         let half = Duration::from_millis(500);
         Policy { ack_delay: Duration::from_millis(40), override_timeout: Some(half), answer_interval: half, nagle: true }
