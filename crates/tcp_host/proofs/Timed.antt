@@ -4,12 +4,15 @@ use Rattle.std.proofs.lemmas.Bool.{cases_eq, cases_lt}
 use Rattle.std.proofs.lemmas.List.{get_or-set_same, get_or-set_other, get_or_past, length-set}
 use Rattle.std.specs.Prelude.{IfSome, OnOk, option_map}
 use Rattle.std.specs.Result.{is_ok}
-use Rattle.tcp_driver.specs.Driver.{Driving}
-use Rattle.tcp_driver.specs.Times.{next_expiry}
+use Rattle.tcp_driver.specs.declared.machine.Timer.{Timer}
+use Rattle.tcp_driver.specs.declared.machine.Timer.TheVariants.{Retransmit, Reorder, TimeWait, User}
+use Rattle.tcp_driver.specs.Driver.{Driving, after_time, after_time_by}
+use Rattle.tcp_driver.specs.Machine.{Machine}
+use Rattle.tcp_driver.specs.Times.{expiry}
 use Rattle.tcp_table.specs.declared.held.Held.{Held}
 use Rattle.tcp_table.specs.Deadlines.{Times, due_at}
 use Rattle.tcp_table.specs.Table.{Changes, HasKey, Table, held_at, revalued, value_at, with_value}
-use Rattle.tcp_host.specs.Hosting.{IsFor, IsTimed, deadline_at, deadline_of}
+use Rattle.tcp_host.specs.Hosting.{IsFor, IsTimed, deadline_at, deadline_of, due_of}
 use Rattle.std.specs.Option.{IsSomeAnd}
 use Rattle.std.specs.declared.cmp.Ordering.{Ordering}
 use Rattle.tcp_host.specs.Pair.{pair_of}
@@ -20,7 +23,8 @@ pub from_ok : {T E : Type 0} (r : Result T E) (P : Type 0) → is_ok r ≡ true 
 from_ok (Ok x) P e h = h
 from_ok (Err x) P e h = absurd (cc (e))
 
-within : {X : Type 0} (xs : List (Option X)) (i : ℕ) (x : X) → get_or xs i None ≡ Some x → i < length xs
+-- a place that has something is one of the list
+pub within : {X : Type 0} (xs : List (Option X)) (i : ℕ) (x : X) → get_or xs i None ≡ Some x → i < length xs
 within xs i x is = by (cases_lt i (length xs))
   where
     by : (i < length xs) ⊎ (length xs ≤ i) → i < length xs
@@ -36,6 +40,30 @@ put_back ends mid new slot held put free taken at = by (cases_eq at slot)
     by (inl here) = subst (λ k. held_at new k ≡ held_at ends k) (sym here) (taken.changed ∙ sym free)
     by (inr apart) = taken.others at apart ∙ put.others at apart
 
+-- the deadline of a slot whose end has changed
+pub deadline_with : {S : Type 0} (ends : Table Pair (Driving S)) (slot : ℕ) (old : Driving S) → value_at ends slot ≡ Some old
+    → (end : Driving S) → deadline_at (with_value ends slot end) slot ≡ due_of end
+deadline_with {S = S} ends slot old is end = by (held_at ends slot) refl is
+  where
+    by : (o : Option (Held Pair (Driving S))) → held_at ends slot ≡ o → option_map (λ h. h.value) o ≡ Some old
+        → deadline_at (with_value ends slot end) slot ≡ due_of end
+    by None e is = absurd (cc (is))
+    by (Some held) e is =
+        ap (λ o. deadline_of (option_map (λ h. h.value) o))
+        (get_or-set_same ends.slots slot (option_map (revalued end) (held_at ends slot)) None (within ends.slots slot held e)
+        ∙ ap (option_map (revalued end)) e)
+
+-- an end of which a timer has expired isn't due
+pub bursts : {S : Type 0} (m : Machine S) (end : Driving S) (now : ℕ) (timer : Timer) → expiry end.times now ≡ Some timer
+    → due_of (after_time m end now) ≡ None
+bursts m end now timer is = ap (λ o. due_of (after_time_by m end o now)) is ∙ by timer
+  where
+    by : (timer : Timer) → due_of (after_time_by m end (Some timer) now) ≡ None
+    by Retransmit = refl
+    by Reorder = refl
+    by TimeWait = refl
+    by User = refl
+
 module _ {S : Type 0} (ends : Table Pair (Driving S)) (deadlines : Times) (room : ℕ) (is-timed : IsTimed ends deadlines room) where
   -- an end has room for its deadline and its turn
   pub end_timed : (slot : ℕ) (held : Held Pair (Driving S)) → held_at ends slot ≡ Some held → slot < length deadlines
@@ -46,7 +74,7 @@ module _ {S : Type 0} (ends : Table Pair (Driving S)) (deadlines : Times) (room 
 
   -- the end of one slot changes, and its deadline with it
   pub timed_with : (slot : ℕ) (held : Held Pair (Driving S)) → held_at ends slot ≡ Some held → (end : Driving S)
-      → IsTimed (with_value ends slot end) (set deadlines slot (next_expiry end.times)) room
+      → IsTimed (with_value ends slot end) (set deadlines slot (due_of end)) room
   timed_with slot held is end = record { due = due; timed = timed; roomy = roomy }
     where
       new : Table Pair (Driving S)
@@ -63,21 +91,21 @@ module _ {S : Type 0} (ends : Table Pair (Driving S)) (deadlines : Times) (room 
       value : Option (Held Pair (Driving S)) → Option ℕ
       value o = deadline_of (option_map (λ h. h.value) o)
 
-      due : (at : ℕ) → due_at (set deadlines slot (next_expiry end.times)) at ≡ deadline_at new at
+      due : (at : ℕ) → due_at (set deadlines slot (due_of end)) at ≡ deadline_at new at
       due at = by (cases_eq at slot)
         where
-          by : (at ≡ slot) ⊎ (at ≡ slot → ⊥) → due_at (set deadlines slot (next_expiry end.times)) at ≡ deadline_at new at
+          by : (at ≡ slot) ⊎ (at ≡ slot → ⊥) → due_at (set deadlines slot (due_of end)) at ≡ deadline_at new at
           by (inl here) =
-              let there : due_at (set deadlines slot (next_expiry end.times)) slot ≡ next_expiry end.times =
-              get_or-set_same deadlines slot (next_expiry end.times) None (end_timed slot held is) in
-              let now : deadline_at new slot ≡ next_expiry end.times = ap (λ o. deadline_of (option_map (λ h. h.value) o)) changed in
-              subst (λ k. due_at (set deadlines slot (next_expiry end.times)) k ≡ deadline_at new k) (sym here) (there ∙ sym now)
+              let there : due_at (set deadlines slot (due_of end)) slot ≡ due_of end =
+              get_or-set_same deadlines slot (due_of end) None (end_timed slot held is) in
+              let now : deadline_at new slot ≡ due_of end = ap (λ o. deadline_of (option_map (λ h. h.value) o)) changed in
+              subst (λ k. due_at (set deadlines slot (due_of end)) k ≡ deadline_at new k) (sym here) (there ∙ sym now)
           by (inr apart) =
-              get_or-set_other deadlines slot at (next_expiry end.times) None apart ∙ is-timed.due at
+              get_or-set_other deadlines slot at (due_of end) None apart ∙ is-timed.due at
               ∙ ap (λ o. deadline_of (option_map (λ h. h.value) o)) (sym (kept at apart))
 
-      timed : (at : ℕ) → IfSome (held_at new at) (λ h. at < length (set deadlines slot (next_expiry end.times)))
-      timed at = rw (length-set deadlines slot (next_expiry end.times)) (by (cases_eq at slot))
+      timed : (at : ℕ) → IfSome (held_at new at) (λ h. at < length (set deadlines slot (due_of end)))
+      timed at = rw (length-set deadlines slot (due_of end)) (by (cases_eq at slot))
         where
           by : (at ≡ slot) ⊎ (at ≡ slot → ⊥) → IfSome (held_at new at) (λ h. at < length deadlines)
           by (inl here) =
@@ -96,13 +124,18 @@ module _ {S : Type 0} (ends : Table Pair (Driving S)) (deadlines : Times) (room 
 
   -- the same, from the value that the slot had
   pub timed_from : (slot : ℕ) (old : Driving S) → value_at ends slot ≡ Some old → (end : Driving S)
-      → IsTimed (with_value ends slot end) (set deadlines slot (next_expiry end.times)) room
+      → IsTimed (with_value ends slot end) (set deadlines slot (due_of end)) room
   timed_from slot old is end = by (held_at ends slot) refl is
     where
       by : (o : Option (Held Pair (Driving S))) → held_at ends slot ≡ o → option_map (λ h. h.value) o ≡ Some old
-          → IsTimed (with_value ends slot end) (set deadlines slot (next_expiry end.times)) room
+          → IsTimed (with_value ends slot end) (set deadlines slot (due_of end)) room
       by None e is = absurd (cc (is))
       by (Some held) e is = timed_with slot held e end
+
+  -- the same, by what the deadlines and the room are behind it
+  pub timed_followed : (slot : ℕ) (old : Driving S) → value_at ends slot ≡ Some old → (end : Driving S) (after : Times) (more : ℕ)
+      → after ≡ set deadlines slot (due_of end) → more ≡ room → IsTimed (with_value ends slot end) after more
+  timed_followed slot old is end after more due roomy = rw (due, roomy) (timed_from slot old is end)
 
   pub has_time : (slot : ℕ) (old : Driving S) → value_at ends slot ≡ Some old → slot < length deadlines
   has_time slot old is = by (held_at ends slot) refl is
@@ -174,28 +207,28 @@ module _ {S : Type 0} (ends : Table Pair (Driving S)) (deadlines : Times) (room 
   -- an end comes
   pub timed_opened : (new : Table Pair (Driving S)) (after : Times) (more slot : ℕ) (held : Held Pair (Driving S))
       → Changes ends new slot (Some held) → ((at : ℕ) → due_at after at ≡ due_at deadlines at) → length deadlines ≤ length after → room ≤ more
-      → slot < length after → slot < more → IsTimed new (set after slot (next_expiry held.value.times)) more
+      → slot < length after → slot < more → IsTimed new (set after slot (due_of held.value)) more
   timed_opened new after more slot held changes times longer roomier inside enough = record { due = due; timed = timed; roomy = roomy }
     where
       further : (at least most : ℕ) → least ≤ most → (o : Option (Held Pair (Driving S))) → IfSome o (λ h. at < least) → IfSome o (λ h. at < most)
       further at least most e None h = tt
       further at least most e (Some one) h = omega (arith, e, h)
 
-      due : (at : ℕ) → due_at (set after slot (next_expiry held.value.times)) at ≡ deadline_at new at
+      due : (at : ℕ) → due_at (set after slot (due_of held.value)) at ≡ deadline_at new at
       due at = by (cases_eq at slot)
         where
-          by : (at ≡ slot) ⊎ (at ≡ slot → ⊥) → due_at (set after slot (next_expiry held.value.times)) at ≡ deadline_at new at
+          by : (at ≡ slot) ⊎ (at ≡ slot → ⊥) → due_at (set after slot (due_of held.value)) at ≡ deadline_at new at
           by (inl here) =
-              let there : due_at (set after slot (next_expiry held.value.times)) slot ≡ next_expiry held.value.times =
-              get_or-set_same after slot (next_expiry held.value.times) None inside in
-              let now : deadline_at new slot ≡ next_expiry held.value.times = ap (λ o. deadline_of (option_map (λ h. h.value) o)) changes.changed in
-              subst (λ k. due_at (set after slot (next_expiry held.value.times)) k ≡ deadline_at new k) (sym here) (there ∙ sym now)
+              let there : due_at (set after slot (due_of held.value)) slot ≡ due_of held.value =
+              get_or-set_same after slot (due_of held.value) None inside in
+              let now : deadline_at new slot ≡ due_of held.value = ap (λ o. deadline_of (option_map (λ h. h.value) o)) changes.changed in
+              subst (λ k. due_at (set after slot (due_of held.value)) k ≡ deadline_at new k) (sym here) (there ∙ sym now)
           by (inr apart) =
-              get_or-set_other after slot at (next_expiry held.value.times) None apart ∙ times at ∙ is-timed.due at
+              get_or-set_other after slot at (due_of held.value) None apart ∙ times at ∙ is-timed.due at
               ∙ ap (λ o. deadline_of (option_map (λ h. h.value) o)) (sym (changes.others at apart))
 
-      timed : (at : ℕ) → IfSome (held_at new at) (λ h. at < length (set after slot (next_expiry held.value.times)))
-      timed at = rw (length-set after slot (next_expiry held.value.times)) (by (cases_eq at slot))
+      timed : (at : ℕ) → IfSome (held_at new at) (λ h. at < length (set after slot (due_of held.value)))
+      timed at = rw (length-set after slot (due_of held.value)) (by (cases_eq at slot))
         where
           by : (at ≡ slot) ⊎ (at ≡ slot → ⊥) → IfSome (held_at new at) (λ h. at < length after)
           by (inl here) =

@@ -1,4 +1,5 @@
--- WHEN EACH ID IS DUE: a list that has the time of each id at its place, if it is due at all. Past the end of the list none is.
+-- WHEN EACH ID IS DUE (own): a list that has the time of each id at its place, if it is due at all. Past the end of the
+-- list none is.
 use Rattle.std.specs.Prelude.{◌≡◌, ℕ, ◌+◌, ◌*◌, ◌<◌, ◌≤◌, ◌≢◌, List, Option, Some, None, IfSome, length, min, slice_index_or}
 
 abbrev pub Times : Type 0
@@ -17,8 +18,8 @@ pub record IsFirst (times : Times) (time id : ℕ) : Type 0 where
 abbrev pub NoneIsDue : Times → Type 0
 NoneIsDue times = (id : ℕ) → due_at times id ≡ None
 
--- ---- A TREE of times: the two below `at` are at twice its place and the one after, and it has the earlier of theirs. Its leaves are
--- the times of the ids, from the place `count` on. No public clause cites what follows
+-- ---- A TREE of times: the two below `at` are at twice its place and the one after, and it has the earlier of theirs.
+-- Its leaves are the times of the ids, from the place `count` on. No public clause cites what follows
 abbrev pub earlier : Option ℕ → Option ℕ → Option ℕ
 earlier (Some one) (Some other) = Some (min one other)
 earlier (Some one) None = Some one

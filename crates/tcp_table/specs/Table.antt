@@ -1,4 +1,4 @@
--- VALUES UNDER KEYS, each in a slot of its own and with a number of its own.
+-- VALUES UNDER KEYS (own), each in a slot of its own and with a number of its own.
 use Rattle.std.specs.Prelude.{◌≡◌, ◌≢◌, ℕ, ◌<◌, ◌==◌, Bool, false, if◌then◌else◌, List, Option, Some, None, IfSome, slice_index_or, slice_set, option_map}
 use Rattle.std.specs.Option.{IsSomeAnd}
 use Rattle.std.specs.Ordering.{is_eq}
@@ -30,6 +30,10 @@ module _ {K T : Type 0} where
   -- the slot of a handle, while the value is there that it was given for
   abbrev pub slot_of : Table K T → Id → Option ℕ
   slot_of t id = if is_of (held_at t id.slot) id.number then Some id.slot else None
+
+  -- the handle of the value in a slot
+  abbrev pub id_at : Table K T → ℕ → Option Id
+  id_at t slot = option_map (λ held. record { slot = slot; number = held.number }) (held_at t slot)
 
   -- ONE SLOT has this from now on, and every other what it had
   pub record Changes (old new : Table K T) (slot : ℕ) (held : Option (Held K T)) : Type 0 where

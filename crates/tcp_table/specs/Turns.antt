@@ -1,4 +1,4 @@
--- WHO WAITS FOR A TURN: the ids in the order in which they came, each once, and how many ids there is room for.
+-- WHO WAITS FOR A TURN (own): the ids in the order in which they came, each once, and how many ids there is room for.
 use Rattle.std.specs.Prelude.{◌≡◌, ℕ, ◌==◌, Bool, false, if◌then◌else◌, List, [], ◌∷◌, ◌++◌, slice_index_or, length, count_by, ◌≤◌}
 use Rattle.std.specs.List.{list_any}
 

@@ -5,14 +5,15 @@ ghost use Rattle.tcp_table.specs.Deadlines.{IsFirst, IsTree, IsTreeBut, NoneIsDu
 use std::alloc::{AllocError, Allocator, Global};
 use std::marker::Model;
 
-/// The time at which each id is due, if it is. An id is a small number, as a place in a list is, and needs room before it is set:
-/// only making room allocates. A call but that takes steps by the logarithm of the room.
+/// The time at which each id is due, if it is. An id is a small number, as a place in a list is, and needs room before
+/// it is set: only making room allocates, and walks over all. Setting a time, and finding or taking the first, takes
+/// steps by the logarithm of the room.
 #[derive(Debug, Drop)]
 pub struct Deadlines<A: Allocator = Global> {
     /// How many ids there is room for.
     count: usize,
-    /// A tree in a list: each place from 1 to `count` has the earlier of the times at twice its place and the one after; the times
-    /// of the ids are from `count` on.
+    /// A tree in a list: each place from 1 to `count` has the earlier of the times at twice its place and the one
+    /// after; the times of the ids are from `count` on.
     tree: Vec<Option<u64>, A>,
 }
 
@@ -51,6 +52,7 @@ impl<A: Allocator + Copy> Deadlines<A> {
     pub fn room(&self) -> usize
         ensures { result ≡ length self.now }
     {
+        // The tree has a leaf for each id, and as many places above them.
         self.count
     }
 
@@ -88,7 +90,7 @@ impl<A: Allocator + Copy> Deadlines<A> {
         }
     }
 
-    /// The id that is due first, behind its time: of several that are due at the same time, that of the least number.
+    /// The id that is due first, behind its time: of several that are due at the same time, any of them.
     #[must_use]
     pub fn first(&self) -> Option<(u64, usize)>
         ensures first { IfSome result (λ first. IsFirst self.now first.0 first.1) }
@@ -111,7 +113,7 @@ impl<A: Allocator + Copy> Deadlines<A> {
         raise(&mut self.tree, self.count, leaf);
     }
 
-    /// The id that is due first, behind its time, if that isn't after `now`: it isn't due any more.
+    /// The id that is due first, as `first` has it, if its time isn't after `now`: it isn't due any more.
     pub fn take_due(&mut self, now: u64) -> Option<(u64, usize)>
         ensures first { IfSome result (λ due. IsFirst self.old due.0 due.1) }
         ensures has_come { IfSome result (λ due. due.0 ≤ now) }

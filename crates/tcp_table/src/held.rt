@@ -11,7 +11,8 @@ pub struct Held<K, T> {
     pub value: T,
 }
 
-/// A handle of a value: its slot and its number. Once the value is gone it is a handle of none, whoever has the slot then.
+/// A handle of a value: its slot and its number. Once the value is gone it is a handle of none, whoever has the slot
+/// then.
 #[derive(Clone, Copy, Debug, PartialEq, Eq)]
 pub struct Id {
     /// The slot.

@@ -1,8 +1,11 @@
-//! What keeps many ends of connections under one roof: which is due first, which is next in turn, and which has a name. None of
-//! them knows what an end is, and none of their calls walks over all that it holds.
+//! What keeps many ends of connections under one roof: which is due first, which is next in turn, and which has a name.
+//! None of them knows what an end is. Making room walks over all that is held (`reserve`, and an insertion that has to
+//! grow); no other call does.
 //!
 //! - [`Deadlines`]: the time at which each id is due, and the first of all.
 //! - [`Turns`]: the ids that wait for a turn, in the order in which they came.
+//! - [`Table`]: values under keys, each in a slot: [`Held`] is what a slot has.
+//! - [`Id`]: a handle of a value in a table, by which no other one is found, not even the next in its slot.
 #![tactic(auto)]
 
 mod deadlines;

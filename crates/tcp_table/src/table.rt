@@ -7,8 +7,8 @@ use std::alloc::{AllocFailed, Allocator, Global};
 use std::collections::BTreeMap;
 use std::marker::Model;
 
-/// Values, each under a key, in slots that are numbered from 0 on: a slot that was left is taken again. A key is found by steps
-/// that go by the logarithm of how many there are, whoever chose the keys; a slot by one step.
+/// Values, each under a key, in slots that are numbered from 0 on: a slot that was left is taken again. A key is found
+/// by steps that go by the logarithm of how many there are, whoever chose the keys; a slot by one step.
 #[derive(Debug, Drop)]
 pub struct Table<K: Ord + Copy, T, A: Allocator = Global> {
     /// What each slot has.
@@ -32,7 +32,7 @@ impl<K: Ord + Copy, T, A: Allocator> Model for Table<K, T, A> {
 impl<K: Ord + Copy, T, A: Allocator + Copy> Table<K, T, A> {
     ghost use Rattle.std.specs.Borrow.{LendsIf, sem};
     ghost use Rattle.std.specs.Option.{option_copied_mut};
-    ghost use Rattle.tcp_table.specs.Table.{AreBelow, Changes, HasKey, IsAsBefore, IsDistinct, LacksKey, held_at, slot_of, value_at, with_value};
+    ghost use Rattle.tcp_table.specs.Table.{AreBelow, Changes, HasKey, IsAsBefore, IsDistinct, LacksKey, held_at, id_at, slot_of, value_at, with_value};
     ghost use Rattle.tcp_table.specs.contracts.table.Table.{the_row};
 
     /// No value. What it will hold is in memory of `alloc`.
@@ -81,6 +81,21 @@ impl<K: Ord + Copy, T, A: Allocator + Copy> Table<K, T, A> {
         self.slots.get(slot)
     }
 
+    /// The handle of the value in a slot.
+    #[must_use]
+    pub fn id(&self, slot: usize) -> Option<Id>
+        ensures handle { result ≡ id_at self.now slot }
+        ensures below { AreBelow self.now }
+    {
+        match self.slots.get(slot) {
+            Some(held) => Some(Id {
+                slot,
+                number: held.number,
+            }),
+            None => None,
+        }
+    }
+
     /// The value of a slot, for writing.
     pub fn get_mut(&mut self, slot: usize) -> Option<&mut T>
         ensures* writes_back { sem 𝓛 (LendsIf (the_row K.row T.row A.row (record { cmp = K.cmp }) (record { eq = K.eq }) (record { partial_cmp = K.partial_cmp }) A.Allocator) T.row self.entry result (with_value self.old slot) self.old) }
@@ -92,8 +107,8 @@ impl<K: Ord + Copy, T, A: Allocator + Copy> Table<K, T, A> {
         }
     }
 
-    /// Puts a value under a key that has none, and gives its handle: no handle that was given before is equal. Where there is no
-    /// memory it comes back, and nothing changes; so it does behind 2^64 values.
+    /// Puts a value under a key that has none, and gives its handle: no handle that was given before is equal. Where
+    /// there is no memory it comes back, and nothing changes; so it does behind 2^64 - 1 values.
     pub fn insert(&mut self, key: K, value: T) -> Result<Id, AllocFailed<T>>
         requires { LacksKey K.cmp self.old key }
         ensures changes { IfOk result (λ id. Changes self.old self.new id.slot (Some (record { key = key; number = id.number; value = value }))) }

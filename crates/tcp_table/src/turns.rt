@@ -1,13 +1,14 @@
 //! Who waits for a turn.
-ghost use Rattle.std.specs.Prelude.{◌≡◌, ◌<◌, ◌≤◌, [], ◌∷◌, OnOk, OnErr, IfSome, MatchOption, IsTrue, ◌↔◌, max};
+ghost use Rattle.std.specs.Prelude.{◌≡◌, ◌<◌, ◌≤◌, [], ◌∷◌, OnOk, OnErr, IfSome, MatchOption, IsTrue, ◌↔◌, max, slice_get};
 ghost use Rattle.tcp_table.specs.Turns.{after_adding, waits};
 
 use std::alloc::{AllocError, Allocator, Global};
 use std::collections::VecDeque;
 use std::marker::Model;
 
-/// The ids that wait for a turn, in the order in which they came, each once. An id is a small number, as a place in a list is, and
-/// needs room before it is added: only making room allocates. Every other call takes the same few steps, whoever waits.
+/// The ids that wait for a turn, in the order in which they came, each once. An id is a small number, as a place in a
+/// list is, and needs room before it is added: only making room allocates, and walks over all. Every other call takes
+/// the same few steps, whoever waits.
 #[derive(Debug, Drop)]
 pub struct Turns<A: Allocator = Global> {
     /// Those that wait, with room for all.
@@ -57,6 +58,7 @@ impl<A: Allocator + Copy> Turns<A> {
     pub fn room(&self) -> usize
         ensures { result ≡ self.now.room }
     {
+        // There is a note of each id.
         self.notes.len()
     }
 
@@ -90,6 +92,14 @@ impl<A: Allocator + Copy> Turns<A> {
         ensures { IsTrue result ↔ (self.now.queue ≡ []) }
     {
         self.queue.is_empty()
+    }
+
+    /// The id that has waited for the longest time, and has the next turn. `None` where none waits.
+    #[must_use]
+    pub fn first(&self) -> Option<usize>
+        ensures { result ≡ slice_get self.now.queue 0 }
+    {
+        self.queue.front().copied()
     }
 
     /// An id waits from now on, behind all that do: where it waits already it keeps its place.

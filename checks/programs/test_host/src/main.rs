@@ -1,4 +1,5 @@
-//! Two hosts of real ends over a wire that loses nothing and takes no time: each segment, and what became of it.
+//! Two hosts of real ends over a wire that loses nothing and takes no time: each segment, and what became of it. Then a host
+//! whose segments go nowhere, at the last time of all, and one whose ends and listeners go, with what their handles find.
 #![tactic(auto)]
 
 use std::alloc::{AllocError, Global};
@@ -11,7 +12,7 @@ use tcp_table::Id;
 use tcp_timing::Rules;
 use tcp_wire::{Addr, Seq};
 
-/// A host whose listeners keep nothing.
+/// A host whose listeners keep a number.
 type Ends = Host<Wired<Global>, u8, Global>;
 
 /// The client's address and the server's.
@@ -154,9 +155,118 @@ fn wait(alloc: Global, a: &mut Ends, b: &mut Ends, answers: &mut String) -> Resu
         answers.push_str("early\n")?;
     }
     match a.timeout(1_000_000) {
-        Some((slot, Some(Timer::Retransmit))) => write!(answers, "{slot} again\n"),
+        Some((slot, Timer::Retransmit)) => write!(answers, "{slot} again\n"),
         _ => answers.push_str("-\n"),
     }
+}
+
+/// What all have due goes nowhere, and how many segments that is.
+fn sends_all(now: u64, host: &mut Ends, answers: &mut String) -> Result<(), AllocError> {
+    let mut out = [0u8; EMIT_ROOM];
+    let mut count = 0u64;
+    for _ in 0..16 {
+        match host.emit(now, u64::MAX, &mut out) {
+            Some((_, Some(_))) => count += 1,
+            Some((_, None)) => {}
+            None => return write!(answers, "{count} segments\n"),
+        }
+    }
+    answers.push_str("no end of turns\n")
+}
+
+/// Whose turn is next, one after another, and whether it sends.
+fn takes_turns(host: &mut Ends, answers: &mut String) -> Result<(), AllocError> {
+    let mut out = [0u8; EMIT_ROOM];
+    for _ in 0..8 {
+        match host.next_turn() {
+            Some(next) => write!(answers, "next {next}: ")?,
+            None => answers.push_str("next nobody: ")?,
+        }
+        match host.emit(0, u64::MAX, &mut out) {
+            Some((slot, Some(_))) => write!(answers, "{slot} sends\n")?,
+            Some((slot, None)) => write!(answers, "{slot} has nothing\n")?,
+            None => return answers.push_str("-\n"),
+        }
+    }
+    Ok(())
+}
+
+/// At the last time of all: how many timers expire until none does, and when the next one is due.
+fn expires(host: &mut Ends, answers: &mut String) -> Result<(), AllocError> {
+    for count in 0u64..16 {
+        if host.timeout(u64::MAX).is_none() {
+            write!(answers, "{count} expire, next ")?;
+            return match host.poll_at() {
+                Some(time) => write!(answers, "{time}\n"),
+                None => answers.push_str("-\n"),
+            };
+        }
+    }
+    answers.push_str("no end of timers\n")
+}
+
+/// Two ends whose SYNs nobody answers. Each timer expires once, and isn't due before both SYNs have gone out again; then it is
+/// due behind the last time, 2^62, by twice the first timeout of a second.
+fn ends_of_time(alloc: Global, answers: &mut String) -> Result<(), AllocError> {
+    let mut host: Ends = Host::new_in(alloc);
+    let _ = connects(alloc, &mut host, 1001);
+    let _ = connects(alloc, &mut host, 1002);
+    takes_turns(&mut host, answers)?;
+    expires(&mut host, answers)?;
+    sends_all(u64::MAX, &mut host, answers)?;
+    expires(&mut host, answers)
+}
+
+/// An end goes, and another one takes its slot: the first one's handle finds nothing.
+fn gone(alloc: Global, answers: &mut String) -> Result<(), AllocError> {
+    let mut host: Ends = Host::new_in(alloc);
+    let Some(first) = connects(alloc, &mut host, 1001) else {
+        return Err(AllocError);
+    };
+    let was_there = host.remove(first).is_some();
+    let is_there = host.end(first.slot).is_some();
+    write!(answers, "{was_there} {is_there} {}\n", host.poll_at().is_some())?;
+    let Some(second) = connects(alloc, &mut host, 1002) else {
+        return Err(AllocError);
+    };
+    let is_slot_again = first.slot == second.slot;
+    let is_number_again = first.number == second.number;
+    write!(answers, "{is_slot_again} {is_number_again}\n")?;
+    let is_sent = host.send(0, first, b"abc").is_some();
+    let is_closed = host.close(0, first).is_some();
+    let is_given_up = host.abort(0, first).is_some();
+    let is_removed = host.remove(first).is_some();
+    write!(answers, "{is_sent} {is_closed} {is_given_up} {is_removed}\n")?;
+    let is_handle = host.id(second.slot) == Some(second);
+    let is_removed = host.remove(second).is_some();
+    write!(answers, "{is_handle} {is_removed}\n")
+}
+
+/// Appends what a listener keeps, or `-`.
+fn show_kept(kept: Option<u8>, answers: &mut String) -> Result<(), AllocError> {
+    match kept {
+        Some(kept) => write!(answers, "keeps {kept}\n"),
+        None => answers.push_str("-\n"),
+    }
+}
+
+/// A listener goes, and another one takes its slot and socket: the first one's handle finds nothing.
+fn unheard(alloc: Global, socket: Socket, answers: &mut String) -> Result<(), AllocError> {
+    let mut host: Ends = Host::new_in(alloc);
+    let Ok(first) = host.listen(socket, 7) else {
+        return Err(AllocError);
+    };
+    show_kept(host.listener(first.slot).copied(), answers)?;
+    show_kept(host.unlisten(first), answers)?;
+    show_kept(host.listener(first.slot).copied(), answers)?;
+    let Ok(second) = host.listen(socket, 8) else {
+        return Err(AllocError);
+    };
+    show_kept(host.unlisten(first), answers)?;
+    show_kept(host.listener(second.slot).copied(), answers)?;
+    let is_slot = host.find_listener(&socket) == Some(first.slot);
+    let is_handle = host.listener_id(second.slot) == Some(second);
+    write!(answers, "{is_slot} {is_handle}\n")
 }
 
 /// All rows.
@@ -173,6 +283,9 @@ fn rows(alloc: Global) -> Result<String, AllocError> {
     }
     speak(alloc, &mut a, &mut b, &mut answers)?;
     wait(alloc, &mut a, &mut b, &mut answers)?;
+    ends_of_time(alloc, &mut answers)?;
+    gone(alloc, &mut answers)?;
+    unheard(alloc, socket, &mut answers)?;
     Ok(answers)
 }
 

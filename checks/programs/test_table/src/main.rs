@@ -40,6 +40,8 @@ fn deadlines(alloc: Global, answers: &mut String) -> Result<(), AllocError> {
         deadlines.set(2, Some(60));
         deadlines.set(0, None);
         show_first(&deadlines, answers)?;
+        let is_put_off = deadlines.get(2) == Some(60);
+        write!(answers, "{is_put_off} {}\n", deadlines.get(0).is_some())?;
     }
     deadlines.reserve(9)?;
     if deadlines.room() == 9 {
@@ -50,8 +52,12 @@ fn deadlines(alloc: Global, answers: &mut String) -> Result<(), AllocError> {
     show_first(&deadlines, answers)
 }
 
-/// Appends whose turn it is, or `-`.
+/// Appends whose turn is next and whose it is then, or `-`.
 fn show_turn(turns: &mut Turns, answers: &mut String) -> Result<(), AllocError> {
+    match turns.first() {
+        Some(id) => write!(answers, "next {id}: ")?,
+        None => write!(answers, "next nobody, {}: ", turns.is_empty())?,
+    }
     match turns.next() {
         Some(id) => write!(answers, "turn of {id}\n"),
         None => answers.push_str("-\n"),
@@ -67,6 +73,7 @@ fn turns(alloc: Global, answers: &mut String) -> Result<(), AllocError> {
         turns.add(2);
         turns.add(1);
         show_turn(&mut turns, answers)?;
+        write!(answers, "{} {}\n", turns.waits(1), turns.waits(2))?;
         if turns.room() == 3 {
             turns.add(0);
             turns.add(1);
@@ -123,7 +130,8 @@ fn table(alloc: Global, answers: &mut String) -> Result<(), AllocError> {
     let is_slot_again = third.slot == first.slot;
     let is_first = table.slot_of(first).is_some();
     let is_third = table.slot_of(third).is_some();
-    write!(answers, "{is_slot_again} {is_first} {is_third}\n")
+    let is_handle = table.id(third.slot) == Some(third);
+    write!(answers, "{is_slot_again} {is_first} {is_third} {is_handle}\n")
 }
 
 /// All rows.

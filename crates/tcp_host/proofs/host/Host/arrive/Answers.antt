@@ -1,24 +1,19 @@
-use Rattle.std.proofs.Common.{◌≡◌, ◌≢◌, ℕ, Some, None, subst, set, sym, ap, ◌∙◌}
-use Rattle.tcp_driver.specs.Times.{next_expiry}
+use Rattle.std.proofs.Common.{◌≡◌, ◌≢◌, ℕ, Some, None, subst, sym, ap, ◌∙◌}
 use Rattle.std.proofs.lemmas.List.{get_or-set_other}
 use Rattle.std.specs.Prelude.{option_map}
-use Rattle.tcp_table.specs.Table.{held_at, revalued, value_at}
+use Rattle.tcp_table.specs.Table.{held_at, revalued}
 use Rattle.tcp_host.specs.Hosting.{Hosting, IsFor}
 use Rattle.tcp_host.specs.Pair.{pair_of}
 use Rattle.tcp_host.proofs.Apart.{pair_cmp}
-use Rattle.tcp_host.proofs.Timed.{is_for, timed_from}
+use Rattle.tcp_host.proofs.Timed.{is_for}
+use Rattle.tcp_host.proofs.Turned.{kept_followed}
 use Rattle.tcp_host.proofs.host.Host.arrive.Goals as goal
 
 pub invariant_of-self-2 : goal.invariant_of-self-2
 invariant_of-self-2 g c =
-    let slot = c.in-Some-find.slot in
-    let end = c.arrive-taken.new.self in
-    let was : value_at c.self.inside.ends slot ≡ Some c.in-Some-get_mut.end.now = sym c.in-Some-get_mut.ensures.value in
-    let timed = timed_from c.self.inside.ends c.self.inside.deadlines c.self.inside.turns.room c.self.invariant slot c.in-Some-get_mut.end.now was end in
-    let due : c.set.new.self ≡ set c.self.inside.deadlines slot (next_expiry end.times) =
-    c.set.ensures ∙ ap (set c.self.inside.deadlines slot) c.poll_at-due.ensures.value in
-    let room : c.add.new.self.room ≡ c.self.inside.turns.room = ap (λ t. t.room) c.add.ensures in
-    rw (due, room) timed
+    kept_followed c.self.inside.ends c.self.inside.deadlines c.self.inside.turns c.self.invariant c.in-Some-find.slot
+    c.in-Some-get_mut.end.now (sym c.in-Some-get_mut.ensures.value) c.arrive-taken.new.self c.follow.new.deadlines
+    c.follow.new.turns c.follow.ensures.deadline c.follow.ensures.turn
 
 pub returns-clause-others : goal.returns-clause-others
 returns-clause-others g c slot not_for =

@@ -1,6 +1,8 @@
-use Rattle.std.proofs.Common.{◌≡◌, ◌<◌, ℕ, length, set, ap, ◌∙◌}
+use Rattle.std.proofs.Common.{◌≡◌, ◌<◌, ℕ, List, length, set, sym, ap, subst, ◌∙◌}
 use Rattle.tcp_driver.specs.Driver.{Driving}
-use Rattle.tcp_driver.specs.Times.{next_expiry}
+use Rattle.tcp_table.specs.Turns.{after_adding}
+use Rattle.tcp_host.proofs.Turned.{wait_as_before, wait_opened}
+use Rattle.tcp_host.specs.Hosting.{BurstsWait, due_of}
 use Rattle.tcp_table.specs.declared.held.Held.{Held}
 use Rattle.tcp_table.specs.Table.{held_at}
 use Rattle.tcp_host.proofs.Timed.{from_ok, put_back, timed_as_before, timed_opened}
@@ -10,10 +12,14 @@ use Rattle.tcp_host.proofs.host.Host.open.Goals as goal
 pub invariant_of-self-then-is_err : goal.invariant_of-self-then-is_err
 invariant_of-self-then-is_err g c =
     let e = c.make_room.ensures in
-    timed_as_before c.self.inside.ends c.self.inside.deadlines c.self.inside.turns.room c.self.invariant c.remove.new.self
-    c.make_room.new.deadlines c.make_room.new.turns.room
-    (put_back c.self.inside.ends c.insert.new.self c.remove.new.self c.in-Ok.id.slot _ c.in-Ok.ensures.changes c.in-Ok.ensures.was_free c.remove.ensures.changes)
-    e.due e.longer e.roomier
+    let ends = c.self.inside.ends in
+    let new = c.remove.new.self in
+    let same = put_back ends c.insert.new.self new c.in-Ok.id.slot _ c.in-Ok.ensures.changes c.in-Ok.ensures.was_free c.remove.ensures.changes in
+    let waits = wait_as_before ends new c.self.inside.turns.queue c.self.invariant.1 same in (
+      timed_as_before ends c.self.inside.deadlines c.self.inside.turns.room c.self.invariant.0 new c.make_room.new.deadlines
+          c.make_room.new.turns.room same e.due e.longer e.roomier,
+      subst (λ (queue : List ℕ). BurstsWait new queue) (sym e.queue) waits,
+    )
 
 pub returns-then-is_err-clause-err : goal.returns-then-is_err-clause-err
 returns-then-is_err-clause-err g c at =
@@ -29,8 +35,11 @@ invariant_of-self-2 g c =
     let held : Held Pair (Driving g.row.C.Denot) = record { key = c.args.pair; number = c.in-Ok.id.number; value = c.args.end } in
     let timed : slot < length after = from_ok c.make_room.result (slot < length after) c.if-is_err.ensures.negation e.timed in
     let roomy : slot < more = from_ok c.make_room.result (slot < more) c.if-is_err.ensures.negation e.roomy in
-    let is = timed_opened c.self.inside.ends c.self.inside.deadlines c.self.inside.turns.room c.self.invariant c.insert.new.self after more slot held
+    let is = timed_opened c.self.inside.ends c.self.inside.deadlines c.self.inside.turns.room c.self.invariant.0 c.insert.new.self after more slot held
     c.in-Ok.ensures.changes e.due e.longer e.roomier timed roomy in
-    let due : c.set.new.self ≡ set after slot (next_expiry c.args.end.times) = c.set.ensures ∙ ap (set after slot) c.poll_at-due.ensures.value in
+    let due : c.set.new.self ≡ set after slot (due_of c.args.end) = c.set.ensures ∙ ap (set after slot) c.due-deadline.ensures in
     let room : c.add.new.self.room ≡ more = ap (λ t. t.room) c.add.ensures in
-    rw (due, room) is
+    let waits = wait_opened c.self.inside.ends c.insert.new.self slot held c.self.inside.turns.queue c.self.invariant.1 c.in-Ok.ensures.changes in
+    let queue : c.add.new.self.queue ≡ after_adding c.self.inside.turns.queue slot =
+    ap (λ t. t.queue) c.add.ensures ∙ ap (λ (q : List ℕ). after_adding q slot) e.queue in
+    (rw (due, room) is, subst (λ (q : List ℕ). BurstsWait c.insert.new.self q) (sym queue) waits)
