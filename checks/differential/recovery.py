@@ -72,13 +72,14 @@ class Rack:
         self.settled(start, end)
 
     def delivered(self, part, now, min_rtt):
-        """6.2, steps 2 to 4, of a segment that is newly acknowledged."""
+        """6.2, steps 2 to 4, of a segment that is newly acknowledged. One of an unknown time may have come before: nothing is learnt."""
+        if part.first == 0:
+            return
         if part.again and now - part.last < min_rtt:
             if self.round <= part.start:
                 self.mult, self.persist, self.round = min(MOST, self.mult + 1), 16, self.nxt
         else:
-            if part.first > 0 or self.rtt is None:
-                self.rtt = now - part.first
+            self.rtt = now - part.first
             if (self.xmit_ts, self.end_seq) < (part.first, part.end):
                 self.xmit_ts, self.end_seq = part.first, part.end
         if self.fack < part.end:
@@ -180,8 +181,8 @@ def answers(lines):
 
 
 def random_lines(count, rng):
-    """Calls as a sender makes them, and blocks of any kind; time doesn't go back."""
-    now = nxt = 0
+    """Calls as a sender makes them, and blocks of any kind; time doesn't go back, and begins with 1."""
+    now, nxt = 1, 0
     for _ in range(count):
         now += rng.choice((0, 0, 10, 300, 1_500, 5_000, 20_000))
         min_rtt, window = rng.choice((0, 20_000, 100_000)), rng.choice((0, 1_000, 25_000))

@@ -98,21 +98,36 @@ def first_source(path):
     return capture.segments(path)[0].source[3]
 
 
+def all_logs_of(taken):
+    return list(logs_of(taken))
+
+
+def judge_log(program, log):
+    """What is said of a log, and the rules that it breaks; or where the judges differ."""
+    try:
+        found, status = Judges(program).report(*log)
+    except (Differs, OSError, subprocess.SubprocessError) as fault:
+        return str(fault), None
+    return found, rules(*log) if status == 1 else set()
+
+
 def judge_captures(cases, judges, captures):
     """Each log of each capture by both judges. Answers the short logs that nobody accused, captured at the end itself."""
     seen, clean = collections.defaultdict(collections.Counter), []
-    for taken in captures:
-        for stream, lines in logs_of(taken):
-            with cases.case(f"{taken.stack}: {taken.path.name}, connection {stream}, {taken.side}"):
-                is_accused = judges.accuses(lines, taken.is_whole)
-                broken = rules(lines, taken.is_whole)
-                seen[taken.stack].update(["connections", *broken])
-                seen[taken.stack]["segments"] += sum(line != "" for line in lines)
-                if broken - ACCUSED.get(taken.stack, set()):
-                    raise Differs(judges.report(lines, taken.is_whole)[0])
-                lines = [line for line in lines if line]
-                if taken.is_whole and not is_accused and len(lines) <= MOST_CUT:
-                    clean.append((taken, lines))
+    logs = [(taken, *log) for taken, found in zip(captures, side_by_side(all_logs_of, captures)) for log in found]
+    judged = side_by_side(functools.partial(judge_log, judges.program), [(lines, taken.is_whole) for taken, _, lines in logs])
+    judges.count += len(logs)
+    for (taken, stream, lines), (found, broken) in zip(logs, judged):
+        with cases.case(f"{taken.stack}: {taken.path.name}, connection {stream}, {taken.side}"):
+            if broken is None:
+                raise Differs(found)
+            seen[taken.stack].update(["connections", *broken])
+            seen[taken.stack]["segments"] += sum(line != "" for line in lines)
+            if broken - ACCUSED.get(taken.stack, set()):
+                raise Differs(found)
+            lines = [line for line in lines if line]
+            if taken.is_whole and not broken and len(lines) <= MOST_CUT:
+                clean.append((taken, lines))
     for stack, counts in seen.items():
         accused = ", ".join(f"{rule} in {count}" for rule, count in counts.items() if rule not in ("connections", "segments"))
         print(f"{stack}: {counts['connections']} connections, {counts['segments']} segments: {accused or 'nothing is accused'}")

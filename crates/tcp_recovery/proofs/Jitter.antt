@@ -1,6 +1,6 @@
 -- What isn't late isn't lost.
 use Rattle.std.proofs.Common.{◌≡◌, ℕ, ◌+◌, ◌-◌, ◌/◌, ◌<◌, ◌≤◌, inl, inr, Bool, true, false, List, [], ◌∷◌, arith, refl}
-use Rattle.std.specs.Prelude.{◌⊎◌, ◌==◌, ◌&&◌, min, max, nat_lt, nat_le, if◌then◌else◌}
+use Rattle.std.specs.Prelude.{◌⊎◌, ◌==◌, min, max, nat_lt, nat_le, if◌then◌else◌}
 use Rattle.std.proofs.lemmas.Bool.Decides.{nat_tests}
 use Rattle.tcp_recovery.specs.declared.stretch.Stretch.{Stretch}
 use Rattle.tcp_recovery.specs.declared.delivered.Delivered.{Delivered}
@@ -17,13 +17,6 @@ use Rattle.tcp_recovery.proofs.Told.{AreParts, IsPart, parts}
 abbrev IsLong : ℕ → Delivered → Type 0
 IsLong least d = ((d.xmit_ts ≡ 0) × (d.end_seq ≡ 0)) ⊎ (least ≤ d.rtt)
 
-trip-by : (least now : ℕ) (d : Delivered) (part : Stretch) (a b : Bool) → nat_lt 0 d.end_seq ≡ b → least ≤ now - part.first → IsLong least d
-    → least ≤ (if a && b then d else record d { rtt = now - part.first }).rtt
-trip-by least now d part true true e long (inr l) = l
-trip-by least now d part true true e long (inl none) = let zero : d.end_seq ≡ 0 = none.1 in absurd (grind (arith, nat_tests, e, zero))
-trip-by least now d part true false e long l = long
-trip-by least now d part false b e long l = long
-
 latest-by : (least : ℕ) (d : Delivered) (part : Stretch) (b : Bool) → least ≤ d.rtt
     → least ≤ (if b then record d { xmit_ts = part.first; end_seq = part.end } else d).rtt
 latest-by least d part true l = l
@@ -34,13 +27,13 @@ spurious : (least next : ℕ) (d : Delivered) (b : Bool) → IsLong least d
 spurious least next d true l = l
 spurious least next d false l = l
 
-delivery-by : (least now next : ℕ) (d : Delivered) (part : Stretch) (b : Bool) → least ≤ now - part.first → IsLong least d
-    → IsLong least (with_order (if b then after_spurious d part.start next else with_latest (with_trip d part now) part) part)
-delivery-by least now next d part true long l = spurious least next d (nat_lt part.start d.round) l
-delivery-by least now next d part false long l =
+delivery-by : (least now next : ℕ) (d : Delivered) (part : Stretch) (unknown b : Bool) → least ≤ now - part.first → IsLong least d
+    → IsLong least (if unknown then d else with_order (if b then after_spurious d part.start next else with_latest (with_trip d part now) part) part)
+delivery-by least now next d part true b long l = l
+delivery-by least now next d part false true long l = spurious least next d (nat_lt part.start d.round) l
+delivery-by least now next d part false false long l =
     let e : Delivered = with_trip d part now in
-    inr (latest-by least e part (is_later part.first part.end e.xmit_ts e.end_seq)
-    (trip-by least now d part (part.first == 0) (nat_lt 0 d.end_seq) refl long l))
+    inr (latest-by least e part (is_later part.first part.end e.xmit_ts e.end_seq) long)
 
 deliveries : (least start to end now min_rtt next : ℕ) (earlier : List Event) (d : Delivered) (all : List Stretch) → to ≤ end → AreParts start to earlier all
     → ((number at : ℕ) → IsIn number start end → SentLast number at earlier → at + least ≤ now) → IsLong least d
@@ -52,7 +45,7 @@ deliveries least start to end now min_rtt next earlier d (part ∷ later) h are 
     let took : one.time + least ≤ now = take one.number one.time (one.within.0, omega (arith, below, h)) one.sent in
     let first : part.first ≤ one.time = one.first in
     deliveries least start to end now min_rtt next earlier (after_delivery d part now min_rtt next) later h (are.1) take
-    (delivery-by least now next d part (is_ambiguous part now min_rtt) (omega (arith, took, first)) l)
+    (delivery-by least now next d part (part.first == 0) (is_ambiguous part now min_rtt) (omega (arith, took, first)) l)
 
 received-by : (least start to end now min_rtt : ℕ) (earlier : List Event) (b : Bool) → nat_lt start to ≡ b → to ≤ end → to ≤ (flight_after earlier).next
     → AreOrderly earlier → ((number at : ℕ) → IsIn number start end → SentLast number at earlier → at + least ≤ now)

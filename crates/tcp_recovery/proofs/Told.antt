@@ -1,6 +1,6 @@
 -- What deliveries tell is true: something was delivered that was sent at RACK.xmit_ts or later.
 use Rattle.std.proofs.Common.{◌≡◌, ℕ, suc, ◌+◌, ◌-◌, ◌/◌, ◌<◌, ◌≤◌, inl, inr, Bool, true, false, List, [], ◌∷◌, arith, refl, subst}
-use Rattle.std.specs.Prelude.{◌⊎◌, ◌==◌, ◌&&◌, min, max, nat_lt, nat_le, if◌then◌else◌}
+use Rattle.std.specs.Prelude.{◌⊎◌, ◌==◌, min, max, nat_lt, nat_le, if◌then◌else◌}
 use Rattle.std.proofs.lemmas.Bool.Decides.{nat_tests}
 use Rattle.tcp_recovery.specs.declared.stretch.Stretch.{Stretch}
 use Rattle.tcp_recovery.specs.declared.delivered.Delivered.{Delivered}
@@ -85,10 +85,8 @@ pub record IsTold (events : List Event) (d : Delivered) : Type 0 where
   pub latest : ((d.xmit_ts ≡ 0) × (d.end_seq ≡ 0)) ⊎ IsLatest events d.xmit_ts d.end_seq
   pub highest : (d.fack ≡ 0) ⊎ IsHighest events d.fack
 
-trip-by : (events : List Event) (d : Delivered) (part : Stretch) (now : ℕ) (b : Bool) → IsTold events d
-    → IsTold events (if b then d else record d { rtt = now - part.first })
-trip-by events d part now true t = t
-trip-by events d part now false t = record { latest = t.latest; highest = t.highest }
+trip : (events : List Event) (d : Delivered) (part : Stretch) (now : ℕ) → IsTold events d → IsTold events (with_trip d part now)
+trip events d part now t = record { latest = t.latest; highest = t.highest }
 
 latest-by : (events : List Event) (d : Delivered) (part : Stretch) (b : Bool) → IsTold events d → IsLatest events part.first part.end
     → IsTold events (if b then record d { xmit_ts = part.first; end_seq = part.end } else d)
@@ -117,16 +115,16 @@ spurious : (events : List Event) (d : Delivered) (next : ℕ) (b : Bool) → IsT
 spurious events d next true t = t
 spurious events d next false t = record { latest = t.latest; highest = t.highest }
 
-delivery-by : (events : List Event) (d : Delivered) (part : Stretch) (now next : ℕ) (b : Bool) → IsTold events d → IsLatest events part.first part.end
-    → IsHighest events part.end
-    → IsTold events (with_order (if b then after_spurious d part.start next else with_latest (with_trip d part now) part) part)
-delivery-by events d part now next true t n h =
+delivery-by : (events : List Event) (d : Delivered) (part : Stretch) (now next : ℕ) (unknown b : Bool) → IsTold events d
+    → IsLatest events part.first part.end → IsHighest events part.end
+    → IsTold events (if unknown then d else with_order (if b then after_spurious d part.start next else with_latest (with_trip d part now) part) part)
+delivery-by events d part now next true b t n h = t
+delivery-by events d part now next false true t n h =
     ordered events (after_spurious d part.start next) part (spurious events d next (nat_lt part.start d.round) t) h
-delivery-by events d part now next false t n h =
+delivery-by events d part now next false false t n h =
     let e : Delivered = with_trip d part now in
     ordered events (with_latest e part) part
-    (latest-by events e part (is_later part.first part.end e.xmit_ts e.end_seq)
-    (trip-by events d part now (part.first == 0 && nat_lt 0 d.end_seq) t) n) h
+    (latest-by events e part (is_later part.first part.end e.xmit_ts e.end_seq) (trip events d part now t) n) h
 
 -- the calls before, and one more
 pub more : (start end now min_rtt : ℕ) (earlier : List Event) (d : Delivered) → IsTold earlier d → IsTold (Received start end now min_rtt ∷ earlier) d
@@ -151,7 +149,7 @@ deliveries start to end now min_rtt next earlier d (part ∷ later) h parts t =
     let one : IsPart start to earlier part = parts.0 in
     let within : IsIn one.number start end = wider one.number start to end h one.within in
     deliveries start to end now min_rtt next earlier (after_delivery d part now min_rtt next) later h (parts.1)
-    (delivery-by (Received start end now min_rtt ∷ earlier) d part now next (is_ambiguous part now min_rtt) t
+    (delivery-by (Received start end now min_rtt ∷ earlier) d part now next (part.first == 0) (is_ambiguous part now min_rtt) t
     (record { number = one.number; time = one.time; delivered = inl (within, one.sent); sent = one.first; ends = one.ends })
     (record { number = one.number; time = one.time; delivered = inl (within, one.sent); ends = one.ends }))
 

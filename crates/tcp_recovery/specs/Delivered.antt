@@ -26,10 +26,9 @@ abbrev pub is_ambiguous : Stretch → ℕ → ℕ → Bool
 is_ambiguous part now min_rtt = part.is_again && nat_lt (now - part.last) min_rtt
 
 -- else it tells a round trip, RACK.rtt, from the first time of its stretch on (own: the standard has a time of each
--- segment). Where that is 0, as of stretches that were joined over a gap, it isn't known when it was sent, and RACK.rtt
--- stays, if there is one (own)
+-- segment)
 abbrev pub with_trip : Delivered → Stretch → ℕ → Delivered
-with_trip d part now = if part.first == 0 && nat_lt 0 d.end_seq then d else record d { rtt = now - part.first }
+with_trip d part now = record d { rtt = now - part.first }
 
 -- and what was sent last of all that was delivered are RACK.xmit_ts and RACK.end_seq
 abbrev pub with_latest : Delivered → Stretch → Delivered
@@ -50,10 +49,15 @@ abbrev pub after_spurious : Delivered → ℕ → ℕ → Delivered
 after_spurious d start next =
     if nat_lt start d.round then d else record d { reo_wnd_mult = min 64 (d.reo_wnd_mult + 1); reo_wnd_persist = 16; round = next }
 
--- A STRETCH WAS DELIVERED, or a part of one, while all before `next` was sent: step 3 is for what is ambiguous, too
+-- A STRETCH WAS DELIVERED, or a part of one, while all before `next` was sent: step 3 is for what is ambiguous, too.
+-- Where its first time is 0, as of stretches that were joined over a gap, it isn't known when it was sent, nor which of
+-- its numbers had come before: it teaches nothing (own: the standard has a time of each segment)
 abbrev pub after_delivery : Delivered → Stretch → ℕ → ℕ → ℕ → Delivered
 after_delivery d part now min_rtt next =
-    with_order (if is_ambiguous part now min_rtt then after_spurious d part.start next else with_latest (with_trip d part now) part) part
+    if part.first == 0
+    then d
+    else with_order
+    (if is_ambiguous part now min_rtt then after_spurious d part.start next else with_latest (with_trip d part now) part) part
 
 -- several, one after another (RFC 8985, 6.2: for each segment that is newly acknowledged)
 abbrev pub after_deliveries : Delivered → List Stretch → ℕ → ℕ → ℕ → Delivered

@@ -18,9 +18,9 @@ pto_of (Some srtt) is_one = 2 * srtt + (if is_one then max_ack_delay else 0)
 
 -- SOMETHING WAS SENT OR ACKNOWLEDGED: the probe waits from now on, until the retransmission timeout at most (7.2).
 -- Where one is out no other one follows, nor before a round trip was measured behind the last one, or the first where
--- none was sent (7.3). The standard looks at these two when the time has come, and goes on with the retransmission
--- timer. It is the same here, since what is measured comes by an acknowledgement, behind which the probe is started
--- anew
+-- none was sent (7.3). The standard asks these two when the time has come, and where one of them fails it starts the
+-- retransmission timer anew then; here none waits, and that timer runs on from where it was, so that it expires earlier
+-- (own)
 abbrev pub after_start : Probe → ℕ → Option ℕ → Bool → ℕ → Probe
 after_start p now srtt is_one rto_at =
     record p { at = if is_some p.end_seq || not p.is_measured then None else Some (min rto_at (now + pto_of srtt is_one)) }

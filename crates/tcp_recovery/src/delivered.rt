@@ -17,7 +17,8 @@ pub struct Delivered {
     pub end_seq: u64,
     /// RACK.rtt, in microseconds: what was delivered last, of all of which that is known, took so long at most.
     pub rtt: u64,
-    /// RACK.fack: the highest position before which anything was delivered.
+    /// RACK.fack: the highest position before which anything was delivered, of all of which it is known when it was
+    /// sent.
     pub fack: u64,
     /// RACK.reordering_seen: what was never sent again was delivered behind something that was sent later.
     pub reordering_seen: bool,
@@ -46,10 +47,14 @@ impl Delivered {
         }
     }
 
-    /// A stretch, or a part of one, was delivered.
+    /// A stretch, or a part of one, was delivered. Where it isn't known when it was sent it may have come before, and
+    /// nothing is learnt: the project's own choice, since the standard has a time of each segment.
     pub(crate) fn after(self, part: Stretch, now: u64, min_rtt: u64, next: u64) -> Delivered
         ensures { result ≡ after_delivery self part now min_rtt next }
     {
+        if part.first == 0 {
+            return self;
+        }
         let told = if part.is_again && now.saturating_sub(part.last) < min_rtt {
             self.after_spurious(part.start, next)
         } else {
@@ -73,13 +78,10 @@ impl Delivered {
         }
     }
 
-    /// How long the part took at most, where it is known when it was sent (RFC 8985, 6.2, step 2).
+    /// How long the part took at most (RFC 8985, 6.2, step 2).
     fn with_trip(self, part: Stretch, now: u64) -> Delivered
         ensures { result ≡ with_trip self part now }
     {
-        if part.first == 0 && self.end_seq > 0 {
-            return self;
-        }
         Delivered {
             rtt: now.saturating_sub(part.first),
             ..self

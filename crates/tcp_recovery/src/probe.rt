@@ -4,7 +4,7 @@ ghost use Rattle.tcp_recovery.specs.Probe.{after_ack, after_loss, after_measurem
 /// TLP.max_ack_delay, in microseconds: so long a peer waits at most before it acknowledges one segment (RFC 8985, 7.2).
 const MAX_ACK_DELAY: u64 = 200_000;
 
-/// The probe timeout before any round trip was measured, in microseconds: 1 s (RFC 8985, 7.2).
+/// The probe timeout where SRTT isn't known, in microseconds: 1 s (RFC 8985, 7.2).
 const FIRST_PTO: u64 = 1_000_000;
 
 /// When the end of what is sent goes out once more, so that its loss is reported before the retransmission timeout
@@ -34,12 +34,14 @@ impl Probe {
         }
     }
 
-    /// Something was sent or acknowledged, on a connection that uses blocks, while none has been reported of what is in
-    /// flight and no loss is being repaired: a probe waits from now on (RFC 8985, 7.2). It waits for two round trips
-    /// and, where one segment alone is in flight, for the peer's delay; but until `rto_at` at most, when the
-    /// retransmission timer expires. None waits while one is out, or before a round trip was measured behind the last
-    /// one. The standard looks at these two when the time has come (RFC 8985, 7.3). That is the same: what changes them
-    /// comes by an acknowledgement, behind which this is called anyway. `now`, `srtt` and `rto_at` are in microseconds.
+    /// Something was sent or acknowledged, or a probe is in doubt no more, on a connection that uses blocks, while none
+    /// has been reported of what is in flight and no loss is being repaired: a probe waits from now on (RFC 8985, 7.2).
+    /// It waits for two round trips and, where one segment alone is in flight, for the peer's delay; but until `rto_at`
+    /// at most, when the retransmission timer expires. None waits while one is out, or before a round trip was measured
+    /// behind the last one. The standard asks these two when the time has come, and where one of them fails it starts
+    /// the retransmission timer anew then (RFC 8985, 7.3). Here that timer runs on from where it was, and expires
+    /// earlier (own). What the two wait for comes by an acknowledgement, behind which this is called. `now`, `srtt` and
+    /// `rto_at` are in microseconds.
     pub fn start(&mut self, now: u64, srtt: Option<u64>, is_one: bool, rto_at: u64)
         requires now { now ≤ 2 ^ 62 }
         requires srtt { IfSome srtt (λ time. time ≤ 2 ^ 40) }

@@ -79,7 +79,8 @@ impl Rack {
     /// The numbers from `start` on and before `end` were reported as received, by SND.UNA or by a block: those that
     /// were outstanding aren't any more, and say when they were sent and how far deliveries reach (RFC 8985, 6.2, steps
     /// 2 and 3). What was sent again less than `min_rtt` ago says nothing of when, but that it hadn't been lost (step
-    /// 4), in place of a DSACK. `now` and `min_rtt` are in microseconds.
+    /// 4), in place of a DSACK. What was joined over a gap says nothing at all, since it may have come before. `now`
+    /// and `min_rtt` are in microseconds.
     pub fn received(&mut self, start: u64, end: u64, now: u64, min_rtt: u64)
         ensures { self.new ≡ after_received self.old start end now min_rtt }
     {
