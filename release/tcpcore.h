@@ -987,9 +987,9 @@ struct tcpcore_policy {
     /* How long an acknowledgement of text waits for a second full segment: 40 ms, and less than 500 ms whatever is chosen
        (RFC 9293, 3.8.6.3). 0: none waits. */
     uint64_t ack_delay;
-    /* How long text that isn't worth a segment waits at most, 0.1 to 1 s (RFC 9293, 3.8.6.2): until then no small segment
-       goes into a small window, and none goes out just for a window that opened by little. TCPCORE_NEVER: no text waits, and
-       a window that was opened by reading is advertised only where it was shut. */
+    /* How long text that isn't worth a segment waits, counted from when only its size holds it back, 0.1 to 1 s (RFC 9293,
+       3.8.6.2): until then no small segment goes into a small window, and none goes out just for a window that opened by
+       little. TCPCORE_NEVER: no text waits, and a window that was opened by reading is advertised only where it was shut. */
     uint64_t override_timeout;
     /* Of the acknowledgements that only answer segments without text, SYN and FIN one goes out in so long (RFC 5961, 7). 0:
        all do. */
@@ -1001,8 +1001,8 @@ struct tcpcore_policy {
     uint32_t reserved[9];
 };
 
-/* Common values: an acknowledgement waits 40 ms, a small segment 0.5 s at most and while anything is in flight, and what brings nothing is
-   answered once in 0.5 s:
+/* Common values: an acknowledgement waits 40 ms, a small segment while anything is in flight, until the override timeout of 0.5 s, and what
+   brings nothing is answered once in 0.5 s:
        struct tcpcore_policy policy = TCPCORE_POLICY_DEFAULT; */
 #define TCPCORE_POLICY_DEFAULT {40000, 500000, 500000, 1, {0}}
 
@@ -1191,7 +1191,7 @@ uint32_t tcpcore_connection_congestion(const tcpcore_connection *connection, str
  * then on an emission answers NOT_DUE while what is due waits, and tcpcore_connection_poll_at reports when it no longer does: emit then.
  *   An acknowledgement waits for a second full segment, for text that takes it along, or for `ack_delay`; not where its arrival has to be
  *   answered at once. Text waits that neither fills a segment, nor is all that is queued, nor half of the greatest window, and with `nagle`
- *   while anything is in flight; not for longer than `override_timeout`, which begins anew behind whatever else goes out. What goes out
+ *   while anything is in flight; for `override_timeout`, which begins anew behind whatever else goes out. What goes out
  *   again, a SYN, a FIN, a reset, a probe of a zero window, and all that is due behind a timer's expiry never wait.
  *   A window that reading has opened by a segment, or by half of the receive capacity, is advertised where the peer has less than half of
  *   that left (RFC 9293, 3.8.6.2.2): a user who reads needn't call tcpcore_connection_acknowledge.
