@@ -32,4 +32,5 @@ def program():
 
 
 def crates(rt):
-    return rt.rtlib.crates_below(os.getcwd())
+    """The crates of crates/: a build behind the gate may have copies of them elsewhere in the tree meanwhile."""
+    return rt.rtlib.crates_below(str(TOP / "crates"))
