@@ -25,6 +25,9 @@ pub record Control (W : Type 0) : Type 0 where
   -- blocks or a probe found a loss: whether it is the first of a window, and the state after it
   pub is_new_loss : W → ℕ → Bool
   pub lost : W → ℕ → ℕ → ℕ → W
+  -- losses are found by time in the recovery that goes on; and what was sent again was lost again
+  pub found_by_time : W → W
+  pub lost_again : W → W
   pub timed_out : W → ℕ → ℕ → W
   -- what is sent again
   pub may_resend : W → Bool
@@ -49,6 +52,8 @@ reno_control = record {
   reported = λ w. reno.after_report w;
   is_new_loss = λ w snd_una. reno.is_new_loss w snd_una;
   lost = λ w snd_una flight snd_nxt. reno.after_loss w snd_una flight snd_nxt;
+  found_by_time = λ w. reno.after_finding w;
+  lost_again = λ w. reno.after_second_loss w;
   timed_out = λ w flight snd_nxt. reno.after_timeout w flight snd_nxt;
   may_resend = λ w. reno.may_resend w;
   resent = λ w count. reno.after_resent w count;
@@ -72,6 +77,8 @@ cubic_control = record {
   reported = λ c. cubic.after_report_of c;
   is_new_loss = λ c snd_una. reno.is_new_loss c.window snd_una;
   lost = λ c snd_una flight snd_nxt. cubic.after_loss c snd_una flight snd_nxt;
+  found_by_time = λ c. record c { window = reno.after_finding c.window };
+  lost_again = λ c. cubic.after_second_loss c;
   timed_out = λ c flight snd_nxt. cubic.after_timeout c flight snd_nxt;
   may_resend = λ c. reno.may_resend c.window;
   resent = λ c count. record c { window = reno.after_resent c.window count };

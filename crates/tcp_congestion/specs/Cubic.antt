@@ -3,7 +3,7 @@
 use Rattle.std.specs.Prelude.{ℕ, ◌+◌, ◌-◌, ◌*◌, ◌/◌, ◌%◌, ◌^◌, ◌<◌, ◌≤◌, min, max, Bool, true, false, nat_lt, nat_le, if◌then◌else◌}
 use Rattle.tcp_congestion.specs.Root.{cube, cubic_root}
 use Rattle.tcp_congestion.specs.Sizes.{latest, max_window}
-use Rattle.tcp_congestion.specs.Reno.{Window, IsWindow, after_idle, after_recovering, after_report, begins_recovery, begun, is_new_loss, is_used, new_window_with, restarted, slow_started, with_progress}
+use Rattle.tcp_congestion.specs.Reno.{Window, IsWindow, after_idle, after_recovering, after_report, base_of, begins_recovery, begun, is_new_loss, is_used, lowered, new_window_with, restarted, slow_started, with_progress}
 
 pub record CubicWindow : Type 0 where
   -- cwnd, ssthresh, and how a loss is repaired
@@ -158,6 +158,10 @@ after_duplicate c snd_una flight snd_nxt =
 abbrev pub after_loss : CubicWindow → ℕ → ℕ → ℕ → CubicWindow
 after_loss c snd_una flight snd_nxt =
     if is_new_loss c.window snd_una then recovering (reduced c flight) c.window.duplicates snd_nxt else c
+
+-- lost again: once more to 0.7 of it, as Reno's to half
+abbrev pub after_second_loss : CubicWindow → CubicWindow
+after_second_loss c = record c { window = lowered c.window (base_of c.window * 7 / 10); is_begun = false }
 
 -- A TIMEOUT (RFC 9438, 4.8): as a loss, but cwnd is a segment, and the next stage has K = 0 and begins at W_max
 abbrev pub after_timeout : CubicWindow → ℕ → ℕ → CubicWindow

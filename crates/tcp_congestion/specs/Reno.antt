@@ -1,6 +1,6 @@
 -- The congestion window (RFC 5681, 3 and 4.1; RFC 6582, 3.2; RFC 3042, 2). All sizes are bytes, and positions count from the SYN, which
 -- is at 0, in the direction of what is sent (RFC 9293, 3.4). `flight` is FlightSize: what was sent and isn't acknowledged.
-use Rattle.std.specs.Prelude.{ℕ, ◌+◌, ◌-◌, ◌*◌, ◌/◌, ◌<◌, ◌≤◌, ◌==◌, min, max, Bool, true, false, nat_lt, nat_le, if◌then◌else◌}
+use Rattle.std.specs.Prelude.{ℕ, ◌+◌, ◌-◌, ◌*◌, ◌/◌, ◌<◌, ◌≤◌, ◌==◌, ◌&&◌, not, min, max, Bool, true, false, nat_lt, nat_le, if◌then◌else◌}
 use Rattle.tcp_congestion.specs.Sizes.{max_limit, max_segment, max_window}
 
 pub record Window : Type 0 where
@@ -16,6 +16,8 @@ pub record Window : Type 0 where
   pub recover : ℕ
   -- fast recovery goes on
   pub is_recovering : Bool
+  -- losses are found by time in it, so that nothing else has to say what goes out again
+  pub is_found : Bool
   -- the timer has expired, and nothing was acknowledged since
   pub is_timed_out : Bool
   -- duplicate acknowledgements in a row, of which three count
@@ -38,6 +40,7 @@ new_window smss = record {
   bytes_acked = 0;
   recover = 0;
   is_recovering = false;
+  is_found = false;
   is_timed_out = false;
   duplicates = 0;
   resent = 0;
@@ -89,6 +92,7 @@ begun w left snd_nxt = record w {
   bytes_acked = 0;
   recover = snd_nxt;
   is_recovering = true;
+  is_found = false;
   duplicates = 0;
   resent = 0;
 }
@@ -112,8 +116,10 @@ recovered w flight = record w { cwnd = min w.ssthresh (max flight w.smss + w.sms
 abbrev pub with_progress : Window → ℕ → Window
 with_progress w acked = record w { is_timed_out = false; duplicates = 0; resent = w.resent - acked }
 
+-- IT SAYS THAT THE FIRST SEGMENT IS LOST, and goes out again, unless losses are found by time: RFC 6582 is for who knows nothing else of
+-- what is lost (1)
 abbrev pub is_partial : Window → ℕ → Bool
-is_partial w snd_una = if w.is_recovering then nat_lt snd_una w.recover else false
+is_partial w snd_una = if w.is_recovering && not w.is_found then nat_lt snd_una w.recover else false
 
 abbrev pub after_recovering : Window → ℕ → ℕ → ℕ → Window
 after_recovering w acked snd_una flight = if nat_lt snd_una w.recover then deflated w acked else recovered w flight
@@ -157,6 +163,25 @@ is_new_loss w snd_una = if w.is_recovering then false else nat_le w.recover snd_
 
 abbrev pub after_loss : Window → ℕ → ℕ → ℕ → Window
 after_loss w snd_una flight snd_nxt = if is_new_loss w snd_una then begun (halved w flight) w.duplicates snd_nxt else w
+
+-- LOSSES ARE FOUND BY TIME in the recovery that goes on (RFC 8985)
+abbrev pub after_finding : Window → Window
+after_finding w = record w { is_found = true }
+
+-- WHAT WAS SENT AGAIN WAS LOST AGAIN: cwnd and ssthresh are lowered once more (RFC 5681, 4.3), by half of ssthresh, or of cwnd where that
+-- is less; what was let out for segments that have left the network stays
+abbrev pub base_of : Window → ℕ
+base_of w = min w.cwnd w.ssthresh
+
+abbrev pub lowered : Window → ℕ → Window
+lowered w least = record w {
+  ssthresh = max least (2 * w.smss);
+  cwnd = max w.smss (w.cwnd - (base_of w - max least (2 * w.smss)));
+  bytes_acked = 0;
+}
+
+abbrev pub after_second_loss : Window → Window
+after_second_loss w = lowered w (base_of w / 2)
 
 -- THE TIMER HAS EXPIRED (RFC 5681, 3.1): cwnd is the loss window, SMSS; ssthresh is set the first time that a segment is sent again by
 -- the timer, and held then. Fast recovery is over, and recover is set (RFC 6582, 3.2, 4)

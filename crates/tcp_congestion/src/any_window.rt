@@ -101,6 +101,22 @@ impl Congestion for AnyWindow {
         }
     }
 
+    fn finds_by_time(&mut self) {
+        match self {
+            AnyWindow::Unlimited => {}
+            AnyWindow::Reno(window) => Congestion::finds_by_time(window),
+            AnyWindow::Cubic(window) => Congestion::finds_by_time(window),
+        }
+    }
+
+    fn lost_again(&mut self) {
+        match self {
+            AnyWindow::Unlimited => {}
+            AnyWindow::Reno(window) => Congestion::lost_again(window),
+            AnyWindow::Cubic(window) => Congestion::lost_again(window),
+        }
+    }
+
     fn timed_out(&mut self, flight: u64, snd_nxt: u64) {
         match self {
             AnyWindow::Unlimited => {}

@@ -62,6 +62,15 @@ pub trait Congestion {
         ensures shrinks { result ≡ control.is_new_loss self.old snd_una }
         ensures after { self.new ≡ control.lost self.old snd_una flight snd_nxt };
 
+    /// Losses are found by time in the recovery that goes on, if one does (RFC 8985): no partial acknowledgement has the first segment
+    /// sent again in it.
+    fn finds_by_time(&mut self)
+        ensures { self.new ≡ control.found_by_time self.old };
+
+    /// What was sent again since the last loss was lost again: the window shrinks once more (RFC 5681, 4.3).
+    fn lost_again(&mut self)
+        ensures { self.new ≡ control.lost_again self.old };
+
     /// The retransmission timer has expired, which didn't probe a shut window.
     fn timed_out(&mut self, flight: u64, snd_nxt: u64)
         ensures { self.new ≡ control.timed_out self.old flight snd_nxt };
@@ -142,6 +151,14 @@ impl Congestion for Reno {
         Reno::lost(self, snd_una, flight, snd_nxt)
     }
 
+    fn finds_by_time(&mut self) {
+        Reno::finds_by_time(self);
+    }
+
+    fn lost_again(&mut self) {
+        Reno::lost_again(self);
+    }
+
     fn timed_out(&mut self, flight: u64, snd_nxt: u64) {
         Reno::timed_out(self, flight, snd_nxt);
     }
@@ -210,6 +227,14 @@ impl Congestion for Cubic {
 
     fn lost(&mut self, snd_una: u64, flight: u64, snd_nxt: u64) -> bool {
         Cubic::lost(self, snd_una, flight, snd_nxt)
+    }
+
+    fn finds_by_time(&mut self) {
+        Cubic::finds_by_time(self);
+    }
+
+    fn lost_again(&mut self) {
+        Cubic::lost_again(self);
     }
 
     fn timed_out(&mut self, flight: u64, snd_nxt: u64) {

@@ -72,8 +72,8 @@ impl Model for Cubic {
 }
 
 impl Cubic {
-    ghost use Rattle.tcp_congestion.specs.Cubic.{after_acknowledgement, after_duplicate, after_idle_time, after_loss, after_report_of, after_timeout, new_cubic};
-    ghost use Rattle.tcp_congestion.specs.Reno.{after_agreement, after_resent, after_syn_resent, begins_recovery, is_new_loss, is_partial, may_resend, room_of};
+    ghost use Rattle.tcp_congestion.specs.Cubic.{after_acknowledgement, after_duplicate, after_idle_time, after_loss, after_report_of, after_second_loss, after_timeout, new_cubic};
+    ghost use Rattle.tcp_congestion.specs.Reno.{after_agreement, after_finding, after_resent, after_syn_resent, begins_recovery, is_new_loss, is_partial, may_resend, room_of};
     ghost use Rattle.tcp_congestion.specs.Sizes.{max_limit, max_segment, max_window};
 
     /// The window of a connection that begins, as [`Reno::with_limit`] has it: of full segments of `smss` bytes, of which an
@@ -195,6 +195,23 @@ impl Cubic {
         self.reduce(flight);
         self.window.begin_recovery(left, snd_nxt);
         true
+    }
+
+    /// Losses are found by time in the recovery that goes on: [`Reno::finds_by_time`].
+    pub fn finds_by_time(&mut self)
+        ensures { self.new ≡ record self.old { window = after_finding self.old.window } }
+    {
+        self.window.finds_by_time();
+    }
+
+    /// What was sent again since the last loss was lost again: the window shrinks once more, as for [`Reno::lost_again`] (RFC 5681,
+    /// 4.3).
+    pub fn lost_again(&mut self)
+        ensures { self.new ≡ after_second_loss self.old }
+    {
+        let least = self.window.base() * 7 / 10;
+        self.window.lower(least);
+        self.is_begun = false;
     }
 
     /// The retransmission timer has expired while `flight` bytes were in flight, up to the position `snd_nxt` (RFC 9438, 4.8).

@@ -2,6 +2,8 @@ ghost use Rattle.std.specs.Prelude.{◌≡◌, ◌≤◌, ◌<◌, ◌*◌};
 
 use std::marker::Model;
 
+mod growing;
+
 /// No segment is longer (RFC 9293, 3.7.1).
 pub const MAX_SEGMENT: u64 = 65_535;
 
@@ -22,6 +24,8 @@ pub struct Reno {
     bytes_acked: u64,
     recover: u64,
     is_recovering: bool,
+    /// Losses are found by time in it.
+    is_found: bool,
     is_timed_out: bool,
     duplicates: u64,
     resent: u64,
@@ -40,6 +44,7 @@ impl Model for Reno {
       bytes_acked = r.bytes_acked;
       recover = r.recover;
       is_recovering = r.is_recovering;
+      is_found = r.is_found;
       is_timed_out = r.is_timed_out;
       duplicates = r.duplicates;
       resent = r.resent;
@@ -53,6 +58,7 @@ impl Model for Reno {
       bytes_acked = r.bytes_acked;
       recover = r.recover;
       is_recovering = r.is_recovering;
+      is_found = r.is_found;
       is_timed_out = r.is_timed_out;
       duplicates = r.duplicates;
       resent = r.resent;
@@ -66,6 +72,7 @@ impl Model for Reno {
       bytes_acked = w.bytes_acked;
       recover = w.recover;
       is_recovering = w.is_recovering;
+      is_found = w.is_found;
       is_timed_out = w.is_timed_out;
       duplicates = w.duplicates;
       resent = w.resent;
@@ -73,7 +80,7 @@ impl Model for Reno {
 }
 
 impl Reno {
-    ghost use Rattle.tcp_congestion.specs.Reno.{new_window, new_window_with, room_of, after_acknowledgement, after_agreement, after_loss, after_report, is_new_loss, is_partial, after_duplicate, begins_recovery, after_timeout, after_resent, may_resend, after_syn_resent, after_idle};
+    ghost use Rattle.tcp_congestion.specs.Reno.{new_window, new_window_with, room_of, after_acknowledgement, after_agreement, after_finding, after_loss, after_report, after_second_loss, is_new_loss, is_partial, after_duplicate, begins_recovery, after_timeout, after_resent, may_resend, after_syn_resent, after_idle};
     ghost use Rattle.tcp_congestion.specs.Sizes.{max_limit, max_segment, max_window};
 
     /// The window of a connection that begins, with full segments of `smss` bytes as both SYNs agreed on them: IW (RFC
@@ -103,6 +110,7 @@ impl Reno {
             bytes_acked: 0,
             recover: 0,
             is_recovering: false,
+            is_found: false,
             is_timed_out: false,
             duplicates: 0,
             resent: 0,
@@ -148,7 +156,7 @@ impl Reno {
 
     /// SND.UNA has moved on: all before `snd_una` is acknowledged, `acked` bytes of it by what has just come, and `flight`
     /// bytes aren't. Returns whether the first segment has to be sent again, because this is a partial acknowledgement (RFC
-    /// 6582, 3.2, 3).
+    /// 6582, 3.2, 3), and losses aren't found by time.
     #[must_use]
     pub fn acknowledged(&mut self, acked: u64, snd_una: u64, flight: u64) -> bool
         ensures again { result ≡ is_partial self.old snd_una }
@@ -206,6 +214,21 @@ impl Reno {
         self.halve(flight);
         self.begin_recovery(self.duplicates, snd_nxt);
         true
+    }
+
+    /// Losses are found by time in the recovery that goes on (RFC 8985), and what is lost goes out again by that alone.
+    pub fn finds_by_time(&mut self)
+        ensures { self.new ≡ after_finding self.old }
+    {
+        self.is_found = true;
+    }
+
+    /// What was sent again since the last loss was lost again: the window and ssthresh are lowered once more (RFC 5681, 4.3), by half
+    /// of ssthresh, or of the window where that is less. A recovery goes on.
+    pub fn lost_again(&mut self)
+        ensures { self.new ≡ after_second_loss self.old }
+    {
+        self.lower(self.base() / 2);
     }
 
     /// The retransmission timer has expired while `flight` bytes were in flight, up to the position `snd_nxt` (RFC 5681,
@@ -270,7 +293,7 @@ impl Reno {
 
 // What CUBIC's window does as well.
 impl Reno {
-    ghost use Rattle.tcp_congestion.specs.Reno.{after_recovering, begins_recovery, begun, deflated, is_new_loss, is_partial, is_used, limit_of, recovered, restarted, slow_started, with_progress};
+    ghost use Rattle.tcp_congestion.specs.Reno.{after_recovering, base_of, begins_recovery, begun, deflated, is_new_loss, is_partial, is_used, limit_of, lowered, recovered, restarted, slow_started, with_progress};
     ghost use Rattle.tcp_congestion.specs.Sizes.{max_threshold, max_window};
 
     /// SMSS.
@@ -297,11 +320,11 @@ impl Reno {
         self.duplicates
     }
 
-    /// Whether an acknowledgement of all before `snd_una` is a partial one (RFC 6582, 3.2, 3).
+    /// Whether an acknowledgement of all before `snd_una` is a partial one, where losses aren't found by time (RFC 6582, 3.2, 3).
     pub(crate) fn is_partial(&self, snd_una: u64) -> bool
         ensures { result ≡ is_partial self.now snd_una }
     {
-        self.is_recovering && snd_una < self.recover
+        self.is_recovering && !self.is_found && snd_una < self.recover
     }
 
     /// Whether one more duplicate is the third one, which begins fast recovery (RFC 6582, 3.2, 2).
@@ -380,8 +403,30 @@ impl Reno {
         self.bytes_acked = 0;
         self.recover = snd_nxt;
         self.is_recovering = true;
+        self.is_found = false;
         self.duplicates = 0;
         self.resent = 0;
+    }
+
+    /// What is lowered where what was sent again is lost again.
+    pub(crate) fn base(&self) -> u64
+        ensures value { result ≡ base_of self.now }
+        ensures most { result ≤ max_window }
+    {
+        self.cwnd.min(self.ssthresh)
+    }
+
+    /// The window and ssthresh are lowered, to so much but for what was let out beyond it (RFC 5681, 4.3).
+    pub(crate) fn lower(&mut self, least: u64)
+        requires { least ≤ max_window }
+        ensures { self.new ≡ lowered self.old least }
+    {
+        let base = self.base();
+        self.ssthresh = least.max(2 * self.smss);
+        self.cwnd = self
+            .smss
+            .max(self.cwnd - base.saturating_sub(self.ssthresh));
+        self.bytes_acked = 0;
     }
 
     /// Recovery goes on or ends (RFC 6582, 3.2, 3).
@@ -424,49 +469,6 @@ impl Reno {
         self.is_timed_out = true;
         self.duplicates = 0;
         self.resent = 0;
-    }
-}
-
-// What Reno's window does alone.
-impl Reno {
-    ghost use Rattle.tcp_congestion.specs.Reno.{after_growth, halved, limited};
-    ghost use Rattle.tcp_congestion.specs.Sizes.{max_threshold};
-
-    /// What the first two duplicates let out beyond the window (RFC 3042, 2).
-    fn limited(&self) -> u64
-        ensures { result ≡ limited self.now }
-    {
-        if self.is_recovering {
-            0
-        } else {
-            self.duplicates.min(2) * self.smss
-        }
-    }
-
-    /// Slow start or congestion avoidance (RFC 5681, 3.1), where half of the window was in use (RFC 7661, 4.3).
-    fn grow(&mut self, acked: u64, flight: u64)
-        ensures { self.new ≡ after_growth self.old acked flight }
-    {
-        if !self.is_used(acked, flight) {
-            return;
-        }
-        if self.cwnd < self.ssthresh {
-            self.slow_start(acked);
-            return;
-        }
-        self.bytes_acked += acked.min(self.cwnd);
-        if self.cwnd <= self.bytes_acked {
-            self.bytes_acked -= self.cwnd;
-            self.cwnd = MAX_WINDOW.min(self.cwnd + self.smss);
-        }
-    }
-
-    /// ssthresh = max(FlightSize / 2, 2 * SMSS) (RFC 5681, 3.1, equation 4).
-    fn halve(&mut self, flight: u64)
-        ensures after { self.new ≡ halved self.old flight }
-        ensures low { self.new.ssthresh ≤ max_threshold }
-    {
-        self.ssthresh = (flight.min(self.cwnd) / 2).max(2 * self.smss);
     }
 }
 

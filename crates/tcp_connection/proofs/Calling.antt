@@ -6,7 +6,7 @@ use Rattle.tcp_driver.specs.declared.machine.Report.{Report}
 use Rattle.tcp_driver.specs.Machine.{Machine}
 use Rattle.tcp_flow.specs.Calls.{FlowCall, Comes, Goes, GoesAsOne, Asks, after_flow_call}
 use Rattle.tcp_flow.specs.Flow.{Flowing, after_segment, after_use}
-use Rattle.tcp_connection.specs.Calls.{Arrives, Emits, EmitsAsOne, Ticks, Reads, Acknowledges, Uses, SetsUserTimeout, SetsWindow, LosesOne, SetsPolicy, ConnectionIsFlow, after_flow_calls, emissions}
+use Rattle.tcp_connection.specs.Calls.{Arrives, Emits, EmitsAsOne, Ticks, Reads, Acknowledges, Uses, SetsPatience, SetsUserTimeout, SetsWindow, LosesOne, SetsPolicy, ConnectionIsFlow, after_flow_calls, emissions}
 use Rattle.tcp_connection.specs.Connection.{Connecting, agreed_by, core_of, edge_by, heard_if, is_pending, reported, taken_by_flow}
 use Rattle.tcp_connection.specs.Going.{after_going, asked, discards, flow_after, flow_sent, holds_back}
 use Rattle.tcp_connection.specs.Insight.{Insight}
@@ -89,6 +89,7 @@ flow_lem m i smss_of c k (Reads now room) =
 flow_lem m i smss_of c k (Acknowledges now) = urged-flow (after_call m k now (m.acknowledged (core_of k))) now
 flow_lem m i smss_of c k (Uses now does) = refl
 flow_lem m i smss_of c k (SetsUserTimeout limit) = refl
+flow_lem m i smss_of c k (SetsPatience patient) = refl
 flow_lem m i smss_of c k (SetsWindow window) = refl
-flow_lem m i smss_of c k LosesOne = refl
+flow_lem m i smss_of c k (LosesOne loss) = refl
 flow_lem m i smss_of c k (SetsPolicy policy) = refl

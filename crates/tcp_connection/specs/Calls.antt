@@ -4,7 +4,9 @@ use Rattle.tcp_congestion.specs.Control.{Control}
 use Rattle.tcp_congestion.specs.DelayedAck.{Waiting}
 use Rattle.tcp_driver.specs.Machine.{Machine}
 use Rattle.tcp_flow.specs.Calls as flow
-use Rattle.tcp_flow.specs.Calls.{FlowCall, Comes, Goes, GoesAsOne, Passes, Asks, Limits, Chooses, Loses, after_flow_call}
+use Rattle.tcp_flow.specs.Calls.{FlowCall, Comes, Goes, GoesAsOne, Passes, Asks, Limits, Waits, Chooses, Loses}
+pub use Rattle.tcp_flow.specs.Calls.{after_flow_calls}
+use Rattle.tcp_flow.specs.declared.loss.Loss.{Loss}
 use Rattle.tcp_flow.specs.Flow.{Flowing}
 use Rattle.tcp_connection.specs.declared.policy.Policy.{Policy}
 use Rattle.tcp_connection.specs.Connection.{Connecting, after_arriving, core_of, edge_by, is_pending}
@@ -13,9 +15,9 @@ use Rattle.tcp_connection.specs.Going.{after_emit, discards, holds_back}
 use Rattle.tcp_connection.specs.Insight.{Insight}
 use Rattle.tcp_connection.specs.Policy.{holds_any}
 use Rattle.tcp_connection.specs.Trains.{after_train, discards_train, most_of}
-use Rattle.tcp_connection.specs.Using.{after_acknowledging, after_call, after_reading, after_tick, choosing, losing, is_update, opened, with_policy, with_user_limit}
+use Rattle.tcp_connection.specs.Using.{after_acknowledging, after_call, after_reading, after_tick, choosing, losing, is_update, opened, with_patience, with_policy, with_user_limit}
 
--- each at a time, but a user timeout and what is chosen; an arrival with its source and destination, and whether a device has
+-- each at a time, but a user timeout, patience and what is chosen; an arrival with its source and destination, and whether a device has
 -- found its checksum right; an emission within the caller's window, and one of at most so many segments into so much room; a
 -- read of at most so much; any other user's call with what the end is after it
 pub data ConnectionCall (S W : Type 0) : Type 0 where
@@ -27,8 +29,9 @@ pub data ConnectionCall (S W : Type 0) : Type 0 where
   Acknowledges : ℕ → ConnectionCall S W
   Uses : ℕ → (S → S) → ConnectionCall S W
   SetsUserTimeout : Option ℕ → ConnectionCall S W
+  SetsPatience : Bool → ConnectionCall S W
   SetsWindow : W → ConnectionCall S W
-  LosesOne : ConnectionCall S W
+  LosesOne : Loss → ConnectionCall S W
   SetsPolicy : Policy → ConnectionCall S W
 
 abbrev pub after_connection_call : {S W : Type 0} → Machine S → Insight S → (S → Option ℕ) → Control W → Connecting S W → ConnectionCall S W → Connecting S W
@@ -40,14 +43,10 @@ after_connection_call m i smss_of c k (Reads now room) = after_reading m i k now
 after_connection_call m i smss_of c k (Acknowledges now) = after_acknowledging m k now
 after_connection_call m i smss_of c k (Uses now does) = after_call m k now (does (core_of k))
 after_connection_call m i smss_of c k (SetsUserTimeout limit) = with_user_limit k limit
+after_connection_call m i smss_of c k (SetsPatience patient) = with_patience k patient
 after_connection_call m i smss_of c k (SetsWindow window) = choosing smss_of c k window
-after_connection_call m i smss_of c k LosesOne = losing m c k
+after_connection_call m i smss_of c k (LosesOne loss) = losing m c k loss
 after_connection_call m i smss_of c k (SetsPolicy policy) = with_policy m i smss_of k policy
-
--- calls of a flow, THE NEWEST FIRST
-abbrev pub after_flow_calls : {S W : Type 0} → Machine S → (S → Option ℕ) → Control W → Flowing S W → List (FlowCall S W) → Flowing S W
-after_flow_calls m smss_of c f [] = f
-after_flow_calls m smss_of c f (call ∷ earlier) = after_flow_call m smss_of c (after_flow_calls m smss_of c f earlier) call
 
 -- an emission is none where what is due is held back, and two where an answer is discarded
 abbrev pub emissions : {S W : Type 0} → FlowCall S W → Bool → Bool → Bool → List (FlowCall S W)
@@ -74,8 +73,9 @@ flow_calls m i c k (Reads now room) =
 flow_calls m i c k (Acknowledges now) = Asks now m.acknowledged ∷ []
 flow_calls m i c k (Uses now does) = Asks now does ∷ []
 flow_calls m i c k (SetsUserTimeout limit) = Limits limit ∷ []
+flow_calls m i c k (SetsPatience patient) = Waits patient ∷ []
 flow_calls m i c k (SetsWindow window) = Chooses window ∷ []
-flow_calls m i c k LosesOne = Loses ∷ []
+flow_calls m i c k (LosesOne loss) = Loses loss ∷ []
 flow_calls m i c k (SetsPolicy policy) = []
 
 -- WHATEVER IS CALLED, the flow in a connection is as after these, so that each law of a flow, and of its driver, holds of it

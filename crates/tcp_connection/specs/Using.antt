@@ -3,7 +3,8 @@ use Rattle.std.specs.Prelude.{ℕ, Bool, true, false, ◌&&◌, ◌==◌, if◌t
 use Rattle.tcp_congestion.specs.Control.{Control}
 use Rattle.tcp_congestion.specs.DelayedAck.{after_arrival}
 use Rattle.tcp_driver.specs.Machine.{Machine}
-use Rattle.tcp_flow.specs.Flow.{after_loss, after_timeout, after_use, after_user_limit, with_window}
+use Rattle.tcp_flow.specs.declared.loss.Loss.{Loss}
+use Rattle.tcp_flow.specs.Flow.{after_loss, after_patience_of, after_timeout, after_use, after_user_limit, with_window}
 use Rattle.tcp_connection.specs.declared.policy.Policy.{Policy}
 use Rattle.tcp_connection.specs.Connection.{Connecting, core_of, edge_by, new_connecting}
 use Rattle.tcp_connection.specs.Insight.{Insight}
@@ -46,11 +47,14 @@ after_tick m c k now = record k { flowing = after_timeout m c k.flowing now }
 abbrev pub with_user_limit : {S W : Type 0} → Connecting S W → Option ℕ → Connecting S W
 with_user_limit k limit = record k { flowing = after_user_limit k.flowing limit }
 
+abbrev pub with_patience : {S W : Type 0} → Connecting S W → Bool → Connecting S W
+with_patience k patient = record k { flowing = after_patience_of k.flowing patient }
+
 abbrev pub choosing : {S W : Type 0} → (S → Option ℕ) → Control W → Connecting S W → W → Connecting S W
 choosing smss_of c k window = record k { flowing = with_window smss_of c k.flowing window }
 
-abbrev pub losing : {S W : Type 0} → Machine S → Control W → Connecting S W → Connecting S W
-losing m c k = record k { flowing = after_loss m c k.flowing }
+abbrev pub losing : {S W : Type 0} → Machine S → Control W → Connecting S W → Loss → Connecting S W
+losing m c k loss = record k { flowing = after_loss m c k.flowing loss }
 
 abbrev pub with_policy : {S W : Type 0} → Machine S → Insight S → (S → Option ℕ) → Connecting S W → Policy → Connecting S W
 with_policy m i smss_of k policy = new_connecting m i smss_of k.flowing policy

@@ -6,13 +6,14 @@ use crate::connection::{Connection, edge_of};
 use crate::deferring::Deferring;
 use tcp_congestion::Congestion;
 use tcp_driver::Timer;
+use tcp_flow::Loss;
 
 impl<C: Deferring + Drop, W: Congestion + Drop> Connection<C, W> {
     ghost use Rattle.tcp_driver.specs.Driver.{at};
     ghost use Rattle.tcp_driver.specs.Times.{expiry, is_suspect};
     ghost use Rattle.tcp_connection.specs.Connection.{core_of};
     ghost use Rattle.tcp_connection.specs.Deadlines.{next_call};
-    ghost use Rattle.tcp_connection.specs.Using.{after_acknowledging, after_call, after_reading, after_tick, choosing, losing, is_update, opened, updated_if, urged, with_user_limit};
+    ghost use Rattle.tcp_connection.specs.Using.{after_acknowledging, after_call, after_reading, after_tick, choosing, losing, is_update, opened, updated_if, urged, with_patience, with_user_limit};
     ghost use Rattle.tcp_connection.specs.Windows.{has_grown, is_scarce};
 
     /// It is `now`: the timer that has expired, if one has, as for the flow.
@@ -53,6 +54,14 @@ impl<C: Deferring + Drop, W: Congestion + Drop> Connection<C, W> {
         self.flow.set_user_timeout(limit);
     }
 
+    /// Sets whether what the peer's blocks pass over is given a whole timeout before it counts as lost, as for the flow
+    /// (RFC 8985).
+    pub fn set_patience(&mut self, is_patient: bool)
+        ensures { self.new ≡ with_patience self.old is_patient }
+    {
+        self.flow.set_patience(is_patient);
+    }
+
     /// Chooses another window for an end that has sent no text yet.
     pub fn set_window(&mut self, window: W)
         ensures { self.new ≡ choosing C.smss_of W.control self.old window }
@@ -78,11 +87,11 @@ impl<C: Deferring + Drop, W: Congestion + Drop> Connection<C, W> {
         self.flow.resend(now, from, to)
     }
 
-    /// A loss was found by a caller that finds losses by itself: the congestion window is told (RFC 5681, 4.3).
-    pub fn lose(&mut self)
-        ensures { self.new ≡ losing C.machine W.control self.old }
+    /// A caller that finds losses by itself has found this, and the congestion window is told (RFC 5681, 4.3).
+    pub fn lose(&mut self, loss: Loss)
+        ensures { self.new ≡ losing C.machine W.control self.old loss }
     {
-        self.flow.lose();
+        self.flow.lose(loss);
     }
 
     /// The user has text to send (RFC 9293, 3.10.2).

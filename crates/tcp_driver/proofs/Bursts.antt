@@ -6,7 +6,7 @@ use Rattle.tcp_driver.specs.declared.machine.Timer.TheVariants.{Retransmit, Reor
 use Rattle.tcp_driver.specs.Machine.{Machine}
 use Rattle.tcp_driver.specs.Times.{expiring}
 use Rattle.tcp_driver.specs.Driver.{Driving, after_taken, after_time_by, at, expired, is_withheld, way_of}
-use Rattle.tcp_driver.specs.Calls.{Call, Arrives, Emits, Expires, Uses, SetsUserTimeout, after_call, after_calls, in_burst, all_in_burst, StaysBursting, BurstIsWhole}
+use Rattle.tcp_driver.specs.Calls.{Call, Arrives, Emits, Expires, Uses, SetsPatience, SetsUserTimeout, after_call, after_calls, in_burst, all_in_burst, StaysBursting, BurstIsWhole}
 
 -- in a burst nothing is taken
 arrives : {S : Type 0} (d other : Driving S) (b withheld : Bool) → b ≡ true → (if b || withheld then d else other).core ≡ d.core
@@ -26,6 +26,7 @@ step m d (Emits now window) on = refl
 step m d (Expires now) on = expires m d (expiring d.times (at d now)) (at d now) d.times.bursting on
 step m d (Uses now does) on = refl
 step m d (SetsUserTimeout limit) on = refl
+step m d (SetsPatience patient) on = refl
 
 on-before : {S : Type 0} (m : Machine S) (d : Driving S) (calls : List (Call S)) → d.times.bursting ≡ true → StaysBursting m d calls
     → (after_calls m d calls).times.bursting ≡ true

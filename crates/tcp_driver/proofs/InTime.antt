@@ -10,7 +10,7 @@ use Rattle.tcp_driver.specs.Deadlines.{earlier, kept, no_later}
 use Rattle.tcp_driver.specs.Times.{Times, after_expiry, after_segment, expiring, expiry, opens, restarts, taken, user_deadline}
 use Rattle.tcp_driver.specs.declared.machine.Way.{Way}
 use Rattle.tcp_driver.specs.Driver.{Driving, IsTimely, after_taken, after_time_by, at, core_after, following, is_withheld, sent_of, way_of}
-use Rattle.tcp_driver.specs.Calls.{Call, Arrives, Emits, Expires, Uses, SetsUserTimeout, after_call, after_calls, AllBy, AllEarly, AllGoOn, AllPunctual, ComesInTime, GoesOn, IsEarly, IsPunctual, NoneRestarts, ends_waiting, is_restart, restarts_with, time_of}
+use Rattle.tcp_driver.specs.Calls.{Call, Arrives, Emits, Expires, Uses, SetsPatience, SetsUserTimeout, after_call, after_calls, AllBy, AllEarly, AllGoOn, AllPunctual, ComesInTime, GoesOn, IsEarly, IsPunctual, NoneRestarts, ends_waiting, is_restart, restarts_with, time_of}
 
 -- GOING ON: a deadline, and SND.UNA as the driver has it
 pub record Goes {S : Type 0} (m : Machine S) (d : Driving S) (time : ℕ) : Type 0 where
@@ -77,6 +77,7 @@ next_goes m d time (Emits now window) h g other =
 next_goes m d time (Expires now) h g other = expire-goes m d (at d now) time (expiry d.times (at d now)) g.waits h g.wanted g.una
 next_goes m d time (Uses now does) h g other = following-goes m (does d.core) d.times (at d now) (m.una d.core) time h.deadline h.una g.wanted g.una
 next_goes m d time (SetsUserTimeout limit) h g other = record { deadline = h.deadline; una = h.una }
+next_goes m d time (SetsPatience patient) h g other = record { deadline = h.deadline; una = h.una }
 
 -- at or after its deadline it expires, or the user timeout does, unless a burst is on
 expires : (user retransmit : Bool) (rest : Option Timer) → retransmit ≡ true → ends_waiting (if user then Some User else (if retransmit then Some Retransmit else rest)) ≡ true
@@ -112,6 +113,7 @@ call_early m d time (Emits now window) h g = tt
 call_early m d time (Expires now) h g = early-by m d (at d now) time (nat_le time (at d now)) refl h g.waits
 call_early m d time (Uses now does) h g = tt
 call_early m d time (SetsUserTimeout limit) h g = tt
+call_early m d time (SetsPatience patient) h g = tt
 
 -- the first deadline of all is no later
 soon-by : (user retransmit rest : Option ℕ) (time late at-call : ℕ) → retransmit ≡ Some time → IfSome (earlier user (earlier retransmit rest)) (λ first. at-call ≤ first + late)

@@ -14,7 +14,7 @@ use Rattle.tcp_driver.specs.Deadlines.{kept}
 use Rattle.tcp_driver.specs.Times.{Times, after_expiry, after_handshake, after_segment, after_trip, begins_late, expiry, goes_again, opens, restarts, taken}
 use Rattle.tcp_driver.specs.declared.machine.Way.{Way}
 use Rattle.tcp_driver.specs.Driver.{Driving, IsTimely, after_taken, after_time_by, at, core_after, following, is_withheld, sent_of, way_of}
-use Rattle.tcp_driver.specs.Calls.{Call, Arrives, Emits, Expires, Uses, SetsUserTimeout, after_call, after_calls, AllBy, AllGoOn, AllInTime, AllPunctual, ComesInTwo, GoesOn, IsInTime, TimeoutComesInTime, is_restart, restarts_with}
+use Rattle.tcp_driver.specs.Calls.{Call, Arrives, Emits, Expires, Uses, SetsPatience, SetsUserTimeout, after_call, after_calls, AllBy, AllGoOn, AllInTime, AllPunctual, ComesInTwo, GoesOn, IsInTime, TimeoutComesInTime, is_restart, restarts_with}
 use Rattle.tcp_driver.proofs.InTime.{Goes, begins, call_by, call_early, in_time, next_goes}
 
 -- THE TIMEOUT is at most the greatest, whatever is called
@@ -79,6 +79,7 @@ next-bounded m d g (Emits now window) h = segment-bounded (sent_of m d.core wind
 next-bounded m d g (Expires now) h = time-bounded m d g (at d now) (expiry d.times (at d now)) h
 next-bounded m d g (Uses now does) h = h
 next-bounded m d g (SetsUserTimeout limit) h = h
+next-bounded m d g (SetsPatience patient) h = h
 
 -- WHETHER IT WAS STARTED ANEW stays, unless it is
 flag-stays : (runs same before : Bool) → runs ≡ true → same ≡ true → (if runs && same then before else false) ≡ before
@@ -132,6 +133,7 @@ next-flag m d (Emits now window) is g other =
 next-flag m d (Expires now) is g other = time-flag m d (at d now) (expiry d.times (at d now)) is g.wanted g.una
 next-flag m d (Uses now does) is g other = following-flag m (does d.core) d.times (at d now) (m.una d.core) is g.wanted g.una
 next-flag m d (SetsUserTimeout limit) is g other = refl
+next-flag m d (SetsPatience patient) is g other = refl
 
 -- STARTED ANEW: it wasn't before, it is now, and its deadline is a timeout away
 only-then : (again at-una before : Bool) → (again && (at-una && not before)) ≡ true → before ≡ false
@@ -248,6 +250,7 @@ next-stands m base g late d (Emits now window) earlier h on =
 next-stands m base g late d (Expires now) earlier h on = other-stands m base g late d (Expires now) earlier h refl on
 next-stands m base g late d (Uses now does) earlier h on = other-stands m base g late d (Uses now does) earlier h refl on
 next-stands m base g late d (SetsUserTimeout limit) earlier h on = other-stands m base g late d (SetsUserTimeout limit) earlier h refl on
+next-stands m base g late d (SetsPatience patient) earlier h on = other-stands m base g late d (SetsPatience patient) earlier h refl on
 
 stands : {S : Type 0} (m : Machine S) (base g late : ℕ) (d : Driving S) (calls : List (Call S)) → Stands m base g late d [] → AllGoOn m d calls
     → Stands m base g late d calls
@@ -262,6 +265,7 @@ in-time m d time (Expires now) h on =
     λ quiet. let P : Option ℕ → Type 0 = λ o. IfSome o (λ t. at d now < t) in subst P (sym h.deadline) (call_early m d time (Expires now) h on quiet)
 in-time m d time (Uses now does) h on = tt
 in-time m d time (SetsUserTimeout limit) h on = tt
+in-time m d time (SetsPatience patient) h on = tt
 
 all-in-time : {S : Type 0} (m : Machine S) (base g late : ℕ) (d : Driving S) (calls : List (Call S)) → Stands m base g late d [] → AllGoOn m d calls → AllInTime m d calls
 all-in-time m base g late d [] h all = tt

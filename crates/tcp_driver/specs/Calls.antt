@@ -4,7 +4,7 @@ use Rattle.tcp_driver.specs.declared.machine.Sent.{Sent}
 use Rattle.tcp_driver.specs.declared.machine.Timer.{Timer}
 use Rattle.tcp_driver.specs.declared.machine.Timer.TheVariants.{Retransmit, User}
 use Rattle.tcp_driver.specs.Times.{Times, expiry, next_expiry, opens, restarts}
-use Rattle.tcp_driver.specs.Driver.{Driving, IsTimely, after_arrival, after_emission, after_time, after_user, after_user_timeout, at, core_after, expired, is_withheld, sent_of, way_of}
+use Rattle.tcp_driver.specs.Driver.{Driving, IsTimely, after_arrival, after_emission, after_patience, after_time, after_user, after_user_timeout, at, core_after, expired, is_withheld, sent_of, way_of}
 use Rattle.tcp_driver.specs.Machine.{Machine}
 
 -- each at a time, but the last; an arrival with its source and destination, and whether a device
@@ -15,6 +15,7 @@ pub data Call (S : Type 0) : Type 0 where
   Expires : ℕ → Call S
   Uses : ℕ → (S → S) → Call S
   SetsUserTimeout : Option ℕ → Call S
+  SetsPatience : Bool → Call S
 
 abbrev pub after_call : {S : Type 0} → Machine S → Driving S → Call S → Driving S
 after_call m d (Arrives now src dst bytes vouched) = after_arrival m d (at d now) src dst bytes (way_of d vouched)
@@ -22,6 +23,7 @@ after_call m d (Emits now window) = after_emission m d (at d now) window
 after_call m d (Expires now) = after_time m d (at d now)
 after_call m d (Uses now does) = after_user m d (at d now) (does d.core)
 after_call m d (SetsUserTimeout limit) = after_user_timeout d limit
+after_call m d (SetsPatience patient) = after_patience d patient
 
 -- THE NEWEST FIRST
 abbrev pub after_calls : {S : Type 0} → Machine S → Driving S → List (Call S) → Driving S
@@ -86,6 +88,7 @@ time_of d (Emits now window) = at d now
 time_of d (Expires now) = at d now
 time_of d (Uses now does) = at d now
 time_of d (SetsUserTimeout limit) = d.times.clock
+time_of d (SetsPatience patient) = d.times.clock
 
 -- A CALLER IS PUNCTUAL that makes each call at most so late after the time that `poll_at` gave
 abbrev pub IsPunctual : {S : Type 0} → ℕ → Driving S → Call S → Type 0

@@ -8,7 +8,7 @@ use Rattle.tcp_driver.specs.declared.machine.Sent.{Sent}
 use Rattle.tcp_driver.specs.declared.machine.Timer.{Timer}
 use Rattle.tcp_driver.specs.declared.machine.Way.{Way}
 use Rattle.tcp_driver.specs.Deadlines.{last}
-use Rattle.tcp_driver.specs.Times.{Times, IsSoon, after_expiry, after_segment, expiry, followed, new_times, rests, taken, time_at, with_user_timeout}
+use Rattle.tcp_driver.specs.Times.{Times, IsSoon, after_expiry, after_segment, expiry, followed, new_times, rests, taken, time_at, with_patience, with_user_timeout}
 use Rattle.tcp_driver.specs.Machine.{Machine}
 
 pub record Driving (S : Type 0) : Type 0 where
@@ -47,6 +47,10 @@ after_user m d now core = following m core d.times now
 -- the user timeout is set
 abbrev pub after_user_timeout : {S : Type 0} → Driving S → Option ℕ → Driving S
 after_user_timeout d limit = record d { times = with_user_timeout d.times limit }
+
+-- patience is set
+abbrev pub after_patience : {S : Type 0} → Driving S → Bool → Driving S
+after_patience d patient = record d { times = with_patience d.times patient }
 
 -- ---- AN ARRIVAL. A RESET has the bit RST (RFC 9293, 3.1), and counts as lost where the end says so
 abbrev pub has_reset_bit : Option ℕ → Bool

@@ -53,14 +53,14 @@ pub record IsSoon (t : Times) : Type 0 where
 abbrev pub time_at : Times → ℕ → ℕ
 time_at t now = max t.clock (min last now)
 
--- ---- REORDERING is given a round trip, or the timeout where none was measured or losses are found by time (RFC 8985); and where
--- nothing is acknowledged twice as long each time, up to the timeout
-abbrev pub round_trip : Option RoundTrip → ℕ → ℕ
-round_trip None rto = rto
-round_trip (Some t) rto = min rto t.srtt
+-- ---- REORDERING is given a round trip, and no less than the clock can tell from none (RFC 6298, 2), or the timeout where none was
+-- measured or losses are found by time (RFC 8985); and where nothing is acknowledged twice as long each time, up to the timeout
+abbrev pub round_trip : Rules → Option RoundTrip → ℕ → ℕ
+round_trip rules None rto = rto
+round_trip rules (Some t) rto = min rto (max (max 1 rules.granularity) t.srtt)
 
 abbrev pub first_span : Bool → Estimate → ℕ
-first_span patient e = if patient then e.rto else round_trip e.trip e.rto
+first_span patient e = if patient then e.rto else round_trip e.rules e.trip e.rto
 
 abbrev pub span_after : Bool → Bool → ℕ → Estimate → ℕ
 span_after same patient span e = if same then span else first_span patient e
@@ -248,3 +248,7 @@ after_expiry t User = record t { since = None; resent = 0; left = None; bursting
 -- the user timeout is set
 abbrev pub with_user_timeout : Times → Option ℕ → Times
 with_user_timeout t limit = record t { limits = record t.limits { user = limit } }
+
+-- whether reordering is given a whole timeout is set, for who finds losses by time (RFC 8985); a deadline that is set stays
+abbrev pub with_patience : Times → Bool → Times
+with_patience t patient = record t { limits = record t.limits { is_patient = patient } }

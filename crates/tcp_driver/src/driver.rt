@@ -39,7 +39,7 @@ impl<C: Core + Drop> Model for Driver<C> {
 impl<C: Core + Drop> Driver<C> {
     ghost use Rattle.std.specs.Prelude.{Some, false, is_some, true};
     ghost use Rattle.tcp_driver.specs.Deadlines.{last};
-    ghost use Rattle.tcp_driver.specs.Driver.{after_arrival, after_emission, after_time, after_user, after_user_timeout, arrival_answer, at, new_driving, sent_of, way_of, written_of};
+    ghost use Rattle.tcp_driver.specs.Driver.{after_arrival, after_emission, after_patience, after_time, after_user, after_user_timeout, arrival_answer, at, new_driving, sent_of, way_of, written_of};
     ghost use Rattle.tcp_driver.specs.Rows.{after_emissions, emissions_of};
     ghost use Rattle.tcp_driver.specs.Times.{expiry, is_suspect, longest_wait, next_expiry, wants_any};
     ghost use Rattle.tcp_timing.specs.Rules.{IsSound};
@@ -268,6 +268,15 @@ impl<C: Core + Drop> Driver<C> {
         ensures { self.new ≡ after_user_timeout self.old limit }
     {
         self.timers.set_user_timeout(limit);
+    }
+
+    /// Sets whether what the peer's blocks pass over is given a whole timeout before it counts as lost, for a caller that finds
+    /// losses by time from now on (RFC 8985): [`Limits::is_patient`]. The deadline of a gap that was reported before stays, and
+    /// gaps are given what they were until something new is acknowledged.
+    pub fn set_patience(&mut self, is_patient: bool)
+        ensures { self.new ≡ after_patience self.old is_patient }
+    {
+        self.timers.set_patience(is_patient);
     }
 
     /// The end.

@@ -55,7 +55,7 @@ impl Model for Timers {
 }
 
 impl Timers {
-    ghost use Rattle.tcp_driver.specs.Times.{IsSoon, after_expiry, after_segment, after_window, first_times, followed, is_suspect, measured, rests, stands, taken, time_at, waits_on, with_user_timeout};
+    ghost use Rattle.tcp_driver.specs.Times.{IsSoon, after_expiry, after_segment, after_window, first_times, followed, is_suspect, measured, rests, stands, taken, time_at, waits_on, with_patience, with_user_timeout};
     ghost use Rattle.tcp_timing.specs.Rules.{IsSound};
 
     /// No timer runs.
@@ -114,12 +114,16 @@ impl Timers {
         self.bursting
     }
 
-    /// What reordering is given at first: SRTT or the timeout, whichever is less, or the timeout by patience.
+    /// What reordering is given at first: SRTT, or the clock's granularity where that is more, but no more than the timeout; or by
+    /// patience the timeout.
     fn first_span(&self) -> u64
         ensures { result ≡ first_span self.now.limits.is_patient self.now.estimate }
     {
         match self.estimator.trip() {
-            Some(trip) if !self.limits.is_patient => self.estimator.rto().min(trip.srtt),
+            Some(trip) if !self.limits.is_patient => {
+                let least = 1_u64.max(self.estimator.granularity());
+                self.estimator.rto().min(least.max(trip.srtt))
+            }
             _ => self.estimator.rto(),
         }
     }
@@ -453,5 +457,12 @@ impl Timers {
         ensures { self.new ≡ with_user_timeout self.old limit }
     {
         self.limits.user = limit;
+    }
+
+    /// Whether reordering is given a whole timeout is set.
+    pub fn set_patience(&mut self, is_patient: bool)
+        ensures { self.new ≡ with_patience self.old is_patient }
+    {
+        self.limits.is_patient = is_patient;
     }
 }

@@ -144,6 +144,7 @@ guarded-call reach p (pairs.Aborts side now) guards = call-is_event p (pairs.Abo
 guarded-call reach p (pairs.ResendsFirst side now) guards = call-is_event p (pairs.ResendsFirst side now) tt ∙ plain-event reach (world_in p) (ResendFirst side) tt
 guarded-call reach p (pairs.Resends side now from to) guards = call-is_event p (pairs.Resends side now from to) tt ∙ plain-event reach (world_in p) (Resend side from to) tt
 guarded-call reach p (pairs.SetsUserTimeout side limit) guards = call-is_event p (pairs.SetsUserTimeout side limit) tt
+guarded-call reach p (pairs.SetsPatience side patient) guards = call-is_event p (pairs.SetsPatience side patient) tt
 
 -- ---- AN INJECTION
 guarded-injected : {H : Type 0} (reach : ℕ) (p : Pair H) (side : Side) (i : Injection) (lost : Bool) (now : ℕ) → guard_of (member_of p side) ≡ Some reach

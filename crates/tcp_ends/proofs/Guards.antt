@@ -23,7 +23,7 @@ use Rattle.tcp_replay.proofs.run.Passing.{passes}
 use Rattle.tcp_ends.specs.Pair as pairs
 use Rattle.tcp_ends.specs.Pair.{HasNoGuards, Member, Pair, PairCall, damage_refusal_in, end_of, guard_of, member_after_abort, member_after_acknowledge, member_after_arrival}
 use Rattle.tcp_ends.specs.Pair.{member_after_close, member_after_emission, member_after_receive, member_after_resend, member_after_resend_first, member_after_send, member_after_time}
-use Rattle.tcp_ends.specs.Pair.{member_after_user_timeout, member_of, pair_after, party_in, refusal_in, segment_in, unless_refused, with_member}
+use Rattle.tcp_ends.specs.Pair.{member_after_patience, member_after_user_timeout, member_of, pair_after, party_in, refusal_in, segment_in, unless_refused, with_member}
 
 -- ---- A GUARD STAYS, at each call of a driver,
 arrive-keeps : {S : Type 0} (m : Machine S) (d : Driving S) (now : ℕ) (src dst bytes : List ℕ) (way : Way) (lost : Bool)
@@ -53,6 +53,7 @@ call-keeps m d (calls.Emits now window) = segment-keeps (sent_of m d.core window
 call-keeps m d (calls.Expires now) = time-keeps m d (at d now) (expiry d.times (at d now))
 call-keeps m d (calls.Uses now does) = refl
 call-keeps m d (calls.SetsUserTimeout limit) = refl
+call-keeps m d (calls.SetsPatience patient) = refl
 
 -- and of two of them
 pub with-guards : {H : Type 0} (p : Pair H) (here : Side) (m : Member H) → guard_of m ≡ guard_of (member_of p here) → (side : Side)
@@ -94,6 +95,7 @@ guards-stay p (pairs.Aborts here now) side = with-guards p here (member_after_ab
 guards-stay p (pairs.ResendsFirst here now) side = with-guards p here (member_after_resend_first (member_of p here) now) refl side
 guards-stay p (pairs.Resends here now from to) side = with-guards p here (member_after_resend (member_of p here) now from to) refl side
 guards-stay p (pairs.SetsUserTimeout here limit) side = with-guards p here (member_after_user_timeout (member_of p here) limit) refl side
+guards-stay p (pairs.SetsPatience here patient) side = with-guards p here (member_after_patience (member_of p here) patient) refl side
 
 -- the party of a member whose end is this
 abbrev pub with_end : {H : Type 0} → Member H → State → PartyState
@@ -140,6 +142,7 @@ unguarded-passes p (pairs.Aborts side now) none = tt
 unguarded-passes p (pairs.ResendsFirst side now) none = tt
 unguarded-passes p (pairs.Resends side now from to) none = tt
 unguarded-passes p (pairs.SetsUserTimeout side limit) none = tt
+unguarded-passes p (pairs.SetsPatience side patient) none = tt
 
 pub unguarded-pass : {H : Type 0} (p : Pair H) (list : List PairCall) → HasNoGuards p → CallsPass p list
 unfolding CallsPass

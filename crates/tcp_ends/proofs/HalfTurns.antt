@@ -293,6 +293,7 @@ incident-calm p (Calls (pairs.Aborts side now)) h = absurd h
 incident-calm p (Calls (pairs.ResendsFirst side now)) h = tt
 incident-calm p (Calls (pairs.Resends side now from to)) h = tt
 incident-calm p (Calls (pairs.SetsUserTimeout side limit)) h = tt
+incident-calm p (Calls (pairs.SetsPatience side patient)) h = tt
 incident-calm p (Injects side now i) h = injection-calm p side i (is_lost (member_of p side) i.bytes) h
 incident-calm p (Rests side) h = calm-rest (world_in p) (timer_answer (end_of (member_of p side)) Retransmit) side
 
@@ -322,6 +323,7 @@ fair-call p (pairs.Aborts side now) h = tt
 fair-call p (pairs.ResendsFirst side now) h = tt
 fair-call p (pairs.Resends side now from to) h = tt
 fair-call p (pairs.SetsUserTimeout side limit) h = tt
+fair-call p (pairs.SetsPatience side patient) h = tt
 
 fair-calm : {H : Type 0} (p : Pair H) (incident : Incident) → IsCalmIncident p incident → IsFairIncident p incident
 fair-calm p (Calls call) h = fair-call p call h

@@ -100,6 +100,7 @@ call-is_event p (pairs.ResendsFirst side now) passes =
 call-is_event p (pairs.Resends side now from to) passes =
     step-here p (member_after_resend (member_of p side) now from to) (Resend side from to) (record { refusal_is = refl; here_is = refl; there_is = λ _. refl })
 call-is_event p (pairs.SetsUserTimeout side limit) passes = step-nowhere side p _ refl
+call-is_event p (pairs.SetsPatience side patient) passes = step-nowhere side p _ refl
 
 -- MANY
 more : (w : WorldState) (event : Option EventContent) (list : List EventContent) → world_after_all w (with_event event list) ≡ world_after_all (after_maybe w event) list
@@ -147,6 +148,7 @@ call-bytes p (pairs.Aborts side now) h = tt
 call-bytes p (pairs.ResendsFirst side now) h = tt
 call-bytes p (pairs.Resends side now from to) h = tt
 call-bytes p (pairs.SetsUserTimeout side limit) h = tt
+call-bytes p (pairs.SetsPatience side patient) h = tt
 
 with-bytes : (event : Option EventContent) (list : List EventContent) → IfSome event HasBytes → AllByRecursion HasBytes list → AllByRecursion HasBytes (with_event event list)
 with-bytes None list h rest = rest

@@ -196,6 +196,7 @@ module _ {H : Type 0} (life : ℕ) (a b : Config) (runs_a runs_b : ℕ) (most : 
   call-passes p (pairs.ResendsFirst side now) r fits = tt
   call-passes p (pairs.Resends side now from to) r fits = tt
   call-passes p (pairs.SetsUserTimeout side limit) r fits = tt
+  call-passes p (pairs.SetsPatience side patient) r fits = tt
 
   passes-at : (p : Pair H) (incident : Incident) → At p → IsFairIncident p incident → IncidentPasses p incident
   passes-at p (Calls call) r fair = call-passes p call r fair

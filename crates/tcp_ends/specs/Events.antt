@@ -47,6 +47,7 @@ event_of p (pairs.Aborts side now) = Some (Abort side)
 event_of p (pairs.ResendsFirst side now) = Some (ResendFirst side)
 event_of p (pairs.Resends side now from to) = Some (Resend side from to)
 event_of p (pairs.SetsUserTimeout side limit) = None
+event_of p (pairs.SetsPatience side patient) = None
 
 abbrev pub with_event : Option EventContent → List EventContent → List EventContent
 with_event None list = list

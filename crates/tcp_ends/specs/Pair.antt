@@ -66,6 +66,7 @@ pub data PairCall : Type 0 where
   ResendsFirst : Side → ℕ → PairCall
   Resends : Side → ℕ → ℕ → ℕ → PairCall
   SetsUserTimeout : Side → Option ℕ → PairCall
+  SetsPatience : Side → Bool → PairCall
 
 -- what is sent, and what a byte is changed by, are bytes
 abbrev pub CallHasBytes : PairCall → Type 0
@@ -135,6 +136,9 @@ member_after_resend {H = H} m now from to = record m { driving = drives m (calls
 abbrev pub member_after_user_timeout : {H : Type 0} → Member H → Option ℕ → Member H
 member_after_user_timeout m limit = record m { driving = drives m (calls.SetsUserTimeout limit) }
 
+abbrev pub member_after_patience : {H : Type 0} → Member H → Bool → Member H
+member_after_patience m patient = record m { driving = drives m (calls.SetsPatience patient) }
+
 -- ---- WHAT IT DOES to both
 abbrev pub member_of : {H : Type 0} → Pair H → Side → Member H
 member_of p A = p.a
@@ -178,6 +182,7 @@ pair_after p (Aborts side now) = with_member p side (member_after_abort (member_
 pair_after p (ResendsFirst side now) = with_member p side (member_after_resend_first (member_of p side) now)
 pair_after p (Resends side now from to) = with_member p side (member_after_resend (member_of p side) now from to)
 pair_after p (SetsUserTimeout side limit) = with_member p side (member_after_user_timeout (member_of p side) limit)
+pair_after p (SetsPatience side patient) = with_member p side (member_after_patience (member_of p side) patient)
 
 unfoldable pub pair_after_all : {H : Type 0} → Pair H → List PairCall → Pair H
 pair_after_all p [] = p

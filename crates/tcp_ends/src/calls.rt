@@ -7,7 +7,7 @@ ghost use Rattle.tcp_conn.specs.Calls.{abort_answer, close_answer, receive_answe
 ghost use Rattle.tcp_conn.specs.Timers.{resends_between, sends_again};
 ghost use Rattle.tcp_end.specs.Wired.{intake_of, machine, read_into, taken_of};
 ghost use Rattle.tcp_ends.specs.Calls.{cut_out, sent_after};
-ghost use Rattle.tcp_ends.specs.Pair.{member_after_abort, member_after_acknowledge, member_after_close, member_after_emission, member_after_receive, member_after_resend, member_after_resend_first, member_after_send, member_after_time, member_after_user_timeout, new_member};
+ghost use Rattle.tcp_ends.specs.Pair.{member_after_abort, member_after_acknowledge, member_after_close, member_after_emission, member_after_patience, member_after_receive, member_after_resend, member_after_resend_first, member_after_send, member_after_time, member_after_user_timeout, new_member};
 
 use std::alloc::Allocator;
 use tcp_conn::{CallError, Received};
@@ -115,4 +115,11 @@ pub fn set_user_timeout<A: Allocator>(end: &mut End<A>, limit: Option<u64>)
     ensures { end.new ≡ (member_after_user_timeout (new_member end.old) limit).driving }
 {
     end.set_user_timeout(limit);
+}
+
+/// Sets whether what the peer's blocks pass over is given a whole timeout before it counts as lost (RFC 8985).
+pub fn set_patience<A: Allocator>(end: &mut End<A>, is_patient: bool)
+    ensures { end.new ≡ (member_after_patience (new_member end.old) is_patient).driving }
+{
+    end.set_patience(is_patient);
 }

@@ -28,8 +28,8 @@ ghost use Rattle.tcp_ends.specs.Rests.{EachOpens, EachOpensWithRuns, NothingFoun
 mod calls;
 
 pub use calls::{
-    abort, acknowledge, arrive, close, emit, receive, resend, resend_first, send, set_user_timeout,
-    timeout,
+    abort, acknowledge, arrive, close, emit, receive, resend, resend_first, send, set_patience,
+    set_user_timeout, timeout,
 };
 use std::alloc::Allocator;
 

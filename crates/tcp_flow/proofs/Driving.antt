@@ -8,8 +8,8 @@ use Rattle.tcp_driver.specs.Rows.{after_emissions, emissions_of}
 use Rattle.tcp_driver.specs.Trains.{TrainIsEmissions}
 use Rattle.tcp_driver.specs.Driver.{Driving, after_arrival, at, is_withheld, way_of}
 use Rattle.tcp_driver.specs.Machine.{Machine}
-use Rattle.tcp_flow.specs.Flow.{Flowing, after_duplicate, after_progress, allowed, emitted_as_one, has_blocks, is_idle, rested, row_of, settled, told, una_of, with_first}
-use Rattle.tcp_flow.specs.Calls.{Comes, Goes, GoesAsOne, Passes, Asks, Limits, Chooses, Loses, FlowIsDriven}
+use Rattle.tcp_flow.specs.Flow.{Flowing, after_duplicate, after_progress, allowed, has_blocks, is_idle, rested, row_of, settled, told, una_of, with_first}
+use Rattle.tcp_flow.specs.Calls.{Comes, Goes, GoesAsOne, Passes, Asks, Limits, Waits, Chooses, Loses, FlowIsDriven}
 
 -- the driver of x is as after a call of d, and perhaps the first segment goes out again
 record Follows {S : Type 0} (m : Machine S) (d x : Driving S) (now : ℕ) (call : Call S) : Type 0 where
@@ -63,9 +63,9 @@ by-taken m smss_of c f now src dst bytes vouched report true e = record {
 by-taken m smss_of c f now src dst bytes vouched report false e =
     by-limits m smss_of c f.driving _ _ report.acked now (Arrives now src dst bytes vouched) _ _ report.is_duplicate refl refl
 
-rest-by : {S W : Type 0} (f : Flowing S W) (x : W) (b : Bool) → (if b then record f { window = x } else f).driving ≡ f.driving
-rest-by f x true = refl
-rest-by f x false = refl
+pub rest_by : {S W : Type 0} (f : Flowing S W) (x : W) (b : Bool) → (if b then record f { window = x } else f).driving ≡ f.driving
+rest_by f x true = refl
+rest_by f x false = refl
 
 emits-by : {S W : Type 0} (m : Machine S) (f g : Flowing S W) (now window : ℕ) → g.driving ≡ f.driving
     → after_calls m g.driving (Emits now window ∷ []) ≡ after_calls m f.driving (Emits now window ∷ [])
@@ -77,9 +77,9 @@ many-by m f g count now window trains e =
     subst (λ d. after_emissions m count g.driving (at g.driving now) window ≡ after_calls m d (replicate count (Emits now window))) e
     (trains g.driving count now window)
 
-chosen-by : {S W : Type 0} (f g : Flowing S W) (b : Bool) → f.driving ≡ g.driving → (if b then f else g).driving ≡ g.driving
-chosen-by f g true e = e
-chosen-by f g false e = refl
+pub chosen_by : {S W : Type 0} (f g : Flowing S W) (b : Bool) → f.driving ≡ g.driving → (if b then f else g).driving ≡ g.driving
+chosen_by f g true e = e
+chosen_by f g false e = refl
 
 pub driven_lem : {S W : Type 0} (m : Machine S) (smss_of : S → Option ℕ) (c : Control W) → TrainIsEmissions m → FlowIsDriven m smss_of c
 driven_lem m smss_of c trains f (Comes now src dst bytes vouched) =
@@ -88,15 +88,16 @@ driven_lem m smss_of c trains f (Comes now src dst bytes vouched) =
     record { resends = h.resends; same = h.same }
 driven_lem m smss_of c trains f (Goes now window) = record {
   resends = false;
-  same = emits-by m f (rested m c f now) now (allowed c (rested m c f now) window) (rest-by f (c.idle f.window) (c.limits f.window && is_idle m f now));
+  same = emits-by m f (rested m c f now) now (allowed c (rested m c f now) window) (rest_by f (c.idle f.window) (c.limits f.window && is_idle m f now));
 }
 driven_lem m smss_of c trains f (GoesAsOne now window most room) = record {
   resends = false;
   same = many-by m f (rested m c f now) (emissions_of (row_of m c (rested m c f now) window most room)) now (allowed c (rested m c f now) window) trains
-      (rest-by f (c.idle f.window) (c.limits f.window && is_idle m f now));
+      (rest_by f (c.idle f.window) (c.limits f.window && is_idle m f now));
 }
 driven_lem m smss_of c trains f (Passes now) = record { resends = false; same = refl }
 driven_lem m smss_of c trains f (Asks now does) = record { resends = false; same = refl }
 driven_lem m smss_of c trains f (Limits limit) = record { resends = false; same = refl }
-driven_lem m smss_of c trains f (Chooses window) = record { resends = false; same = chosen-by _ _ (c.limits window) refl }
-driven_lem m smss_of c trains f Loses = record { resends = false; same = refl }
+driven_lem m smss_of c trains f (Waits patient) = record { resends = false; same = refl }
+driven_lem m smss_of c trains f (Chooses window) = record { resends = false; same = chosen_by _ _ (c.limits window) refl }
+driven_lem m smss_of c trains f (Loses loss) = record { resends = false; same = refl }

@@ -1,2 +1,6 @@
 mod Told
 mod Driving
+mod Quiet
+mod Outgoing
+mod Flights
+mod InFlight

@@ -1,14 +1,15 @@
 -- The calls of a flow as calls of its driver.
-use Rattle.std.specs.Prelude.{◌≡◌, ℕ, Bool, false, if◌then◌else◌, List, [], ◌∷◌, Option, replicate}
+use Rattle.std.specs.Prelude.{◌≡◌, ℕ, Bool, if◌then◌else◌, List, [], ◌∷◌, Option, replicate}
 use Rattle.tcp_congestion.specs.Control.{Control}
-use Rattle.tcp_driver.specs.Calls.{Call, Arrives, Emits, Expires, SetsUserTimeout, Uses, after_calls}
+use Rattle.tcp_driver.specs.Calls.{Call, Arrives, Emits, Expires, SetsPatience, SetsUserTimeout, Uses, after_calls}
 use Rattle.tcp_driver.specs.Machine.{Machine}
 use Rattle.tcp_driver.specs.Rows.{emissions_of}
-use Rattle.tcp_flow.specs.Flow.{Flowing, after_loss, after_segment, after_timeout, after_use, after_user_limit, allowed, emitted, emitted_as_one, rested, row_of, with_window}
+use Rattle.tcp_flow.specs.declared.loss.Loss.{Loss}
+use Rattle.tcp_flow.specs.Flow.{Flowing, after_loss, after_patience_of, after_segment, after_timeout, after_use, after_user_limit, allowed, emitted, emitted_as_one, rested, row_of, with_window}
 
--- each at a time, but a user timeout, the choice of a window and a loss that the caller found; an arrival with its source and destination,
--- and whether a device has found its checksum right; an emission within the caller's window, and one of at most so many segments into so
--- much room; a user's call with what the end is after it
+-- each at a time, but a user timeout, patience, the choice of a window and a loss that the caller found; an arrival with its source and
+-- destination, and whether a device has found its checksum right; an emission within the caller's window, and one of at most so many
+-- segments into so much room; a user's call with what the end is after it
 pub data FlowCall (S W : Type 0) : Type 0 where
   Comes : ℕ → List ℕ → List ℕ → List ℕ → Bool → FlowCall S W
   Goes : ℕ → ℕ → FlowCall S W
@@ -16,8 +17,9 @@ pub data FlowCall (S W : Type 0) : Type 0 where
   Passes : ℕ → FlowCall S W
   Asks : ℕ → (S → S) → FlowCall S W
   Limits : Option ℕ → FlowCall S W
+  Waits : Bool → FlowCall S W
   Chooses : W → FlowCall S W
-  Loses : FlowCall S W
+  Loses : Loss → FlowCall S W
 
 abbrev pub after_flow_call : {S W : Type 0} → Machine S → (S → Option ℕ) → Control W → Flowing S W → FlowCall S W → Flowing S W
 after_flow_call m smss_of c f (Comes now src dst bytes vouched) = after_segment m smss_of c f now src dst bytes vouched
@@ -26,8 +28,14 @@ after_flow_call m smss_of c f (GoesAsOne now window most room) = emitted_as_one 
 after_flow_call m smss_of c f (Passes now) = after_timeout m c f now
 after_flow_call m smss_of c f (Asks now does) = after_use m f now (does f.driving.core)
 after_flow_call m smss_of c f (Limits limit) = after_user_limit f limit
+after_flow_call m smss_of c f (Waits patient) = after_patience_of f patient
 after_flow_call m smss_of c f (Chooses window) = with_window smss_of c f window
-after_flow_call m smss_of c f Loses = after_loss m c f
+after_flow_call m smss_of c f (Loses loss) = after_loss m c f loss
+
+-- MANY, THE NEWEST FIRST
+abbrev pub after_flow_calls : {S W : Type 0} → Machine S → (S → Option ℕ) → Control W → Flowing S W → List (FlowCall S W) → Flowing S W
+after_flow_calls m smss_of c f [] = f
+after_flow_calls m smss_of c f (call ∷ earlier) = after_flow_call m smss_of c (after_flow_calls m smss_of c f earlier) call
 
 -- THE DRIVER'S CALLS that a flow's call makes, the newest first: an arrival, behind which the first segment may go out again, an
 -- emission within the windows, or as many as segments go out as one, an expiry, or what the user asks
@@ -40,8 +48,9 @@ calls_of m c f resends (GoesAsOne now window most room) =
 calls_of m c f resends (Passes now) = Expires now ∷ []
 calls_of m c f resends (Asks now does) = Uses now does ∷ []
 calls_of m c f resends (Limits limit) = SetsUserTimeout limit ∷ []
+calls_of m c f resends (Waits patient) = SetsPatience patient ∷ []
 calls_of m c f resends (Chooses window) = []
-calls_of m c f resends Loses = []
+calls_of m c f resends (Loses loss) = []
 
 -- WHATEVER IS CALLED, the driver in a flow is as after these, so that each of its laws holds of it
 pub record IsDriven {S W : Type 0} (m : Machine S) (smss_of : S → Option ℕ) (c : Control W) (f : Flowing S W) (call : FlowCall S W) : Type 0 where

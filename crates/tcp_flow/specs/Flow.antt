@@ -10,9 +10,11 @@ use Rattle.tcp_driver.specs.declared.machine.Sent.{Sent}
 use Rattle.tcp_driver.specs.declared.machine.Timer.{Timer}
 use Rattle.tcp_driver.specs.declared.machine.Timer.TheVariants.{Retransmit, Reorder}
 use Rattle.tcp_driver.specs.Times.{expiry}
-use Rattle.tcp_driver.specs.Driver.{Driving, after_arrival, after_emission, after_time, after_user, after_user_timeout, at, holds, is_withheld, sent_of, way_of}
+use Rattle.tcp_driver.specs.Driver.{Driving, after_arrival, after_emission, after_patience, after_time, after_user, after_user_timeout, at, holds, is_withheld, sent_of, way_of}
 use Rattle.tcp_driver.specs.Machine.{Machine}
 use Rattle.tcp_driver.specs.Rows.{after_emissions, emissions_of}
+use Rattle.tcp_flow.specs.declared.loss.Loss.{Loss}
+use Rattle.tcp_flow.specs.declared.loss.Loss.TheVariants.{Found, Again, Repaired}
 
 pub record Flowing (S W : Type 0) : Type 0 where
   pub driving : Driving S
@@ -150,9 +152,16 @@ after_timeout m c f now = record f {
   window = if c.limits f.window then lost_by m c f (expiry f.driving.times (at f.driving now)) else f.window;
 }
 
--- A LOSS that a caller has found by itself is one that blocks found
-abbrev pub after_loss : {S W : Type 0} → Machine S → Control W → Flowing S W → Flowing S W
-after_loss m c f = record f { window = if c.limits f.window then lost_by m c f (Some Reorder) else f.window }
+-- A LOSS that a caller has found by itself is one that blocks found (RFC 5681, 4.3), and the caller will find by time what else is
+-- lost; where what was sent again since then is lost again, it is another one; and where it is repaired already, recovery is up to
+-- SND.UNA alone (RFC 8985, 7.4.2)
+abbrev pub found_by : {S W : Type 0} → Machine S → Control W → Flowing S W → Loss → W
+found_by m c f Found = c.found_by_time (c.lost f.window (una_of m f) (flight_of m f) (nxt_of m f))
+found_by m c f Again = c.lost_again f.window
+found_by m c f Repaired = c.found_by_time (c.lost f.window (una_of m f) (flight_of m f) (una_of m f))
+
+abbrev pub after_loss : {S W : Type 0} → Machine S → Control W → Flowing S W → Loss → Flowing S W
+after_loss m c f loss = record f { window = if c.limits f.window then found_by m c f loss else f.window }
 
 -- ---- A USER'S CALL is the driver's
 abbrev pub after_use : {S W : Type 0} → Machine S → Flowing S W → ℕ → S → Flowing S W
@@ -160,6 +169,9 @@ after_use m f now core = record f { driving = after_user m f.driving (at f.drivi
 
 abbrev pub after_user_limit : {S W : Type 0} → Flowing S W → Option ℕ → Flowing S W
 after_user_limit f limit = record f { driving = after_user_timeout f.driving limit }
+
+abbrev pub after_patience_of : {S W : Type 0} → Flowing S W → Bool → Flowing S W
+after_patience_of f patient = record f { driving = after_patience f.driving patient }
 
 -- ANOTHER WINDOW, of an end that has sent no text
 abbrev pub with_window : {S W : Type 0} → (S → Option ℕ) → Control W → Flowing S W → W → Flowing S W

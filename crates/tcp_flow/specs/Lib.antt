@@ -1,3 +1,5 @@
 pub mod Flow
 pub mod Wired
 pub mod Calls
+pub mod InFlight
+pub mod FlightOfEnds

@@ -9,8 +9,8 @@ use tcp_driver::{Driver, Report, Sent, Taken, Timer};
 /// that window, and what comes, expires and rests is told to it.
 #[derive(Drop)]
 pub struct Flow<C: Paced + Drop, W: Congestion + Drop> {
-    driver: Driver<C>,
-    window: W,
+    pub(crate) driver: Driver<C>,
+    pub(crate) window: W,
     is_shut: bool,
     sent_at: u64,
 }
@@ -28,7 +28,7 @@ impl<C: Paced + Drop, W: Congestion + Drop> Flow<C, W> {
     ghost use Rattle.tcp_driver.specs.Driver.{arrival_answer, at, sent_of, way_of, written_of};
     ghost use Rattle.tcp_driver.specs.Times.{expiry, next_expiry};
     ghost use Rattle.tcp_driver.specs.Times.{is_suspect};
-    ghost use Rattle.tcp_flow.specs.Flow.{after_loss, after_segment, after_timeout, after_use, after_user_limit, allowed, emitted, emitted_as_one, new_flowing, rested, with_window};
+    ghost use Rattle.tcp_flow.specs.Flow.{after_patience_of, after_segment, after_timeout, after_use, after_user_limit, allowed, emitted, emitted_as_one, new_flowing, rested, with_window};
 
     /// A driver that was just made, and a window.
     pub fn new(driver: Driver<C>, window: W, now: u64) -> Flow<C, W>
@@ -220,7 +220,7 @@ impl<C: Paced + Drop, W: Congestion + Drop> Flow<C, W> {
     ghost use Rattle.tcp_flow.specs.Flow.{StaysInOwn, StaysInWindow, is_idle, lost_by, nxt_of};
 
     /// SND.NXT.
-    fn nxt(&self) -> u64
+    pub(crate) fn nxt(&self) -> u64
         ensures { result ≡ nxt_of C.machine self.now }
     {
         self.driver
@@ -395,6 +395,14 @@ impl<C: Paced + Drop, W: Congestion + Drop> Flow<C, W> {
         self.driver.set_user_timeout(limit);
     }
 
+    /// Sets whether what the peer's blocks pass over is given a whole timeout before it counts as lost, as for the driver
+    /// (RFC 8985).
+    pub fn set_patience(&mut self, is_patient: bool)
+        ensures { self.new ≡ after_patience_of self.old is_patient }
+    {
+        self.driver.set_patience(is_patient);
+    }
+
     /// Of what is in flight the first segment goes out again at once, for a caller that finds losses by itself (RFC 5681, 3.2):
     /// whether anything is in flight. The window isn't told.
     pub fn resend_first(&mut self, now: u64) -> bool
@@ -411,18 +419,6 @@ impl<C: Paced + Drop, W: Congestion + Drop> Flow<C, W> {
         ensures state { self.new ≡ after_use C.machine self.old now (C.machine.resent self.old.driving.core from to) }
     {
         self.driver.resend(now, from, to)
-    }
-
-    /// A loss was found by a caller that finds losses by itself: the window is told, as of one that blocks found (RFC 5681, 4.3).
-    pub fn lose(&mut self)
-        ensures { self.new ≡ after_loss C.machine W.control self.old }
-    {
-        if self.window.limits() {
-            let una = self.driver.core().una();
-            let in_flight = self.driver.flight();
-            let nxt = self.nxt();
-            let _ = self.window.lost(una, in_flight, nxt);
-        }
     }
 
     /// The driver: its end, its estimator, and what it says of both.

@@ -59,6 +59,14 @@ impl Estimator {
         self.trip
     }
 
+    /// G, the granularity of the clock (RFC 6298, 2): no time below it can be told from none.
+    #[must_use]
+    pub fn granularity(&self) -> u64
+        ensures { result ≡ self.now.rules.granularity }
+    {
+        self.rules.granularity
+    }
+
     /// The timeout that a round trip gives (RFC 6298, 2.2 and 2.3).
     fn timeout(&self, trip: RoundTrip) -> u64
         requires srtt { trip.srtt ≤ longest }

@@ -1,0 +1,46 @@
+//! How Reno's window grows, and by how much a loss lowers its threshold.
+ghost use Rattle.std.specs.Prelude.{◌≡◌, ◌≤◌};
+
+use crate::reno::{MAX_WINDOW, Reno};
+
+impl Reno {
+    ghost use Rattle.tcp_congestion.specs.Reno.{after_growth, halved, limited};
+    ghost use Rattle.tcp_congestion.specs.Sizes.{max_threshold};
+
+    /// What the first two duplicates let out beyond the window (RFC 3042, 2).
+    pub(crate) fn limited(&self) -> u64
+        ensures { result ≡ limited self.now }
+    {
+        if self.is_recovering {
+            0
+        } else {
+            self.duplicates.min(2) * self.smss
+        }
+    }
+
+    /// Slow start or congestion avoidance (RFC 5681, 3.1), where half of the window was in use (RFC 7661, 4.3).
+    pub(crate) fn grow(&mut self, acked: u64, flight: u64)
+        ensures { self.new ≡ after_growth self.old acked flight }
+    {
+        if !self.is_used(acked, flight) {
+            return;
+        }
+        if self.cwnd < self.ssthresh {
+            self.slow_start(acked);
+            return;
+        }
+        self.bytes_acked += acked.min(self.cwnd);
+        if self.cwnd <= self.bytes_acked {
+            self.bytes_acked -= self.cwnd;
+            self.cwnd = MAX_WINDOW.min(self.cwnd + self.smss);
+        }
+    }
+
+    /// ssthresh = max(FlightSize / 2, 2 * SMSS) (RFC 5681, 3.1, equation 4).
+    pub(crate) fn halve(&mut self, flight: u64)
+        ensures after { self.new ≡ halved self.old flight }
+        ensures low { self.new.ssthresh ≤ max_threshold }
+    {
+        self.ssthresh = (flight.min(self.cwnd) / 2).max(2 * self.smss);
+    }
+}
