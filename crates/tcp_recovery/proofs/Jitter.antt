@@ -5,7 +5,7 @@ use Rattle.std.proofs.lemmas.Bool.Decides.{nat_tests}
 use Rattle.tcp_recovery.specs.declared.stretch.Stretch.{Stretch}
 use Rattle.tcp_recovery.specs.declared.delivered.Delivered.{Delivered}
 use Rattle.tcp_recovery.specs.Stretches.{appended, between, cut_out, fitted, without}
-use Rattle.tcp_recovery.specs.Delivered.{after_delivery, after_deliveries, after_spurious, is_ambiguous, is_later, with_latest, with_order, with_trip}
+use Rattle.tcp_recovery.specs.Delivered.{after_delivery, after_deliveries, after_spurious, is_ambiguous, is_later, widened, with_latest, with_order, with_trip}
 use Rattle.tcp_recovery.specs.Rack.{Flight, IsFlight}
 use Rattle.tcp_recovery.specs.History.{AreOrderly, Event, Sent, Received, Recovered, Settled, IsIn, SentLast, flight_after}
 use Rattle.tcp_recovery.specs.Laws.{AllTake, JitterIsNoLoss}
@@ -23,7 +23,7 @@ latest-by least d part true l = l
 latest-by least d part false l = l
 
 spurious : (least next : ℕ) (d : Delivered) (b : Bool) → IsLong least d
-    → IsLong least (if b then d else record d { reo_wnd_mult = min 64 (d.reo_wnd_mult + 1); reo_wnd_persist = 16; round = next })
+    → IsLong least (record (if b then d else widened d next) { reordering_seen = true })
 spurious least next d true l = l
 spurious least next d false l = l
 

@@ -5,7 +5,7 @@ use Rattle.std.proofs.lemmas.Bool.Decides.{nat_tests}
 use Rattle.tcp_recovery.specs.declared.stretch.Stretch.{Stretch}
 use Rattle.tcp_recovery.specs.declared.delivered.Delivered.{Delivered}
 use Rattle.tcp_recovery.specs.Stretches.{AreInOrder, appended, before, between, cut_out, fitted, without}
-use Rattle.tcp_recovery.specs.Delivered.{after_delivery, after_deliveries, after_spurious, is_ambiguous, is_later, with_latest, with_order, with_trip}
+use Rattle.tcp_recovery.specs.Delivered.{after_delivery, after_deliveries, after_spurious, is_ambiguous, is_later, widened, with_latest, with_order, with_trip}
 use Rattle.tcp_recovery.specs.Rack.{Flight, IsFlight}
 use Rattle.tcp_recovery.specs.History.{Event, Sent, Received, Recovered, Settled, IsIn, AreOrderly, SentLast, IsDelivered, flight_after}
 use Rattle.tcp_recovery.proofs.Order.{before-order, behind-order}
@@ -111,8 +111,8 @@ ordered : (events : List Event) (d : Delivered) (part : Stretch) → IsTold even
 ordered events d part t n = record { latest = t.latest; highest = greater events d.fack part.end (nat_lt d.fack part.end) refl t.highest n }
 
 spurious : (events : List Event) (d : Delivered) (next : ℕ) (b : Bool) → IsTold events d
-    → IsTold events (if b then d else record d { reo_wnd_mult = min 64 (d.reo_wnd_mult + 1); reo_wnd_persist = 16; round = next })
-spurious events d next true t = t
+    → IsTold events (record (if b then d else widened d next) { reordering_seen = true })
+spurious events d next true t = record { latest = t.latest; highest = t.highest }
 spurious events d next false t = record { latest = t.latest; highest = t.highest }
 
 delivery-by : (events : List Event) (d : Delivered) (part : Stretch) (now next : ℕ) (unknown b : Bool) → IsTold events d

@@ -1,5 +1,5 @@
 -- What deliveries tell (RFC 8985, 5.3 and 6.2, steps 2 to 4).
-use Rattle.std.specs.Prelude.{ℕ, ◌+◌, ◌-◌, ◌*◌, ◌/◌, ◌==◌, ◌&&◌, ◌||◌, not, min, max, Bool, false, nat_lt, nat_le, if◌then◌else◌, List, [], ◌∷◌}
+use Rattle.std.specs.Prelude.{ℕ, ◌+◌, ◌-◌, ◌*◌, ◌/◌, ◌==◌, ◌&&◌, ◌||◌, not, min, max, Bool, false, true, nat_lt, nat_le, if◌then◌else◌, List, [], ◌∷◌}
 use Rattle.tcp_recovery.specs.declared.stretch.Stretch.{Stretch}
 use Rattle.tcp_recovery.specs.declared.delivered.Delivered.{Delivered}
 
@@ -43,11 +43,14 @@ with_order d part = record d {
   fack = max d.fack part.end;
 }
 
--- STEP 4 (RFC 8985, 6.2). What was sent again hadn't been lost, as a DSACK would say later (own): the window grows by a
--- quarter of min_RTT, up to 64 of them (own), once in a round trip, and for 16 recoveries
+-- STEP 4 (RFC 8985, 6.2). What was sent again hadn't been lost, as a DSACK would say later (own): it came late, which is
+-- reordering, though the standard sees none of what was sent again (own); and the window grows by a quarter of min_RTT, up
+-- to 64 of them (own), once in a round trip, and for 16 recoveries
+abbrev pub widened : Delivered → ℕ → Delivered
+widened d next = record d { reo_wnd_mult = min 64 (d.reo_wnd_mult + 1); reo_wnd_persist = 16; round = next }
+
 abbrev pub after_spurious : Delivered → ℕ → ℕ → Delivered
-after_spurious d start next =
-    if nat_lt start d.round then d else record d { reo_wnd_mult = min 64 (d.reo_wnd_mult + 1); reo_wnd_persist = 16; round = next }
+after_spurious d start next = record (if nat_lt start d.round then d else widened d next) { reordering_seen = true }
 
 -- A STRETCH WAS DELIVERED, or a part of one, while all before `next` was sent: step 3 is for what is ambiguous, too.
 -- Where its first time is 0, as of stretches that were joined over a gap, it isn't known when it was sent, nor which of

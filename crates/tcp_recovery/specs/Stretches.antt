@@ -33,6 +33,11 @@ abbrev pub first_of : List Stretch → Option (ℕ × ℕ)
 first_of [] = None
 first_of (s ∷ later) = Some (s.start, s.end)
 
+-- when the first of them was sent last, if it was sent again (RFC 8985, 5.2: Segment.xmit_ts and Segment.retransmitted)
+abbrev pub resent_of : List Stretch → Option ℕ
+resent_of [] = None
+resent_of (s ∷ later) = if s.is_again then Some s.last else None
+
 -- whether these are the first numbers of the first stretch, and it has more
 abbrev pub are_first : ℕ → ℕ → List Stretch → Bool
 are_first start end [] = false

@@ -1,5 +1,5 @@
 ghost use Rattle.std.specs.Prelude.{ℕ, ◌≡◌, ◌≤◌};
-ghost use Rattle.tcp_recovery.specs.Delivered.{after_deliveries, after_delivery, after_recovery, after_spurious, new_delivered, reo_wnd_of, with_latest, with_order, with_trip};
+ghost use Rattle.tcp_recovery.specs.Delivered.{after_deliveries, after_delivery, after_recovery, after_spurious, new_delivered, reo_wnd_of, widened, with_latest, with_order, with_trip};
 ghost use Rattle.tcp_recovery.specs.Stretches.{AreInOrder, between};
 
 use crate::stretch::Stretch;
@@ -20,7 +20,8 @@ pub struct Delivered {
     /// RACK.fack: the highest position before which anything was delivered, of all of which it is known when it was
     /// sent.
     pub fack: u64,
-    /// RACK.reordering_seen: what was never sent again was delivered behind something that was sent later.
+    /// RACK.reordering_seen: what was never sent again was delivered behind something that was sent later, or what was
+    /// sent again came too soon to be that, the project's own addition.
     pub reordering_seen: bool,
     /// RACK.reo_wnd_mult: how many quarters of the least round trip the window has, 64 at most.
     pub reo_wnd_mult: u64,
@@ -63,13 +64,25 @@ impl Delivered {
         told.with_order(part)
     }
 
-    /// What was sent again had been delivered before (RFC 8985, 6.2, step 4).
+    /// What was sent again hadn't been lost: it came late (RFC 8985, 6.2, step 4).
     fn after_spurious(self, start: u64, next: u64) -> Delivered
         ensures { result ≡ after_spurious self start next }
     {
-        if start < self.round {
-            return self;
+        let told = if start < self.round {
+            self
+        } else {
+            self.widened(next)
+        };
+        Delivered {
+            reordering_seen: true,
+            ..told
         }
+    }
+
+    /// The window is widened (RFC 8985, 6.2, step 4).
+    fn widened(self, next: u64) -> Delivered
+        ensures { result ≡ widened self next }
+    {
         Delivered {
             reo_wnd_mult: MAX_MULT.min(self.reo_wnd_mult.saturating_add(1)),
             reo_wnd_persist: 16,

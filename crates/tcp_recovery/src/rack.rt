@@ -3,7 +3,9 @@ ghost use Rattle.std.specs.Prelude.{◌≡◌, ◌+◌, ◌<◌, ◌≤◌, ◌^
 use crate::delivered::Delivered;
 use crate::losses::{deadline_of, lost_in};
 use crate::stretch::Stretch;
-use crate::stretches::{MAX_STRETCHES as MOST, ROOM, first_behind, place_again, place_new, remove};
+use crate::stretches::{
+    MAX_STRETCHES as MOST, ROOM, first_behind, place_again, place_new, remove, resent_behind,
+};
 use arrayvec::ArrayVec;
 use std::marker::Model;
 
@@ -34,7 +36,7 @@ impl Model for Rack {
 
 impl Rack {
     ghost use Rattle.tcp_recovery.specs.Delivered.{reo_wnd_of};
-    ghost use Rattle.tcp_recovery.specs.Stretches.{behind, first_of};
+    ghost use Rattle.tcp_recovery.specs.Stretches.{behind, first_of, resent_of};
     ghost use Rattle.tcp_recovery.specs.Rack.{after_received, after_recovered, after_sent, after_settled, deadline_of, lost_in, new_flight};
 
     /// Nothing was sent yet (RFC 8985, 5.2 and 5.3).
@@ -55,6 +57,15 @@ impl Rack {
     {
         let Rack { delivered, .. } = self;
         *delivered
+    }
+
+    /// SND.NXT: the position after all that it was told of as sent.
+    #[must_use]
+    pub fn next(&self) -> u64
+        ensures { result ≡ self.now.next }
+    {
+        let Rack { next, .. } = self;
+        *next
     }
 
     /// A segment was sent that begins at `start` and takes `count` numbers, its SYN and FIN counted (RFC 9293, 3.4).
@@ -135,6 +146,15 @@ impl Rack {
         ensures { result ≡ first_of (behind at self.now.stretches) }
     {
         first_behind(self.stretches.as_slice(), at)
+    }
+
+    /// When the first numbers of the stretches from a position on were sent last, in microseconds, if they were sent again
+    /// (RFC 8985, 5.2): of those that were joined the latest time.
+    #[must_use]
+    pub fn resent_at(&self, at: u64) -> Option<u64>
+        ensures { result ≡ resent_of (behind at self.now.stretches) }
+    {
+        resent_behind(self.stretches.as_slice(), at)
     }
 
     /// The first stretch that is lost, as the position of its first number and that after its last: something was

@@ -1,7 +1,7 @@
 //! Lists of stretches in order.
 ghost use Rattle.std.specs.Prelude.{ℕ, ◌≡◌, ◌+◌, ◌<◌, ◌≤◌, ◌++◌, ◌∷◌, [], suc, length};
 ghost use Rattle.arrayvec.specs.ArrayVec.{array_vec_len};
-ghost use Rattle.tcp_recovery.specs.Stretches.{AreInOrder, appended, are_first, before, behind, cut_out, distance, first_of, fitted, least_distance, with_joined, without};
+ghost use Rattle.tcp_recovery.specs.Stretches.{AreInOrder, appended, are_first, before, behind, cut_out, distance, first_of, fitted, least_distance, resent_of, with_joined, without};
 
 use crate::stretch::Stretch;
 use arrayvec::ArrayVec;
@@ -36,7 +36,8 @@ fn push_behind(out: &mut ArrayVec<Stretch, ROOM>, all: &[Stretch], at: u64)
     }
 }
 
-/// Cuts out what goes out again, as a stretch of its own.
+/// Cuts out what goes out again, as a stretch of its own. Its list is off the stack before the next one is made.
+#[inline(never)]
 fn cut_out(all: &mut ArrayVec<Stretch, ROOM>, start: u64, end: u64, now: u64)
     requires { length (before start all.old.items) + length (behind end all.old.items) ≤ 65 }
     ensures { all.new.items ≡ cut_out start end now all.old.items }
@@ -78,12 +79,12 @@ fn least_of(first: &Stretch, later: &[Stretch], most: u64) -> u64
     least
 }
 
-/// The first two whose distance is so little as one.
-fn join_at(first: &Stretch, later: &[Stretch], least: u64) -> ArrayVec<Stretch, ROOM>
-    requires { length later.now < 66 }
-    ensures { result.items ≡ with_joined least (first.now ∷ later.now) }
+/// The first two whose distance is so little as one, into a list that is empty.
+fn join_at(first: &Stretch, later: &[Stretch], least: u64, out: &mut ArrayVec<Stretch, ROOM>)
+    requires few { length later.now < 66 }
+    requires empty { out.old.items ≡ [] }
+    ensures { out.new.items ≡ with_joined least (first.now ∷ later.now) }
 {
-    let mut out = ArrayVec::new();
     let mut before = *first;
     let mut is_joined = false;
     for s in later {
@@ -96,7 +97,6 @@ fn join_at(first: &Stretch, later: &[Stretch], least: u64) -> ArrayVec<Stretch, 
         }
     }
     out.push(before);
-    out
 }
 
 /// Joins the two nearest in time where there are too many.
@@ -107,14 +107,15 @@ fn fit(all: &mut ArrayVec<Stretch, ROOM>)
     if all.len() <= MAX_STRETCHES {
         return;
     }
-    let thinned = match all.as_slice() {
+    let mut thinned = ArrayVec::new();
+    match all.as_slice() {
         [first, second, ..] => {
             let later = &all.as_slice()[1..];
             let least = least_of(second, &later[1..], first.distance(second));
-            join_at(first, later, least)
+            join_at(first, later, least, &mut thinned);
         }
         _ => return,
-    };
+    }
     *all = thinned;
 }
 
@@ -175,10 +176,20 @@ fn rebuild(all: &mut ArrayVec<Stretch, ROOM>, start: u64, end: u64)
     requires { length (before start all.old.items) + length (behind end all.old.items) ≤ 65 }
     ensures { all.new.items ≡ fitted (without start end all.old.items) }
 {
+    take_out(all, start, end);
+    fit(all);
+}
+
+/// Takes numbers out. Its list is off the stack before the next one is made.
+#[inline(never)]
+fn take_out(all: &mut ArrayVec<Stretch, ROOM>, start: u64, end: u64)
+    requires { length (before start all.old.items) + length (behind end all.old.items) ≤ 65 }
+    ensures items { all.new.items ≡ without start end all.old.items }
+    ensures few { array_vec_len all.new ≤ 65 }
+{
     let mut out = ArrayVec::new();
     push_before(&mut out, all.as_slice(), start);
     push_behind(&mut out, all.as_slice(), end);
-    fit(&mut out);
     *all = out;
 }
 
@@ -189,6 +200,18 @@ pub(crate) fn first_behind(all: &[Stretch], at: u64) -> Option<(u64, u64)>
     for s in all {
         if at < s.end {
             return Some((s.start.max(at), s.end));
+        }
+    }
+    None
+}
+
+/// When the first numbers from a position on were sent last, if they were sent again.
+pub(crate) fn resent_behind(all: &[Stretch], at: u64) -> Option<u64>
+    ensures { result ≡ resent_of (behind at all.now) }
+{
+    for s in all {
+        if at < s.end {
+            return if s.is_again { Some(s.last) } else { None };
         }
     }
     None

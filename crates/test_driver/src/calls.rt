@@ -52,6 +52,12 @@ pub(crate) fn answer_call(
         answers.push_str("set")?;
         return Ok(());
     }
+    if let b"patience" = word {
+        let (is_patient, _) = first_number(rest)?;
+        driver.set_patience(is_patient == 1);
+        answers.push_str("set")?;
+        return Ok(());
+    }
     let (now, rest) = first_number(rest)?;
     match word {
         b"arrive" => arrives(driver, now, rest, answers),

@@ -3,7 +3,7 @@
 //!
 //! `new NOW NUMBER TIME_WAIT SUSPECT HANDSHAKE USER FIN_WAIT_2` begins with another end, whose first number is this; a limit of `-` is
 //! none. Then `send NOW COUNT`, `receive NOW`, `acknowledge NOW`, `close NOW`, `abort NOW`, `resend-first NOW`,
-//! `user-timeout LIMIT`, `arrive NOW ACK GAP FIN WINDOW FLAGS`, `emit NOW WINDOW` and `timeout NOW`.
+//! `user-timeout LIMIT`, `patience 0` or `1`, `arrive NOW ACK GAP FIN WINDOW FLAGS`, `emit NOW WINDOW` and `timeout NOW`.
 #![tactic(auto)]
 
 mod calls;

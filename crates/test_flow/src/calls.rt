@@ -4,7 +4,7 @@ use crate::words::{first_byte, first_limit, first_number};
 use kit_text::{LineError, SPACE, cut};
 use tcp_congestion::{AnyWindow, Congestion, Cubic, MAX_LIMIT, MAX_SEGMENT, Reno};
 use tcp_driver::{Driver, Limits, Sent, Taken, Timer};
-use tcp_flow::Flow;
+use tcp_flow::{Flow, Loss};
 use tcp_timing::Rules;
 
 /// A flow of an end that has sent nothing yet, under a window of full segments of a number: the time, the first number, and how
@@ -104,6 +104,13 @@ pub(crate) fn answer_call(
             answers.push_str("set")?;
             return Ok(());
         }
+        b"patience" => {
+            let (is_patient, _) = first_number(rest)?;
+            flow.set_patience(is_patient == 1);
+            answers.push_str("set")?;
+            return Ok(());
+        }
+        b"lose" => return loses(flow, rest, answers),
         b"choose" => return chooses(flow, rest, answers),
         _ => {}
     }
@@ -152,6 +159,22 @@ fn answer_plain(
         }
         _ => return Err(LineError::BadForm),
     }
+    Ok(())
+}
+
+/// A loss was found by the caller.
+fn loses(
+    flow: &mut Flow<Small, AnyWindow>,
+    rest: &[u8],
+    answers: &mut String,
+) -> Result<(), LineError> {
+    match rest {
+        b"found" => flow.lose(Loss::Found),
+        b"again" => flow.lose(Loss::Again),
+        b"repaired" => flow.lose(Loss::Repaired),
+        _ => return Err(LineError::BadForm),
+    }
+    answers.push_str("told")?;
     Ok(())
 }
 

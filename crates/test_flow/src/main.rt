@@ -4,7 +4,8 @@
 //! `reno NOW NUMBER LIMIT`, `cubic NOW NUMBER LIMIT` and `none NOW NUMBER LIMIT` begin with another end, whose first number is
 //! this, under a window of numbers. Then `send NOW COUNT`, `close NOW`, `abort NOW`, `receive NOW`, `acknowledge NOW`, `arrive NOW
 //! ACK GAP FIN WINDOW FLAGS`, `vouched` with the same, `emit NOW WINDOW`, `train NOW WINDOW`, `timeout NOW`, `tick NOW`,
-//! `resend-first NOW`, `user-timeout LIMIT` and `choose RULE SMSS LIMIT`.
+//! `resend-first NOW`, `user-timeout LIMIT`, `patience 0` or `1`, `lose found`, `lose again` or `lose repaired`, and `choose RULE SMSS
+//! LIMIT`.
 #![tactic(auto)]
 
 mod calls;

@@ -3,7 +3,8 @@
 //!   START END` and `recovered` answer RACK.xmit_ts, RACK.end_seq, RACK.rtt, RACK.fack and RACK.reo_wnd_mult, and
 //!   `reordered` once reordering was seen.
 //! - `window SRTT MIN_RTT CERTAIN` answers the reordering window, `lost WINDOW NOW` the first stretch that is lost, and
-//!   `deadline WINDOW` when the next one is.
+//!   `deadline WINDOW` when the next one is; `resent AT` when what is outstanding from there on was sent last, if it was
+//!   sent again.
 //! - `probe` begins with no probe; `start NOW SRTT ONE RTO_AT`, with a SRTT of 0 where none is known, `stop`,
 //!   `recovering`, `measured`, `probed NXT AGAIN` and `acked UNA BOTH_CAME` answer when the probe is sent, and `repaired`
 //!   where it has repaired a loss.
@@ -30,7 +31,7 @@ fn answer_line(
     let (word, rest) = cut(SPACE, line);
     let rest = rest.unwrap_or(b"");
     match word {
-        b"window" | b"lost" | b"deadline" => answer_found(rack, word, rest, answers)?,
+        b"window" | b"lost" | b"deadline" | b"resent" => answer_found(rack, word, rest, answers)?,
         b"probe" | b"start" | b"stop" | b"recovering" | b"measured" | b"probed" | b"acked" => {
             answer_probe(probe, word, rest, answers)?;
         }

@@ -68,6 +68,10 @@ pub(crate) fn answer_found(
                 None => answers.push_str("-")?,
             }
         }
+        b"resent" => match rack.resent_at(number(rest)?) {
+            Some(at) => write!(answers, "{at}")?,
+            None => answers.push_str("-")?,
+        },
         _ => match rack.deadline(number(rest)?) {
             Some(at) => write!(answers, "{at}")?,
             None => answers.push_str("-")?,

@@ -119,6 +119,8 @@ fn happens<W: Congestion>(window: &mut W, word: &[u8], rest: &[u8]) -> Result<An
             let (flight, rest) = first_number(rest)?;
             window.timed_out(flight, number(rest)?);
         }
+        b"lost-again" => window.lost_again(),
+        b"finds-by-time" => window.finds_by_time(),
         b"resent" => window.resent(number(rest)?),
         b"syn-lost" => window.syn_was_resent(),
         b"idle" => window.was_idle(),

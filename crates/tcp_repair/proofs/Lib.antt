@@ -1,0 +1,6 @@
+pub mod Alone
+mod Calling
+pub mod Heard
+pub mod Resting
+pub mod Runs
+pub mod Truths

@@ -1,0 +1,67 @@
+-- WHAT GOES OUT AGAIN (RFC 8985, 6.2, step 5, and 7.3), before what the connection emits by itself.
+use Rattle.std.specs.Prelude.{ℕ, ◌+◌, ◌-◌, Bool, false, true, not, ◌&&◌, if◌then◌else◌, nat_lt, Option, Some, None, max, min}
+use Rattle.tcp_driver.specs.declared.machine.Sent.{Sent}
+use Rattle.tcp_driver.specs.Deadlines.{no_later}
+use Rattle.tcp_recovery.specs.Delivered.{greatest}
+use Rattle.tcp_recovery.specs.Probe.{after_probe}
+use Rattle.tcp_recovery.specs.Rack.{after_settled}
+use Rattle.tcp_repair.specs.declared.seen.Seen.{Seen}
+use Rattle.tcp_repair.specs.declared.seen.Again.{Again}
+use Rattle.tcp_repair.specs.Recovery.{Repair, is_looking, loss_at, lost_at, min_rtt_of, recovering, sent_between, with_probe}
+
+-- ---- WHAT IS DUE WAS SENT BEFORE: then nothing else goes out again
+abbrev pub goes_again : Seen → Option Sent → Bool
+goes_again s None = false
+goes_again s (Some sent) = nat_lt 0 sent.count && nat_lt sent.start s.nxt
+
+-- ---- THE PROBE IS DUE: the last segment goes out again, as SMSS numbers at most. New data that may go out has gone out already, since
+-- who calls emits until nothing goes out; what the congestion window holds back isn't sent as a probe (own: 7.3 lets one segment of
+-- that go). Where blocks report a gap or a loss is being repaired it is the first segment, which nothing else will send (own)
+abbrev pub is_probe_due : Repair → Bool
+is_probe_due r = no_later r.probe.at r.clock
+
+abbrev pub tail : Seen → Again
+tail s = record { from = max s.una (s.nxt - s.smss); to = s.nxt; loss = None }
+
+abbrev pub head : Seen → Again
+head s = record { from = s.una; to = min s.nxt (s.una + s.smss); loss = None }
+
+abbrev pub probe_of : Repair → Seen → Again
+probe_of r s = if is_looking r s then head s else tail s
+
+-- ---- WHAT IS LOST goes out again, as far as it wasn't reported as received
+abbrev pub has_unmarked : Option (ℕ × ℕ) → ℕ → Bool
+has_unmarked None end = false
+has_unmarked (Some run) end = nat_lt (run.0) end
+
+abbrev pub loss_of : Repair → (ℕ → Option (ℕ × ℕ)) → Option (ℕ × ℕ) → Option Again
+loss_of r unmarked None = None
+loss_of r unmarked (Some lost) =
+    if has_unmarked (unmarked (lost.0)) (lost.1) then Some (record { from = lost.0; to = lost.1; loss = Some (loss_at r (lost.0)) }) else None
+
+-- A PROBE THAT IS DUE goes out before anything, also where something that was sent before is due, which for so long couldn't go out:
+-- the first segment fits each window (own)
+unfoldable pub again_of : Repair → Seen → (ℕ → Option (ℕ × ℕ)) → Bool → Option Again
+again_of r s unmarked resending =
+    if is_probe_due r then Some (probe_of r s) else (if resending then None else loss_of r unmarked (lost_at r s r.clock))
+
+-- the recovery behind that. Only a probe of the last segment tells later whether it has repaired a loss (7.4.2); and a stretch of which
+-- all was reported, by more runs than are looked at, had come before
+abbrev pub with_loss : Repair → Seen → (ℕ → Option (ℕ × ℕ)) → Option (ℕ × ℕ) → Repair
+with_loss r s unmarked None = r
+with_loss r s unmarked (Some lost) =
+    if has_unmarked (unmarked (lost.0)) (lost.1) then recovering r (lost.0) s.nxt else record r { rack = after_settled r.rack (lost.0) (lost.1) }
+
+unfoldable pub readied : Repair → Seen → (ℕ → Option (ℕ × ℕ)) → Bool → Repair
+readied r s unmarked resending =
+    if is_probe_due r
+    then record r { probe = after_probe r.probe s.nxt (not (is_looking r s)) }
+    else (if resending then r else with_loss r s unmarked (lost_at r s r.clock))
+
+-- ---- WHAT HAS GONE OUT is told, where it takes numbers (RFC 8985, 6.1 and 7.2)
+abbrev pub went_between : Repair → Seen → ℕ → ℕ → Repair
+went_between r s start end =
+    if nat_lt start end then with_probe (record r { rack = sent_between r.rack start end r.clock (min_rtt_of r) }) s else r
+
+unfoldable pub went : Repair → Seen → ℕ → ℕ → Repair
+went r s start count = went_between r s start (min greatest (start + count))

@@ -1,0 +1,11 @@
+pub mod Reports
+pub mod Trips
+pub mod Seen
+pub mod Recovery
+pub mod Arrival
+pub mod Emission
+pub mod Deadlines
+pub mod Repairing
+pub mod Wired
+pub mod Calls
+pub mod History

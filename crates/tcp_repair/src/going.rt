@@ -1,0 +1,145 @@
+//! What is lost goes out again, and the probe (RFC 8985, 6.2, step 5, and 7.3).
+ghost use Rattle.std.specs.Prelude.{◌≡◌, ◌≤◌, ◌^◌, IfSome, not, option_map};
+ghost use Rattle.tcp_driver.specs.Deadlines.{no_later};
+ghost use Rattle.tcp_recovery.specs.Probe.{after_probe};
+ghost use Rattle.tcp_repair.specs.Deadlines.{IsToCome};
+ghost use Rattle.tcp_repair.specs.Emission.{goes_again, has_unmarked, head, tail};
+
+use crate::recovery::Recovery;
+use crate::reporting::Reporting;
+use crate::seen::{Again, Seen};
+use tcp_connection::Next;
+
+/// Whether what is due was sent before.
+pub(crate) fn goes_again(seen: Seen, next: Option<Next>) -> bool
+    ensures { result ≡ goes_again seen (option_map (λ next. next.sent) next) }
+{
+    match next {
+        Some(next) => 0 < next.sent.count && next.sent.start < seen.nxt,
+        None => false,
+    }
+}
+
+/// The last segment of what is in flight.
+fn tail(seen: Seen) -> Again
+    ensures { result ≡ tail seen }
+{
+    Again {
+        from: seen.una.max(seen.nxt.saturating_sub(seen.smss)),
+        to: seen.nxt,
+        loss: None,
+    }
+}
+
+/// The first segment of what is in flight.
+fn head(seen: Seen) -> Again
+    ensures { result ≡ head seen }
+{
+    Again {
+        from: seen.una,
+        to: seen.nxt.min(seen.una.saturating_add(seen.smss)),
+        loss: None,
+    }
+}
+
+/// Whether any number of what is lost wasn't reported, where this is the first run from it on that wasn't.
+fn has_unmarked(run: Option<(u64, u64)>, end: u64) -> bool
+    ensures { result ≡ has_unmarked run end }
+{
+    match run {
+        Some((from, _)) => from < end,
+        None => false,
+    }
+}
+
+/// Whether there is a time, and it has come.
+fn has_come(time: Option<u64>, now: u64) -> bool
+    ensures { result ≡ no_later time now }
+{
+    match time {
+        Some(time) => time <= now,
+        None => false,
+    }
+}
+
+impl Recovery {
+    ghost use Rattle.tcp_repair.specs.Emission.{again_of, is_probe_due, loss_of, probe_of, readied, went, went_between, with_loss};
+    ghost use Rattle.tcp_repair.specs.Recovery.{is_looking, lost_at};
+
+    /// Whether the probe is due.
+    pub(crate) fn is_probe_due(&self) -> bool
+        ensures { result ≡ is_probe_due self.now }
+    {
+        has_come(self.probe.deadline(), self.timed.clock())
+    }
+
+    /// What goes out again now, if anything does, where what is due was sent before or wasn't.
+    #[tactic(auto, using(crate::proofs::Resting::not_due), unfolding(crate::specs::Emission::again_of, crate::specs::Emission::readied))]
+    pub(crate) fn next_again<C: Reporting>(
+        &mut self,
+        core: &C,
+        seen: Seen,
+        resending: bool,
+    ) -> Option<Again>
+        ensures again { result ≡ again_of self.old seen (C.reports.unmarked core.now) resending }
+        ensures state { self.new ≡ readied self.old seen (C.reports.unmarked core.now) resending }
+        ensures probe { IsToCome self.new.probe.at self.new.clock }
+        ensures clock { self.new.clock ≡ self.old.clock }
+    {
+        if self.is_probe_due() {
+            return Some(self.next_probe(seen));
+        }
+        if resending {
+            return None;
+        }
+        self.next_loss(core, seen)
+    }
+
+    /// The probe goes out.
+    fn next_probe(&mut self, seen: Seen) -> Again
+        ensures again { result ≡ probe_of self.old seen }
+        ensures state { self.new ≡ record self.old { probe = after_probe self.old.probe seen.nxt (not (is_looking self.old seen)) } }
+    {
+        let is_looking = self.is_looking(seen);
+        self.probe.sent(seen.nxt, !is_looking);
+        if is_looking { head(seen) } else { tail(seen) }
+    }
+
+    /// What is lost, if anything is.
+    fn next_loss<C: Reporting>(&mut self, core: &C, seen: Seen) -> Option<Again>
+        ensures again { result ≡ loss_of self.old (C.reports.unmarked core.now) (lost_at self.old seen self.old.clock) }
+        ensures state { self.new ≡ with_loss self.old seen (C.reports.unmarked core.now) (lost_at self.old seen self.old.clock) }
+        ensures probe { IsToCome self.old.probe.at self.old.clock → IsToCome self.new.probe.at self.new.clock }
+        ensures clock { self.new.clock ≡ self.old.clock }
+    {
+        let (from, to) = self.lost(seen)?;
+        if !has_unmarked(core.unmarked(from), to) {
+            self.timed.settled(from, to);
+            return None;
+        }
+        let loss = Some(self.loss_at(from));
+        self.recovers(from, seen.nxt);
+        Some(Again { from, to, loss })
+    }
+
+    /// What begins at a position and takes so many numbers has gone out.
+    #[tactic(auto, unfolding(crate::specs::Emission::went))]
+    pub(crate) fn went(&mut self, seen: Seen, start: u64, count: u64)
+        requires { IfSome seen.srtt (λ time. time ≤ 2 ^ 40) }
+        ensures { self.new ≡ went self.old seen start count }
+    {
+        self.went_between(seen, start, start.saturating_add(count));
+    }
+
+    /// What lies from one position on and before another has gone out, if anything does.
+    fn went_between(&mut self, seen: Seen, start: u64, end: u64)
+        requires { IfSome seen.srtt (λ time. time ≤ 2 ^ 40) }
+        ensures { self.new ≡ went_between self.old seen start end }
+    {
+        if start < end {
+            let min_rtt = self.min_rtt();
+            self.timed.sent(start, end, min_rtt);
+            self.start_probe(seen);
+        }
+    }
+}
