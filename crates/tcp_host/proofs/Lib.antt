@@ -1,3 +1,7 @@
 mod Apart
-mod Timed
+mod Doors
+mod Due
+mod Earliest
+mod Expiring
+pub mod Resting
 mod Turned

@@ -1,5 +1,5 @@
 -- WHOM A SEGMENT IS FOR (RFC 9293, 3.1): the pair of the sockets that it goes to and comes from.
-use Rattle.std.specs.Prelude.{ℕ, ◌+◌, ◌*◌, List, ◌∷◌, Option, Some, None}
+use Rattle.std.specs.Prelude.{ℕ, ◌+◌, ◌*◌, Bool, false, ◌==◌, List, ◌∷◌, Option, Some, None, bit_and, slice_get}
 use Rattle.tcp_host.specs.declared.pair.Pair.{Pair}
 
 -- two bytes are a number, the greater first
@@ -10,3 +10,11 @@ abbrev pub pair_of : List ℕ → List ℕ → List ℕ → Option Pair
 pair_of src dst (a ∷ b ∷ c ∷ d ∷ rest) =
     Some (record { local = record { addr = dst; port = number c d }; peer = record { addr = src; port = number a b } })
 pair_of src dst other = None
+
+-- IT ASKS FOR A CONNECTION where it has SYN, and neither RST nor ACK (RFC 9293, 3.10.7.2)
+abbrev pub asks_by : Option ℕ → Bool
+asks_by None = false
+asks_by (Some flags) = bit_and flags 22 == 2
+
+abbrev pub asks : List ℕ → Bool
+asks bytes = asks_by (slice_get bytes 13)

@@ -1,21 +1,60 @@
 //! Many ends of connections under one object: each is found by its pair of sockets (RFC 9293, 3.3.1), listeners by
 //! theirs, and the next deadline of all, each by steps that go by the logarithm of how many there are.
 //!
-//! - [`Host`]: the ends, whatever their core is, and the listeners. Segments, emissions and time go through it, and of
-//!   the user's calls `send`, `receive`, `close` and `abort`.
+//! - [`Timed`], [`Used`], [`Retiring`]: what an end is to a host: a driver, or a connection with its window and its
+//!   policy, which may find losses by time.
+//! - [`Host`]: the ends, all of one kind, TIME-WAIT records of ends that are gone ([`Record`]), and the listeners, each
+//!   with its backlog. Segments, emissions, time and the calls of each end's user go through it, and the answers to
+//!   strays.
+//! - [`Arrived`]: what became of a segment; [`Place`]: whose turn it is, or who was told the time.
 //! - [`Pair`], [`Socket`]: the four values of a connection, and the two of a listener.
+//! - [`laws`]: what follows, whatever the ends are and whatever is called.
 //!
-//! Left out: what a listener's end is made of, and the answer to a stray. [`Host::arrive`] says where a segment
-//! belongs. What else a driver has can't be called of an end in a host: `arrive_vouched`, `emit_train`, `resend_first`,
-//! `resend` and `set_user_timeout`. [`Host::end`] lends an end to be looked at alone, and [`Host::remove`] gives it
-//! back.
+//! The caller's loop, each turn at some time `now`:
+//! 1. waits for a segment or for [`Host::poll_at`], whichever comes first,
+//! 2. passes each segment that has come to [`Host::arrive`]. For a listener that it asks for a connection ([`asks`]) it
+//!    opens an end, puts it there by [`Host::admit`], and passes the segment again; a stray it passes to
+//!    [`Host::stray`], and sends what that writes; what a full backlog drops it forgets,
+//! 3. takes what [`Host::accept`] gives, and makes the calls of its users,
+//! 4. calls [`Host::timeout`] until it is `None`,
+//! 5. calls [`Host::emit`] and sends what it writes, until nobody waits,
+//! 6. has those ends retire that are in TIME-WAIT and that their users have read ([`Host::retire`]), and takes those
+//!    away that have ended ([`Host::remove`]).
+//!
+//! Left out: what a listener's end is made of. What else an end has can't be called of it in a host, as segments that a
+//! device has summed, trains, and what is chosen for an end. [`Host::end`] lends an end to be looked at alone, and
+//! [`Host::remove`] gives it back. A record takes what comes without the guard of its end's limits. No end makes way for
+//! another: where a backlog is full of handshakes that nobody goes on with, their own limit ends them
+//! ([`tcp_driver::Limits::handshake`]).
 #![tactic(auto)]
 
 mod arrived;
+mod backlog;
+mod calls;
+mod door;
+mod guest;
 mod host;
+mod keeping;
 pub mod laws;
 mod pair;
+mod place;
+mod record;
+mod repairing;
+mod retiring;
+mod roll;
+mod strays;
+mod timed;
+mod used;
+mod using;
 
 pub use arrived::Arrived;
+pub use backlog::NotAdmitted;
+pub use door::Door;
+pub use guest::Guest;
 pub use host::Host;
-pub use pair::{Pair, Socket, pair_of};
+pub use pair::{Pair, Socket, asks, pair_of};
+pub use place::Place;
+pub use record::Record;
+pub use retiring::{NotRetired, Retiring};
+pub use timed::Timed;
+pub use used::Used;

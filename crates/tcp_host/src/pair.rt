@@ -1,6 +1,6 @@
 //! The four values of a connection.
 ghost use Rattle.std.specs.Prelude.{◌≡◌};
-ghost use Rattle.tcp_host.specs.Pair.{pair_of};
+ghost use Rattle.tcp_host.specs.Pair.{asks, pair_of};
 
 /// A socket: an IPv4 address and a port (RFC 9293, 3.3.1).
 #[derive(Clone, Copy, Debug, PartialEq, Eq, PartialOrd, Ord)]
@@ -37,4 +37,23 @@ pub fn pair_of(src: [u8; 4], dst: [u8; 4], bytes: &[u8]) -> Option<Pair>
         port: u16::from(*third) * 256 + u16::from(*fourth),
     };
     Some(Pair { local, peer })
+}
+
+/// SYN, RST and ACK among the flags of a segment (RFC 9293, 3.1).
+const SYN: u8 = 2;
+
+const RST: u8 = 4;
+
+const ACK: u8 = 16;
+
+/// Whether a segment asks a listener for a connection (RFC 9293, 3.10.7.2): it has SYN, and neither RST nor ACK. For no
+/// other one an end has to be made.
+#[must_use]
+pub fn asks(bytes: &[u8]) -> bool
+    ensures { result ≡ asks bytes.now }
+{
+    match bytes.get(13) {
+        Some(flags) => *flags & (SYN | RST | ACK) == SYN,
+        None => false,
+    }
 }

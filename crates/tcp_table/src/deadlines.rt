@@ -130,8 +130,9 @@ impl<A: Allocator + Copy> Deadlines<A> {
     }
 }
 
-/// The earlier of two times.
-fn earlier(one: Option<u64>, other: Option<u64>) -> Option<u64>
+/// The earlier of two times, where there are any.
+#[must_use]
+pub fn earlier(one: Option<u64>, other: Option<u64>) -> Option<u64>
     ensures { result ≡ earlier one other }
 {
     match (one, other) {

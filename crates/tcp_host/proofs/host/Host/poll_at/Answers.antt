@@ -1,23 +1,14 @@
-use Rattle.std.proofs.Common.{◌≡◌, ℕ, ◌≤◌, Option, Some, None, sym, subst, ◌∙◌}
-use Rattle.std.specs.Prelude.{IfSome}
-use Rattle.tcp_host.specs.Hosting.{IsLeast, deadline_at}
+use Rattle.std.proofs.Common.{◌≡◌, ℕ, Some}
+use Rattle.tcp_host.specs.Hosting.{deadline_at}
+use Rattle.tcp_host.specs.Record.{of_record}
+use Rattle.tcp_host.proofs.Earliest.{of_one}
 use Rattle.tcp_host.proofs.host.Host.poll_at.Goals as goal
 
-pub returns-in-Some-clause-least : goal.returns-in-Some-clause-least
-returns-in-Some-clause-least g c =
-    let time = c.in-Some.time in
-    let ends = c.self.inside.ends in
-    let least : IsLeast ends time =
-    λ slot. subst (λ (o : Option ℕ). IfSome o (λ t. time ≤ t)) (c.self.invariant.0.due slot) (c.in-Some.ensures.first.least slot) in
-    rw (← c.self.view_is) least
-
-pub returns-in-Some-clause-of_an_end : goal.returns-in-Some-clause-of_an_end
-returns-in-Some-clause-of_an_end g c =
-    let slot = c.in-Some.field-0-1 in
-    let is : deadline_at c.self.inside.ends slot ≡ Some c.in-Some.time = sym (c.self.invariant.0.due slot) ∙ c.in-Some.ensures.first.due in
-    (slot, rw (← c.self.view_is) is)
-
-pub returns-in-None-clause-none : goal.returns-in-None-clause-none
-returns-in-None-clause-none g c slot =
-    let is : deadline_at c.self.inside.ends slot ≡ None = sym (c.self.invariant.0.due slot) ∙ c.in-None.ensures.none slot in
-    rw (← c.self.view_is) is
+pub returns-clause-of_one : goal.returns-clause-of_one
+returns-clause-of_one g c =
+    let ends = c.self.inside.ends.ends in
+    let records = c.self.inside.records.ends in
+    let P : ℕ → Type 0 = λ time. (slot : ℕ) × (deadline_at g.T.Timed.behaviour ends slot ≡ Some time) in
+    let Q : ℕ → Type 0 = λ time. (slot : ℕ) × (deadline_at of_record records slot ≡ Some time) in
+    rw (c.earlier.ensures, ← c.self.view_is)
+    (of_one P Q c.poll_at.result c.poll_at-2.result c.poll_at.ensures.of_an_end c.poll_at-2.ensures.of_an_end)
