@@ -1,6 +1,7 @@
 // An echo server for many clients on a TUN device of Linux: a connection for each, which keeps its own times, under CUBIC's window, with
-// delayed acknowledgements. It is for a network that is trusted: who sends SYNs from many addresses takes all places for the three minutes
-// that a SYN may be without an answer, and a client that has vanished keeps its own. tun_http.c has limits for both.
+// losses found by time and delayed acknowledgements. It is for a network that is trusted: who sends SYNs from many addresses takes all
+// places for the three minutes that a SYN may be without an answer, and a client that has vanished keeps its own. tun_http.c has limits for
+// both.
 //
 //     cc -std=c11 -O2 -Irelease -Ic/companions examples/tun_echo.c c/companions/ip.c release/tcpcore.c -o tun_echo
 //     sudo ./tun_echo tun0 10.9.0.2/24 7 &
@@ -24,11 +25,10 @@
 enum { CLIENTS = 128, CAPACITY = 65535, HEADER = 20, SYN = 2, RST = 4, ACK = 16, AT_ONCE = 256 };
 
 struct client {
-    int is_used;
     tcpcore_connection connection;
+    int is_used;
     tcpcore_addr addr;
-    unsigned char port[2];
-    unsigned char memory[TCPCORE_CONNECTION_MEMORY(CAPACITY, CAPACITY)];
+    unsigned char port[2], recovery[TCPCORE_RECOVERY_MEMORY], memory[TCPCORE_CONNECTION_MEMORY(CAPACITY, CAPACITY)];
 };
 
 static struct client clients[CLIENTS];
@@ -72,6 +72,7 @@ static struct client *client_of(tcpcore_addr src, const unsigned char *segment, 
     if (!client->is_used)
         return NULL;
     tcpcore_connection_set_congestion(&client->connection, TCPCORE_CONGESTION_CUBIC);
+    tcpcore_connection_set_recovery(&client->connection, now, client->recovery, sizeof client->recovery);
     tcpcore_connection_set_policy(&client->connection, &policy);
     return client;
 }

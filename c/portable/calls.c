@@ -51,8 +51,13 @@ STEP void see(struct call *call, int window, const void *data, size_t size)
 {
     struct window found = {(u8 *)(uintptr_t)data, size < PLACE ? (u32)size : PLACE};
     call->machine.w2c_memory.read[window] = call->machine.w2c_memory.written[window] = found;
-    if (window == IN_READ)
-        call->machine.w2c_memory.written[window].size = 0;
+}
+
+/* A buffer that is read alone. */
+STEP void see_read(struct call *call, const void *data, size_t size)
+{
+    see(call, IN_READ, data, size);
+    call->machine.w2c_memory.written[IN_READ].size = 0;
 }
 
 STEP u64 length_of(size_t size) { return size < PLACE ? size : PLACE; }
@@ -147,7 +152,7 @@ static uint32_t tcp_c_listen(struct handle *handle)
 static uint32_t tcp_c_send(struct handle *handle, const uint8_t *text, size_t length, size_t *taken)
 {
     WITH_END(handle);
-    see(&call, IN_READ, text, length);
+    see_read(&call, text, length);
     put64(call.frame + AT_FOUND, 0);
     uint32_t answer = w2c_tcp_c_send(M, AT_HANDLE, WINDOW(IN_READ), length_of(length), AT_FOUND);
     *taken = (size_t)get64(call.frame + AT_FOUND);
@@ -223,7 +228,7 @@ STEP void put_segment(struct call *call, const tcpcore_addr *src, const tcpcore_
 {
     put_addr(call, AT_SRC, src);
     put_addr(call, AT_DST, dst);
-    see(call, IN_READ, bytes, length);
+    see_read(call, bytes, length);
 }
 
 static uint32_t tcp_c_arrive(struct handle *handle, const tcpcore_addr *src, const tcpcore_addr *dst, const uint8_t *bytes,

@@ -3,7 +3,7 @@
 
 /* crates/tcp_c: the mark of a handle that holds a connection, and how many bytes of the block it takes from its address on. */
 #define MARK_OF_CONNECTION UINT64_C(0x764350526174746c)
-#define CONNECTION_SIZE 1088
+#define CONNECTION_SIZE 1120
 #define CONNECTION_MARK UINT32_C(0x70636f6e)
 
 static const u8 OF_CONNECTION_RULES[] = {8, 8, 8, 8, 8, 8, 8, 8, 8, 4, 4, 0};
@@ -11,9 +11,36 @@ static const u8 OF_CONNECTION_SEGMENT[] = {8, 8, 8, 1, 1, 1, 1, 0};
 static const u8 OF_CONGESTION[] = {8, 8, 8, 4, 4, 0};
 static const u8 OF_POLICY[] = {8, 8, 8, 4, 0};
 
+/* Where the memory of a connection's recovery lies: in the unit before the block that the module knows. `at` is NULL where it has none. */
+struct recovery {
+    void *at;
+    u32 size;
+};
+
+HOLDS(sizeof(struct recovery) <= UNIT);
+
+STEP struct recovery recovery_before(const void *block)
+{
+    struct recovery found;
+    memcpy(&found, (const u8 *)block - UNIT, sizeof found);
+    return found;
+}
+
+STEP void put_recovery(void *block, struct recovery recovery) { memcpy((u8 *)block - UNIT, &recovery, sizeof recovery); }
+
+/* With the connection in the handle, if there is one, and with its recovery. */
+STEP void begin_connection(struct call *call, const struct handle *handle)
+{
+    begin_as(call, handle, CONNECTION_MARK, MARK_OF_CONNECTION, CONNECTION_SIZE);
+    if (get64(call->frame + AT_HANDLE) == MARK_OF_CONNECTION) {
+        struct recovery recovery = recovery_before(call->machine.w2c_memory.read[IN_BLOCK].data);
+        see(call, IN_RECOVERY, recovery.at, recovery.size);
+    }
+}
+
 #define WITH_CONNECTION(handle) \
     struct call call; \
-    begin_as(&call, handle, CONNECTION_MARK, MARK_OF_CONNECTION, CONNECTION_SIZE)
+    begin_connection(&call, handle)
 #define END_OF_CONNECTION(handle) end_as(&call, handle, CONNECTION_MARK, MARK_OF_CONNECTION)
 #define ANSWER_OF_CONNECTION(handle, made) \
     uint32_t answer = made; \
@@ -23,8 +50,10 @@ static const u8 OF_POLICY[] = {8, 8, 8, 4, 0};
 /* What a connection is made from. */
 STEP void put_making(struct call *call, struct block block, const tcpcore_config *config, const struct tcpcore_connection_rules *rules)
 {
-    if (get64(call->frame + AT_HANDLE) != MARK_OF_CONNECTION)
+    if (get64(call->frame + AT_HANDLE) != MARK_OF_CONNECTION && block.size > 0) {
         see(call, IN_BLOCK, block.at, block.size);
+        put_recovery(block.at, (struct recovery){NULL, 0});
+    }
     carry_record(call->frame + AT_RECORD, config, OF_CONFIG);
     carry_record(call->frame + AT_RULES, rules, OF_CONNECTION_RULES);
     put64(call->frame + AT_BLOCK, WINDOW(IN_BLOCK));
@@ -123,9 +152,9 @@ static uint32_t tcp_c_connection_emit(struct handle *handle, uint64_t now, uint6
                                       struct tcpcore_connection_segment *segment)
 {
     WITH_CONNECTION(handle);
-    see(&call, IN_WRITTEN, out, room);
+    see(&call, IN_BUFFER, out, room);
     carry_record(call.frame + AT_RECORD, segment, OF_CONNECTION_SEGMENT);
-    uint32_t answer = w2c_tcp_c_connection_emit(M, AT_HANDLE, now, window, WINDOW(IN_WRITTEN), length_of(room), AT_RECORD);
+    uint32_t answer = w2c_tcp_c_connection_emit(M, AT_HANDLE, now, window, WINDOW(IN_BUFFER), length_of(room), AT_RECORD);
     carry_record(segment, call.frame + AT_RECORD, OF_CONNECTION_SEGMENT);
     END_OF_CONNECTION(handle);
     return answer;
@@ -135,9 +164,9 @@ static uint32_t tcp_c_connection_emit_train(struct handle *handle, uint64_t now,
                                             struct train *train)
 {
     WITH_CONNECTION(handle);
-    see(&call, IN_WRITTEN, out, room);
+    see(&call, IN_BUFFER, out, room);
     carry_record(call.frame + AT_RECORD, train, OF_TRAIN);
-    uint32_t answer = w2c_tcp_c_connection_emit_train(M, AT_HANDLE, now, window, WINDOW(IN_WRITTEN), length_of(room), most, AT_RECORD);
+    uint32_t answer = w2c_tcp_c_connection_emit_train(M, AT_HANDLE, now, window, WINDOW(IN_BUFFER), length_of(room), most, AT_RECORD);
     carry_record(train, call.frame + AT_RECORD, OF_TRAIN);
     END_OF_CONNECTION(handle);
     return answer;
@@ -146,7 +175,7 @@ static uint32_t tcp_c_connection_emit_train(struct handle *handle, uint64_t now,
 static uint32_t tcp_c_connection_send(struct handle *handle, uint64_t now, const uint8_t *text, size_t length, size_t *taken)
 {
     WITH_CONNECTION(handle);
-    see(&call, IN_READ, text, length);
+    see_read(&call, text, length);
     put64(call.frame + AT_FOUND, 0);
     uint32_t answer = w2c_tcp_c_connection_send(M, AT_HANDLE, now, WINDOW(IN_READ), length_of(length), AT_FOUND);
     *taken = (size_t)get64(call.frame + AT_FOUND);
@@ -157,9 +186,9 @@ static uint32_t tcp_c_connection_send(struct handle *handle, uint64_t now, const
 static uint32_t tcp_c_connection_receive(struct handle *handle, uint64_t now, uint8_t *out, size_t room, size_t *count)
 {
     WITH_CONNECTION(handle);
-    see(&call, IN_WRITTEN, out, room);
+    see(&call, IN_BUFFER, out, room);
     put64(call.frame + AT_FOUND, 0);
-    uint32_t answer = w2c_tcp_c_connection_receive(M, AT_HANDLE, now, WINDOW(IN_WRITTEN), length_of(room), AT_FOUND);
+    uint32_t answer = w2c_tcp_c_connection_receive(M, AT_HANDLE, now, WINDOW(IN_BUFFER), length_of(room), AT_FOUND);
     *count = (size_t)get64(call.frame + AT_FOUND);
     END_OF_CONNECTION(handle);
     return answer;
@@ -266,4 +295,20 @@ static uint32_t tcp_c_connection_set_policy(struct handle *handle, const struct 
     WITH_CONNECTION(handle);
     carry_record(call.frame + AT_RECORD, policy, OF_POLICY);
     ANSWER_OF_CONNECTION(handle, w2c_tcp_c_connection_set_policy(M, AT_HANDLE, AT_RECORD));
+}
+
+static uint32_t tcp_c_connection_set_recovery(struct handle *handle, struct block block, uint64_t now)
+{
+    WITH_CONNECTION(handle);
+    /* One that has a recovery refuses another, whose block it doesn't look at. */
+    int has_none = call.machine.w2c_memory.read[IN_RECOVERY].size == 0;
+    if (has_none)
+        see(&call, IN_RECOVERY, block.at, block.size);
+    put64(call.frame + AT_BLOCK, WINDOW(IN_RECOVERY));
+    put64(call.frame + AT_BLOCK + 8, length_of(block.size) / UNIT * UNIT);
+    uint32_t answer = w2c_tcp_c_connection_set_recovery(M, AT_HANDLE, AT_BLOCK, now);
+    if (answer == TCPCORE_DONE && has_none)
+        put_recovery(call.machine.w2c_memory.read[IN_BLOCK].data, (struct recovery){block.at, (u32)length_of(block.size)});
+    END_OF_CONNECTION(handle);
+    return answer;
 }

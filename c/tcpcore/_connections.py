@@ -12,8 +12,8 @@ from tcpcore._library import (
     Refused, TrainStruct, address, arrive_report_of, library, microseconds, number, octets, reach, train_of,
 )
 from tcpcore._records import (
-    EMIT_ROOM, NEVER, TRAIN_ROOM, Address, ArriveReport, Buffer, Config, Congestion, CongestionWindow, Emission, Policy, Rules, Timer,
-    Train,
+    EMIT_ROOM, NEVER, RECOVERY_MEMORY, TRAIN_ROOM, Address, ArriveReport, Buffer, Config, Congestion, CongestionWindow, Emission, Policy,
+    Rules, Timer, Train,
 )
 
 
@@ -57,8 +57,10 @@ class Connection(Held):
     Threads, `room` and freeing are as of an End.
 
     Where the path may be congested `connection.set_congestion(Congestion.CUBIC)` behind its making has it hold back by itself what that lets
-    no further (RFC 9438), and `connection.set_policy(Policy())` has acknowledgements and small segments wait (RFC 9293, 3.7.4 and 3.8.6). A program with congestion control of its own sets `window`: `emit` holds back what ends more than so many numbers
-    past SND.UNA, unless nothing before it is in flight. None, the default, holds nothing back."""
+    no further (RFC 9438), `connection.set_recovery(now)` has losses found by time (RFC 8985), and `connection.set_policy(Policy())` has
+    acknowledgements and small segments wait (RFC 9293, 3.7.4 and 3.8.6). A program with congestion control of its own sets `window`: `emit`
+    holds back what ends more than so many numbers past SND.UNA, unless nothing before it is in flight. None, the default, holds nothing
+    back."""
 
     noun = "a connection"
     window: Optional[int] = None
@@ -219,6 +221,14 @@ class Connection(Held):
         anew."""
         delay, interval = microseconds(policy.ack_delay), microseconds(policy.answer_interval)
         self.ask("set_policy", PolicyStruct(delay, limit(policy.override_timeout), interval, int(policy.nagle)))
+
+    def set_recovery(self, now: float) -> None:
+        """From `now` on losses are found by time, and the end of what is sent is probed, in the place of a round trip behind a gap (RFC 8985),
+        where both SYNs agree on selective acknowledgement. It takes memory of its own. Refused where it was called already, and where text
+        was sent."""
+        # The library uses it as long as the end: it is kept before the library has it, whatever interrupts this.
+        memory = self.__dict__.setdefault("_recovery", ctypes.create_string_buffer(RECOVERY_MEMORY))
+        self.ask("set_recovery", microseconds(now), memory, RECOVERY_MEMORY)
 
     def resend_first(self, now: float) -> bool:
         """Whether anything is in flight: then the first segment of it must be sent again at once, for a program that finds losses before the

@@ -300,6 +300,7 @@ CALLS = {
     "connection_set_congestion": [END, ctypes.c_uint32],
     "connection_congestion": [END, ctypes.POINTER(CongestionStruct)],
     "connection_set_policy": [END, ctypes.POINTER(PolicyStruct)],
+    "connection_set_recovery": [END, TIME, ctypes.c_char_p, SIZE],
     "strerror": [ctypes.c_uint32],
     "version": [],
     "build": [],

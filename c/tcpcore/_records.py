@@ -6,12 +6,13 @@ import enum
 import ipaddress
 from typing import NamedTuple, Optional, Union
 
-VERSION = 17
+VERSION = 18
 EMIT_ROOM = 1520
 TRAIN_ROOM = 65_515
 RESET_ROOM = 20
 TIME_WAIT_ROOM = 20
 STRUCT_ROOM = 32
+RECOVERY_MEMORY = 2_863
 LIMIT = 2_147_483_632
 # Of a connection: no limit, and no window.
 NEVER = (1 << 64) - 1

@@ -11,7 +11,7 @@
 A connection that the peer resets raises ConnectionResetError, one that is given up TimeoutError, and one that was aborted here
 ConnectionAbortedError. Both sides may be in one event loop. Inside the datagrams the two sides have the addresses and ports of CLIENT and
 SERVER, whatever a config says, so that their checksums don't depend on what the datagrams pass through. By default it has no congestion
-window (tcpcore.Connection says what `set_congestion` and `window` are).
+window, and finds losses by a round trip behind a gap (tcpcore.Connection says what `set_congestion`, `window` and `set_recovery` are).
 """
 
 from __future__ import annotations

@@ -9,8 +9,8 @@
 
 The client connects, and the server listens. Each side reads whatever comes, and sends what `send` was given as fast as its connection takes
 it. `record` has what happened, in order, and `save` writes its segments as a capture, for Wireshark, tcpjudge or the page release/tcp.html.
-By default a connection has no congestion window: where a queue overflows, call `set_congestion` of a side's connection, or set
-its `window`, as tcpcore.Connection says.
+By default a connection has no congestion window, and takes for lost what its peer's blocks have passed over for a round trip: where a queue
+overflows, call `set_congestion` of a side's connection, or set its `window`, and `set_recovery`, as tcpcore.Connection says.
 """
 
 from __future__ import annotations

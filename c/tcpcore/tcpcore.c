@@ -112,6 +112,7 @@ uint32_t tcp_c_connection_resend(struct handle *, uint64_t, uint64_t, uint64_t);
 uint32_t tcp_c_connection_set_congestion(struct handle *, uint32_t);
 uint32_t tcp_c_connection_congestion(struct handle *, struct tcpcore_congestion *);
 uint32_t tcp_c_connection_set_policy(struct handle *, const struct tcpcore_policy *);
+uint32_t tcp_c_connection_set_recovery(struct handle *, struct block, uint64_t);
 
 STEP struct handle *handle(tcpcore_end *end) { return (struct handle *)end->opaque; }
 
@@ -249,6 +250,13 @@ STEP struct block units_of(void *bytes, size_t length)
     if (length < before + UNIT)
         return (struct block){NOWHERE, 0};
     return (struct block){(uint8_t *)bytes + before, (length - before) / UNIT * UNIT};
+}
+
+/* Of a connection's block the first unit is this file's own, and what the library takes is behind it: the portable file, which sees memory
+   through windows, keeps there where that of the recovery lies. */
+STEP struct block behind_first_unit(struct block units)
+{
+    return units.size < UNIT ? units : (struct block){(uint8_t *)units.at + UNIT, units.size - UNIT};
 }
 
 /* No end has the address 0.0.0.0 or the port 0. The proved core takes them like any others: here they say that nobody filled them in. */
@@ -782,8 +790,8 @@ uint32_t tcpcore_connection_connect(tcpcore_connection *connection, const tcpcor
         return answer;
     tcpcore_config config_here = *config;
     struct tcpcore_connection_rules rules_here = *rules;
-    return made(connection, tcp_c_connection_connect(handle_in(connection), units_of(block, length), &config_here, &rules_here, &addr,
-                                                     port, now));
+    struct block rest = behind_first_unit(units_of(block, length));
+    return made(connection, tcp_c_connection_connect(handle_in(connection), rest, &config_here, &rules_here, &addr, port, now));
 }
 
 uint32_t tcpcore_connection_listen(tcpcore_connection *connection, const tcpcore_config *config,
@@ -794,13 +802,14 @@ uint32_t tcpcore_connection_listen(tcpcore_connection *connection, const tcpcore
         return answer;
     tcpcore_config config_here = *config;
     struct tcpcore_connection_rules rules_here = *rules;
-    return made(connection, tcp_c_connection_listen(handle_in(connection), units_of(block, length), &config_here, &rules_here, now));
+    struct block rest = behind_first_unit(units_of(block, length));
+    return made(connection, tcp_c_connection_listen(handle_in(connection), rest, &config_here, &rules_here, now));
 }
 
 size_t tcpcore_connection_room(const tcpcore_config *config)
 {
     size_t room = config ? tcp_c_connection_room(config) : 0;
-    return room > 0 ? room + UNIT - 1 : 0;
+    return room > 0 ? UNIT + room + UNIT - 1 : 0;
 }
 
 uint32_t tcpcore_connection_free(tcpcore_connection *connection)
@@ -1040,6 +1049,12 @@ uint32_t tcpcore_connection_set_policy(tcpcore_connection *connection, const str
     return tcp_c_connection_set_policy(handle_in(connection), &here);
 }
 
+uint32_t tcpcore_connection_set_recovery(tcpcore_connection *connection, uint64_t now, void *block, size_t length)
+{
+    uint32_t answer = connection_refusal_with(connection, block, length, (struct place){NOWHERE, 0});
+    return answer != TCPCORE_DONE ? answer : tcp_c_connection_set_recovery(handle_in(connection), units_of(block, length), now);
+}
+
 /* The texts, by their answers. */
 static const char *const TEXTS[] = {
     [TCPCORE_DONE] = "done",
@@ -1065,7 +1080,7 @@ static const char *const TEXTS[] = {
     [TCPCORE_BAD_RUNS] = "the number of runs is above 4,096",
     [TCPCORE_BAD_RULES] = "no timeout can be made from the rules",
     [TCPCORE_NO_END] = "no end is in the struct",
-    [TCPCORE_IN_USE] = "the struct holds an end already",
+    [TCPCORE_IN_USE] = "the struct holds an end already, or the connection a recovery",
     [TCPCORE_ROOM] = "too little room for a segment",
     [TCPCORE_NO_TIMER] = "no timer has this number",
     [TCPCORE_NULL] = "a pointer is NULL",

@@ -20,7 +20,7 @@ warnings="-std=c11 -g -Wall -Wextra -Wpedantic -Wcast-qual -Wconversion -Wshadow
 sanitizers="-O1 -fsanitize=address,undefined -fno-sanitize-recover=all"
 # The header's calls that are the library's; four are the layer's alone.
 calls=$(grep -o '^[a-z].* \**tcpcore_[a-z_]*(' tcpcore.h | sed -n 's/.*tcpcore_\([a-z_]*\)($/\1/p' | grep -vxE 'strerror|version|build|new_at' | sort)
-tests="examples/two_ends examples/hello tests/misuse tests/misuse_numbers tests/misuse_time_wait tests/room tests/runs tests/fields tests/answers tests/cautions tests/time_wait tests/old_names tests/reports tests/misuse_lending tests/lending tests/train tests/pacing tests/placed tests/defaults tests/connection tests/connection_train tests/connection_guard tests/connection_link tests/congestion tests/policy tests/hostile"
+tests="examples/two_ends examples/hello tests/misuse tests/misuse_numbers tests/misuse_time_wait tests/room tests/runs tests/fields tests/answers tests/cautions tests/time_wait tests/old_names tests/reports tests/misuse_lending tests/lending tests/train tests/pacing tests/placed tests/defaults tests/connection tests/connection_train tests/connection_guard tests/connection_link tests/congestion tests/policy tests/recovery tests/hostile"
 passed=0
 
 pass() { passed=$((passed + 1)); }
@@ -48,11 +48,12 @@ runs() {
 
 # What the disassembly tells of the stack, beside what tests/stack has just measured.
 depth() {
-    local compiler=$1 objdump=$2 level=$3 bound making
+    local compiler=$1 objdump=$2 level=$3 bound making recovery
     bound=$(sed -n 's/^#define TCPCORE_STACK //p' tcpcore.h)
     making=$(sed -n 's/^#define TCPCORE_CONNECTION_STACK //p' tcpcore.h)
+    recovery=$(sed -n 's/^#define TCPCORE_RECOVERY_STACK //p' tcpcore.h)
     "$compiler" $warnings "$level" -c tcpcore.c -o "out/layer.$compiler.o"
-    python3 tests/depth.py "$objdump" "$bound" "$making" "$(tail -n 1 out/errors)" "out/layer.$compiler.o" "$library"
+    python3 tests/depth.py "$objdump" "$bound" "$making" "$recovery" "$(tail -n 1 out/errors)" "out/layer.$compiler.o" "$library"
     pass
 }
 

@@ -51,6 +51,7 @@ struct hostile {
         ends[side].reset();
         ends[side] = any(2) ? tcpcore::connection::listen(config, rules, now())
                             : tcpcore::connection::connect(config, rules, addrs[1 - side], static_cast<std::uint16_t>(2 - side), now());
+        if (any(3)) check(ends[side]->set_recovery(now()), "nothing was sent yet");
     }
 
     void arrive(tcpcore::connection &it, std::size_t side)
@@ -64,6 +65,16 @@ struct hostile {
                                        : it.arrive_vouched(now(), addrs[from], addrs[to], bytes.data(), bytes.size());
         check(answer <= TCPCORE_BAD_PADDING || (answer >= TCPCORE_DROPPED && answer <= TCPCORE_WITHHELD), "arrive answers what it may");
         check(answer == TCPCORE_DONE || answer == TCPCORE_DROPPED || report.acked == 0, "nothing is acknowledged by what isn't taken");
+    }
+
+    // Losses are found by time from now on, where no text was sent, once.
+    void recovers(tcpcore::connection &it)
+    {
+        try {
+            it.set_recovery(now());
+        } catch (const tcpcore::refused &found) {
+            if (found.answer != TCPCORE_IN_USE) throw;
+        }
     }
 
     void call(tcpcore::connection &it, std::size_t side)
@@ -117,6 +128,8 @@ struct hostile {
                 it.set_congestion(static_cast<std::uint32_t>(any(3))), check(it.congestion().cwnd >= it.congestion().smss, "a window has a segment");
             else if (any(2))
                 it.set_policy(any(2) ? tcpcore::default_policy() : tcpcore_policy{drawn(), drawn(), drawn(), static_cast<std::uint32_t>(any(2)), {}});
+            else if (any(2))
+                recovers(it);
             else if (any(2))
                 it.set_user_timeout(std::nullopt);
             else

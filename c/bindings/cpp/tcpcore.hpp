@@ -207,7 +207,7 @@ public:
 class connection {
     // As of an end. A connection's struct lies at the front of its block.
     struct owner {
-        std::unique_ptr<unsigned char[]> block;
+        std::unique_ptr<unsigned char[]> block, recovery;
         void operator()(tcpcore_connection *raw) const { tcpcore_connection_free(raw); }
     };
     std::unique_ptr<tcpcore_connection, owner> held;
@@ -221,7 +221,7 @@ class connection {
         std::unique_ptr<unsigned char[]> block(new unsigned char[front + room]);
         auto *made = new (block.get()) tcpcore_connection TCPCORE_CONNECTION_INIT;
         detail::done(open(made, block.get() + front, room));
-        held = {made, owner{std::move(block)}};
+        held = {made, owner{std::move(block), nullptr}};
     }
 
 public:
@@ -363,6 +363,16 @@ public:
     }
     // Chooses when an acknowledgement and a small segment go out: at once where this isn't called.
     void set_policy(const struct tcpcore_policy &policy) { detail::done(tcpcore_connection_set_policy(raw(), &policy)); }
+    // From `now` on losses are found by time, and the end of what is sent is probed (RFC 8985), where both SYNs agree on selective
+    // acknowledgement; false where text was sent already. It takes TCPCORE_RECOVERY_MEMORY bytes of its own. Refused where it was called
+    // already.
+    bool set_recovery(time now)
+    {
+        std::unique_ptr<unsigned char[]> memory(new unsigned char[TCPCORE_RECOVERY_MEMORY]);
+        if (!detail::found(tcpcore_connection_set_recovery(raw(), micros(now), memory.get(), TCPCORE_RECOVERY_MEMORY))) return false;
+        held.get_deleter().recovery = std::move(memory);
+        return true;
+    }
     // The peer's address and port, once they are known.
     std::optional<std::pair<tcpcore_addr, std::uint16_t>> peer() const
     {

@@ -511,6 +511,35 @@ static void a_policy()
     CHECK(b.emit(now + 40ms, out).length == 20);
 }
 
+// RFC 8985, 7.2: with a round trip of 100 ms the end of what was sent goes out again behind two of them, and the peer's delay of 200 ms behind
+// a single segment; no timer expires. A connection that was moved has its recovery with it.
+static void losses_by_time()
+{
+    using namespace std::chrono_literals;
+    tcpcore::connection::time now(5s);
+    tcpcore::connection made = tcpcore::connection::connect(config(A, 7), tcpcore::default_rules(), B, 7, now);
+    tcpcore::connection b = tcpcore::connection::listen(config(B, 7), tcpcore::default_rules(), now);
+    CHECK(made.set_recovery(now));
+    tcpcore::connection a = std::move(made);
+    try {
+        a.set_recovery(now);
+        CHECK(false);
+    } catch (const tcpcore::refused &found) {
+        CHECK(found.answer == TCPCORE_IN_USE);
+    }
+    unsigned char out[TCPCORE_EMIT_ROOM];
+    CHECK(b.arrive(now, A, B, out, a.emit(now, out).length).first == TCPCORE_DONE);
+    now += 100ms;
+    CHECK(a.arrive(now, B, A, out, b.emit(now, out).length).first == TCPCORE_DONE);
+    CHECK(b.arrive(now, A, B, out, a.emit(now, out).length).first == TCPCORE_DONE);
+    CHECK(a.send(now, "x", 1) == 1 && a.emit(now, out).length == 21 && a.poll_at() == now + 400ms);
+    CHECK(a.emit(now + 400ms - 1us, out).length == 0);
+    struct tcpcore_connection_segment again = a.emit(now + 400ms, out);
+    CHECK(again.length == 21 && again.position == 1 && a.emit(now + 400ms, out).length == 0);
+    CHECK(!a.timeout(now + 400ms) && a.poll_at() > now + 400ms);
+    CHECK(b.send(now, "x", 1) == 1 && b.emit(now, out).length == 21 && !b.set_recovery(now));
+}
+
 // RFC 6928, 2: of segments of 1,000 bytes ten go out at first, of 536 before both SYNs have agreed on them (RFC 9293, 3.7.1). RFC 9438, 4.8,
 // and RFC 5681, 3.1: after a timeout ssthresh is 0.7 of the 4,000 bytes in flight, and half of them, and the window a segment.
 static void a_congestion_window()
@@ -606,6 +635,7 @@ int main()
     a_connection_s_train();
     a_congestion_window();
     a_policy();
+    losses_by_time();
     a_user_timeout_is_set();
     a_guard_keeps_out_what_is_blind();
     CHECK(tcpcore::build().find("machine code") != std::string_view::npos || tcpcore::build().find("portable C") == 0);

@@ -42,6 +42,10 @@ const (
 	ErrStreamFull = Refused(C.TCPCORE_STREAM_FULL)
 	// ErrNoEnd: the connection was freed.
 	ErrNoEnd = Refused(C.TCPCORE_NO_END)
+	// ErrInUse: SetRecovery was called before.
+	ErrInUse = Refused(C.TCPCORE_IN_USE)
+	// ErrBegun: text was sent before SetRecovery, or before SetCongestion.
+	ErrBegun = Refused(C.TCPCORE_NO_RULE)
 )
 
 // Never is a limit of Rules that isn't there.
@@ -127,8 +131,8 @@ func (rules Rules) c() C.struct_tcpcore_connection_rules {
 //  4. Timeout. Where a timer has expired Emit again until nothing is due, and look for another one.
 //  5. In CLOSED the connection is over: Free it. Else go on with 1.
 //
-// Where the path may be congested SetCongestion chooses a congestion window, and SetPolicy when acknowledgements and small segments wait.
-// Who has emissions wait by a rule of his own goes by AtOnce of the ArriveReport (RFC 5681, 4.2).
+// Where the path may be congested SetCongestion chooses a congestion window; SetRecovery has losses found by time, and SetPolicy says when
+// acknowledgements and small segments wait. Who has emissions wait by a rule of his own goes by AtOnce of the ArriveReport (RFC 5681, 4.2).
 type Connection struct {
 	// Window is that of the caller's congestion control (RFC 5681, 3.1), in bytes: what ends more than so many numbers past SND.UNA waits,
 	// unless nothing before it is in flight. Connect and Listen set the greatest number, which holds back nothing.
@@ -136,8 +140,10 @@ type Connection struct {
 
 	raw   *C.tcpcore_connection // at the front of the block
 	block unsafe.Pointer
-	began time.Time
-	told  C.struct_connection_told // of the last turn
+	// The memory of the recovery, where it was chosen.
+	recovery unsafe.Pointer
+	began    time.Time
+	told     C.struct_connection_told // of the last turn
 }
 
 // Connect opens a connection to this address and port (RFC 9293, 3.10.1): its SYN is due.
@@ -171,7 +177,8 @@ func newConnection(config Config, rules Rules, listens bool, addr Addr, port uin
 func (connection *Connection) Free() {
 	C.tcpcore_connection_free(connection.raw)
 	C.free(connection.block)
-	connection.raw, connection.block = new(C.tcpcore_connection), nil
+	C.free(connection.recovery)
+	connection.raw, connection.block, connection.recovery = new(C.tcpcore_connection), nil, nil
 }
 
 // since is a time as C has it. What is further away than a Duration can say goes by the wall clock.
@@ -346,6 +353,23 @@ func (connection *Connection) SetPolicy(policy Policy) error {
 		chosen.nagle = 1
 	}
 	return done(C.tcpcore_connection_set_policy(connection.raw, &chosen))
+}
+
+// SetRecovery has losses found by time from `now` on, and the end of what is sent probed, in the place of a round trip behind a gap (RFC 8985),
+// where both SYNs agree on selective acknowledgement. It takes memory of C's of its own, which Free gives back. Behind text it is refused
+// with ErrBegun, and a second time with ErrInUse.
+func (connection *Connection) SetRecovery(now time.Time) error {
+	memory := C.malloc(C.TCPCORE_RECOVERY_MEMORY)
+	if memory == nil {
+		return Refused(C.TCPCORE_NO_MEMORY)
+	}
+	answer := C.tcpcore_connection_set_recovery(connection.raw, connection.since(now), memory, C.TCPCORE_RECOVERY_MEMORY)
+	if answer != C.TCPCORE_DONE {
+		C.free(memory)
+		return Refused(answer)
+	}
+	connection.recovery = memory
+	return nil
 }
 
 // Peer is the peer's address and port (RFC 9293, 3.10.6); ErrNotConnected before they are known.

@@ -102,6 +102,9 @@ func (it *hostile) make(side int) {
 			it.ends[side].Free()
 		}
 		it.ends[side], it.freed[side] = connection, false
+		if it.random.Intn(3) > 0 {
+			it.may(side, "SetRecovery", connection.SetRecovery(it.now))
+		}
 	}
 }
 
@@ -232,6 +235,7 @@ func (it *hostile) use(end *Connection, side int, now time.Time) {
 			policy.AnswerInterval = time.Duration(it.random.Int63() - 1<<40)
 		}
 		it.may(side, "SetPolicy", end.SetPolicy(policy))
+		it.may(side, "SetRecovery", end.SetRecovery(now), ErrInUse, ErrBegun)
 	case 9, 10:
 		_, _, err := end.Peer()
 		it.may(side, "Peer", err, ErrNotConnected)

@@ -62,6 +62,7 @@ static void every_call(tcpcore_connection *connection, uint32_t wanted)
     CHECK(tcpcore_connection_resend(connection, 0, 0, 9), wanted);
     CHECK(tcpcore_connection_set_congestion(connection, TCPCORE_CONGESTION_CUBIC), wanted);
     CHECK(tcpcore_connection_set_policy(connection, &policy), wanted);
+    CHECK(tcpcore_connection_set_recovery(connection, 0, buffer, sizeof buffer), wanted);
     CHECK(tcpcore_connection_congestion(connection, &congestion), wanted);
     CHECK(are_all(&congestion, sizeof congestion, 0), 1);
     CHECK(tcpcore_connection_status(connection, &status), wanted);

@@ -1,7 +1,7 @@
 /*
  * The test of whole connections over a simulated link, which delays, loses and swaps segments: both ends are driven by what poll_at and
- * timeout say alone. Text goes both ways, each side closes, one rests in TIME-WAIT, and both end in order. Then a peer that is gone: a
- * SYN, text and FIN-WAIT-2 that nobody answers, each given up at its limit (RFC 9293, 3.8.3).
+ * timeout say alone. Text goes both ways, each side closes, one rests in TIME-WAIT, and both end in order; as losses are found by a trip behind
+ * a gap, and by time. Then a peer that is gone: a SYN, text and FIN-WAIT-2 that nobody answers, each given up at its limit (RFC 9293, 3.8.3).
  */
 #include "check.h"
 #include "tcpcore.h"
@@ -16,7 +16,7 @@ enum { CAPACITY = 20000, TEXT = 290000, WAITING = 4096 };
 
 static const tcpcore_addr ADDRS[2] = {{{10, 0, 0, 1}}, {{10, 0, 0, 2}}};
 static tcpcore_connection ends[2];
-static unsigned char blocks[2][TCPCORE_CONNECTION_MEMORY(CAPACITY, CAPACITY)], text[2][TEXT];
+static unsigned char blocks[2][TCPCORE_CONNECTION_MEMORY(CAPACITY, CAPACITY)], recoveries[2][TCPCORE_RECOVERY_MEMORY], text[2][TEXT];
 static uint64_t now;
 
 /* What is under way to an end. */
@@ -31,6 +31,9 @@ static size_t waiting[2];
 static uint64_t delay, jitter;
 static uint32_t loss;
 static int is_cut;
+
+/* Whether both ends find losses by time (RFC 8985). */
+static int by_time;
 
 /* What each side has done. */
 static struct side {
@@ -79,6 +82,8 @@ static void open_both(const struct tcpcore_connection_rules *rules, uint16_t mss
         uint32_t answer = side == 1 ? tcpcore_connection_listen(&ends[1], &config, rules, now, blocks[1], sizeof *blocks)
                                     : tcpcore_connection_connect(&ends[0], &config, rules, ADDRS[1], 2, now, blocks[0], sizeof *blocks);
         CHECK(answer, TCPCORE_DONE);
+        if (by_time)
+            CHECK(tcpcore_connection_set_recovery(&ends[side], now, recoveries[side], sizeof *recoveries), TCPCORE_DONE);
     }
 }
 
@@ -246,6 +251,7 @@ static uint64_t given_up(void)
         uint64_t at = poll_at(0);
         CHECK(at != TCPCORE_NEVER, 1);
         now = at > now ? at : now;
+        emit(0);
         expire(0);
     }
     CHECK(status_of(0).ending, TCPCORE_ENDING_ABORTED);
@@ -326,15 +332,17 @@ int main(void)
         text[1][at] = (unsigned char)(at * 13 + at / 241);
     }
     /* Without a loss 290,000 bytes at 20,000 a round trip take 16 trips and little more. */
-    CHECK(transfer(1460, 10 * MILLISECOND, 0, 0) <= 20 * 20 * MILLISECOND, 1);
-    transfer(536, 10 * MILLISECOND, 0, 0);
-    for (uint32_t lost = 1; lost <= 20; lost += lost < 5 ? 1 : 5) {
-        transfer(1460, 5 * MILLISECOND, 0, lost);
-        transfer(536, 50 * MILLISECOND, 3 * MILLISECOND, lost);
+    for (by_time = 0; by_time < 2; by_time++) {
+        CHECK(transfer(1460, 10 * MILLISECOND, 0, 0) <= 20 * 20 * MILLISECOND, 1);
+        transfer(536, 10 * MILLISECOND, 0, 0);
+        for (uint32_t lost = 1; lost <= 20; lost += lost < 5 ? 1 : 5) {
+            transfer(1460, 5 * MILLISECOND, 0, lost);
+            transfer(536, 50 * MILLISECOND, 3 * MILLISECOND, lost);
+        }
+        transfer(1460, 50 * MILLISECOND, 40 * MILLISECOND, 0);
+        peers_gone();
+        resets_in_time_wait();
     }
-    transfer(1460, 50 * MILLISECOND, 40 * MILLISECOND, 0);
-    peers_gone();
-    resets_in_time_wait();
     printf("connection_link: whole connections by poll_at and timeout alone\n");
     return 0;
 }

@@ -198,6 +198,31 @@ def policies():
     check((b.poll_at(), carry(5.04, b, B, a)), (None, [Answer.DONE]))
 
 
+def recoveries():
+    """RFC 8985, 7.2: with a round trip of 100 ms the end of what was sent goes out again behind two of them, and the peer's delay of 200 ms behind
+    a single segment; no timer expires."""
+    a, b = Connection.connect(0.0, CONFIGS[0], B, 2), Connection.listen(0.0, CONFIGS[1])
+    a.set_recovery(0.0)
+    check(raised(Refused, a.set_recovery, 0.0), Answer.IN_USE.text)
+    check(carry(0.0, a, A, b) + carry(0.1, b, B, a) + carry(0.1, a, A, b), [Answer.DONE] * 3)
+    check((a.send(5.0, b"a"), len(a.emit_all(5.0)), a.poll_at()), (1, 1, 5.4))
+    check((a.emit_all(5.399), len(a.emit_all(5.4)), a.timeout(5.4)), ([], 1, None))
+    check(a.poll_at() > 5.4, True)
+    check((b.send(5.4, b"b"), len(b.emit_all(5.4)), raised(Refused, b.set_recovery, 5.4)), (1, 1, Answer.NO_RULE.text))
+    # Of three segments behind one that is lost each is answered: it goes out again a round trip after it was sent (RFC 8985, 6.2, step 4).
+    a, b = Connection.connect(0.0, CONFIGS[0], B, 2), Connection.listen(0.0, CONFIGS[1])
+    a.set_recovery(0.0)
+    check(carry(0.0, a, A, b) + carry(0.1, b, B, a) + carry(0.1, a, A, b), [Answer.DONE] * 3)
+    check(a.send(5.0, bytes(4000)), 4000)
+    answers = []
+    for to, segment in a.emit_all(5.0)[1:]:
+        check(b.arrive(5.05, A, to, segment), Answer.DONE)
+        answers += b.emit_all(5.05)
+    check([a.arrive(5.1, B, to, answer) for to, answer in answers], [Answer.DONE] * 3)
+    told, _ = a.transmit(5.1)
+    check((told.position, told.numbers, a.transmit(5.1), a.timeout(5.1)), (1, told.length - 20, None, None))
+
+
 def peers():
     """RFC 9293, 3.10.6: known from the opening, or from the SYN that came, on, also behind the end."""
     b = Connection.listen(0.0, CONFIGS[1])
@@ -426,6 +451,7 @@ def main():
     stretches()
     congestion_windows()
     policies()
+    recoveries()
     peers()
     guards()
     time_wait()

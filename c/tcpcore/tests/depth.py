@@ -1,4 +1,4 @@
-"""The stack that a call of the library takes at most, by its disassembly: depth.py OBJDUMP BOUND OF_MAKING MEASURED FILE..
+"""The stack that a call of the library takes at most, by its disassembly: depth.py OBJDUMP BOUND OF_MAKING OF_RECOVERY MEASURED FILE..
 
 The files are the static library and the layer's object, for x86-64 or aarch64. A function's own bytes are read from
 what it does to the stack pointer, and the calls make a graph. That tells the depth only where nothing is called but by
@@ -7,8 +7,9 @@ address of a function may stand nowhere but in a call or a jump, and in the jump
 jumps through a register stays within its function.
 
 The deepest sum over the functions tcpcore_* is printed, without what memcpy, memmove and memset take. It has to be at
-most BOUND, and at least MEASURED less the frame of the test and what memset takes. That of the two calls that make a
-connection is printed apart, and has to be at most OF_MAKING.
+most BOUND, and at least MEASURED less the frame of the test and what memset takes. That of the calls that make a
+connection is printed apart, and has to be at most OF_MAKING. What runs on a connection that has a recovery alone isn't
+followed for either: with that the calls of a connection have to take at most OF_RECOVERY.
 """
 
 import re
@@ -19,6 +20,9 @@ import sys
 OUTSIDE = {"memcpy", "memmove", "memset", "__stack_chk_fail"}
 # They carry a whole end from call to call.
 MAKERS = {"tcpcore_connection_connect", "tcpcore_connection_listen"}
+# What gives a connection its recovery, and what runs where it has one alone.
+RECOVERY = "tcpcore_connection_set_recovery"
+RECOVERING = re.compile(r"tcp_repair::repairing::Repairing::(arrive|arrive_vouched|emit|emit_train)_repairing\b")
 # What a measurement counts beside: the frame of the test, and what memset takes.
 BESIDE = 256
 HEAD = re.compile(r"^[0-9a-f]+ <(?P<name>.+)>:$")
@@ -135,21 +139,21 @@ def check_tables(text, functions):
                 raise Fault(f"{section} has the address of {name}")
 
 
-def depth(functions, machine, name, above=()):
-    """The bytes of the deepest chain from here on, and the chain."""
+def depth(functions, machine, name, recovers, above=()):
+    """The bytes of the deepest chain from here on, and the chain; with what a recovery does, or without it."""
     if name in above:
         raise Fault(f"{name} is called again below itself, by {above[-1]}")
-    if name in OUTSIDE:
+    if name in OUTSIDE or not recovers and RECOVERING.match(name):
         return 0, ()
     if name not in functions:
         raise Fault(f"{name} isn't here, and {above[-1]} calls it")
     calls = sorted(functions[name].calls)
-    bytes_, chain = max((depth(functions, machine, call, (*above, name)) for call in calls), default=(machine.below, ()))
+    bytes_, chain = max((depth(functions, machine, call, recovers, (*above, name)) for call in calls), default=(machine.below, ()))
     return functions[name].frame + bytes_, (name, *chain)
 
 
 def main():
-    objdump, bound, of_making, measured, files = sys.argv[1], *map(int, sys.argv[2:5]), sys.argv[5:]
+    objdump, bound, of_making, of_recovery, measured, files = sys.argv[1], *map(int, sys.argv[2:6]), sys.argv[6:]
     functions = {}
     for file in files:
         words = [[objdump, "-d", "-r", "--no-show-raw-insn", file], [objdump, "-r", "-w", file]]
@@ -158,11 +162,19 @@ def main():
         functions.update(reader.functions)
         check_tables(told[1], reader.functions)
     entries = [name for name in functions if name.startswith("tcpcore_") and name not in MAKERS]
-    made, making = max(depth(functions, reader.machine, name) for name in MAKERS)
+
+    def deepest_of(names, recovers):
+        return max(depth(functions, reader.machine, name, recovers) for name in names)
+
+    made, making = deepest_of(MAKERS, False)
     print(f"depth: {made} bytes of {of_making}: {' > '.join(making)}")
     if made > of_making:
         raise Fault(f"the depth of what makes a connection has to be at most {of_making}")
-    deepest, chain = max(depth(functions, reader.machine, name) for name in entries)
+    recovered, recovering = deepest_of(entries, True)
+    print(f"depth: {recovered} bytes of {of_recovery} with a recovery: {' > '.join(recovering)}")
+    if not any(map(RECOVERING.match, recovering)) or recovered > of_recovery:
+        raise Fault(f"the depth of what finds losses by time has to be at most {of_recovery}")
+    deepest, chain = deepest_of([name for name in entries if name != RECOVERY], False)
     print(f"depth: {deepest} bytes of {bound}, {measured} measured: {' > '.join(chain)}")
     if len(entries) < 13 or not measured - BESIDE <= deepest <= bound:
         raise Fault(f"{len(entries)} entries; the depth has to be from {measured - BESIDE} to {bound}")

@@ -16,6 +16,7 @@ enum { CAPACITY = 6000, KEPT = 64, RUNS = 8 };
 
 static const tcpcore_addr ADDRS[3] = {{{10, 0, 0, 1}}, {{10, 0, 0, 2}}, {{0, 0, 0, 0}}};
 static unsigned char blocks[2][TCPCORE_CONNECTION_MEMORY_RUNS(CAPACITY, CAPACITY, RUNS)], buffer[1 << 16];
+static unsigned char recoveries[2][TCPCORE_RECOVERY_MEMORY];
 static tcpcore_connection ends[2];
 static uint64_t now, counts[60];
 
@@ -131,6 +132,16 @@ static void answers(const char *name, uint32_t answer, const uint32_t *others, s
 #define ANSWERS(name, answer, ...) \
     answers(name, answer, (const uint32_t[]){__VA_ARGS__}, sizeof((const uint32_t[]){__VA_ARGS__}) / sizeof(uint32_t))
 
+/* Losses are found by time from now on, where no text was sent, once. */
+static void choose_recovery(size_t side)
+{
+    tcpcore_connection *end = any_end(side);
+    size_t length = any(8) == 0 ? any_length(sizeof *recoveries) : sizeof *recoveries;
+    void *block = any_buffer(recoveries[side], length, end);
+    ANSWERS("set_recovery", tcpcore_connection_set_recovery(end, now, block, length), TCPCORE_DONE, TCPCORE_IN_USE, TCPCORE_NO_RULE,
+            TCPCORE_NO_MEMORY);
+}
+
 /* Makes a connection, with numbers that may be out of their ranges. */
 static void make(size_t side)
 {
@@ -165,6 +176,8 @@ static void make(size_t side)
             TCPCORE_BAD_LIMIT, TCPCORE_BAD_ADDR, TCPCORE_BAD_PORT, TCPCORE_BAD_RUNS, TCPCORE_BAD_RULES);
     if (answer != TCPCORE_DONE)
         CHECK(memcmp(&was, &ends[side], sizeof was), 0);
+    else if (any(3) > 0)
+        choose_recovery(side);
 }
 
 /* Gives a segment the right checksum (RFC 9293, 3.1). */
@@ -386,6 +399,10 @@ static void choose_policy(tcpcore_connection *end)
 /* A call that changes what its timers will do. */
 static void change_timers(size_t side)
 {
+    if (any(4) == 0) {
+        choose_recovery(side);
+        return;
+    }
     tcpcore_connection *end = any_end(side);
     if (any(2) == 0)
         ANSWERS("set_user_timeout", tcpcore_connection_set_user_timeout(end, any(2) == 0 ? TCPCORE_NEVER : any(UINT64_C(1) << (1 + any(62)))),

@@ -59,6 +59,7 @@ runs_well() {
 }
 runs_well older/padding.c
 runs_well older/runs.c
-runs_well -DOF=14 -DTOOK=720 -DFEWEST=17 older/connections.c
-runs_well -DOF=16 -DTOOK=880 -DFEWEST=10 older/connections.c
+runs_well -DOF=14 -DTOOK=720 -DFEWEST=19 older/connections.c
+runs_well -DOF=16 -DTOOK=880 -DFEWEST=12 older/connections.c
+runs_well -DOF=17 -DTOOK=1088 -DFEWEST=3 older/connections.c
 echo "older: $passed passed"

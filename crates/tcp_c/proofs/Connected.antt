@@ -5,11 +5,13 @@ use Rattle.region_heap.specs.declared.region.Region.{Region}
 use Rattle.tcp_congestion.specs.AnyWindow.{any_control}
 use Rattle.tcp_congestion.specs.declared.any_window.AnyWindow.{AnyWindow}
 use Rattle.tcp_conn.specs.declared.emit.transmit.TheConstants.{EMIT_ROOM}
+use Rattle.tcp_conn.specs.TrainWithin.{train_within}
 use Rattle.tcp_end.specs.declared.wired.Wired.{Wired}
 use Rattle.tcp_end.specs.Wired.{driven, driven_if, machine}
-use Rattle.tcp_connection.specs.Connection.{Connecting}
-use Rattle.tcp_connection.specs.Going.{after_emit}
 use Rattle.tcp_connection.specs.Wired.{insight}
+use Rattle.tcp_flow.specs.Wired.{numbers_of}
+use Rattle.tcp_repair.specs.Repairing.{Repaired, after_emit, after_train as after_train_of}
+use Rattle.tcp_repair.specs.Wired.{reports, start_of}
 use Rattle.tcp_timing.specs.declared.rules.Rules.{Rules}
 use Rattle.tcp_driver.specs.declared.limits.Limits.{Limits}
 use Rattle.tcp_driver.specs.Driver.{Driving}
@@ -17,11 +19,12 @@ use Rattle.tcp_halves.specs.declared.link.Peer.{Peer}
 use Rattle.tcp_conn.specs.declared.outcome.CallError.{CallError}
 use Rattle.tcp_conn.specs.Calls.{opening_answer}
 use Rattle.tcp_conn.specs.State.{State}
-use Rattle.tcp_c.specs.Connections.{after_opening, emitted_within, opened_by}
+use Rattle.tcp_c.specs.Connections.{after_opening, agreed, emitted_within, opened_by}
+use Rattle.tcp_c.specs.ConnectionTrains.{after_train}
 use Rattle.tcp_c.specs.declared.connection.driven.Driven.{Driven}
 
 abbrev Connects : Type 0
-Connects = Connecting (Wired Region) AnyWindow
+Connects = Repaired (Wired Region) AnyWindow
 
 -- it is put back as the call has left it
 pub moved_by : (does : Driven → Driven) (held new : Option Driven) (d after : Driven) → held ≡ Some d → new ≡ Some after → after ≡ does d
@@ -35,11 +38,21 @@ pub with_connection : (k l : Connects) → k ≡ l → of k ≡ of l
 with_connection k l e = ap of e
 
 -- where there is room for a segment
-pub emitted_by : (now window room : ℕ) (d : Driven) (k : Connects) → EMIT_ROOM ≤ room → k ≡ after_emit machine insight any_control d.connection now window
+pub emitted_by : (now window room : ℕ) (d : Driven) (k : Connects) → EMIT_ROOM ≤ room → k ≡ after_emit machine insight agreed any_control reports d.connection now window
     → of k ≡ emitted_within now window room d
 emitted_by now window room d k enough e =
     let little : nat_lt room EMIT_ROOM ≡ false = search rules in
-    ap of e ∙ sym (ap (λ (b : Bool). if b then d else of (after_emit machine insight any_control d.connection now window)) little)
+    ap of e ∙ sym (ap (λ (b : Bool). if b then d else of (after_emit machine insight agreed any_control reports d.connection now window)) little)
+
+pub trained_by : (now window most room : ℕ) (d : Driven) (k : Connects) → EMIT_ROOM ≤ room
+    → k ≡ after_train_of machine insight agreed (λ w window most room. train_within w.end window most room) start_of numbers_of any_control reports d.connection now window
+    most room
+    → of k ≡ after_train now window most room d
+trained_by now window most room d k enough e =
+    let little : nat_lt room EMIT_ROOM ≡ false = search rules in
+    ap of e
+    ∙ sym (ap (λ (b : Bool). if b then d else of (after_train_of machine insight agreed (λ w window most room. train_within w.end window most room) start_of numbers_of any_control reports d.connection now window
+    most room)) little)
 
 -- an opening that wasn't refused is what it makes
 abbrev made-in : Driving (Wired Region) → Result (Driving (Wired Region)) CallError → Driving (Wired Region)

@@ -15,3 +15,4 @@ pub mod Trains
 pub mod ConnectionTrains
 pub mod Congestions
 pub mod Policies
+pub mod Recoveries

@@ -1,11 +1,12 @@
-//! An end with its timers and its congestion window, for C: each exported function is a call of [`tcp_flow::Flow`] and nothing more. Times are counts of
-//! microseconds from any beginning; they never go back.
+//! An end with its timers, its congestion window, its policy and its loss recovery, for C: each exported function is a call of
+//! [`tcp_repair::Repairing`] and nothing more. Times are counts of microseconds from any beginning; they never go back.
 pub(crate) mod congestion;
 pub(crate) mod driven;
 pub(crate) mod driven_handle;
 pub(crate) mod driven_held;
 pub(crate) mod making;
 pub(crate) mod policy;
+pub(crate) mod recovery;
 pub(crate) mod rules;
 pub(crate) mod segments;
 pub(crate) mod timing;

@@ -171,6 +171,7 @@
 //! uint32_t tcp_c_connection_set_congestion(tcp_c_connection *handle, uint32_t congestion);
 //! uint32_t tcp_c_connection_congestion(tcp_c_connection *handle, tcp_c_congestion *congestion);
 //! uint32_t tcp_c_connection_set_policy(tcp_c_connection *handle, const tcp_c_policy *policy);
+//! uint32_t tcp_c_connection_set_recovery(tcp_c_connection *handle, tcp_c_block block, uint64_t now);
 //! ```
 //!
 //! Each returns a number of the table in `answers`, or that of a refusal: 1 to 6 for bytes that are no segment
@@ -251,6 +252,7 @@ pub use connection::making::tcp_c_connection_free;
 pub use connection::making::tcp_c_connection_listen;
 pub use connection::making::tcp_c_connection_room;
 pub use connection::policy::tcp_c_connection_set_policy;
+pub use connection::recovery::tcp_c_connection_set_recovery;
 pub use connection::rules::NEVER;
 pub use connection::segments::tcp_c_connection_arrive;
 pub use connection::segments::tcp_c_connection_arrive_vouched;

@@ -36,11 +36,15 @@ pub enum Error {
     BadRuns,
     /// No timeout can be made from the [`Rules`](crate::Rules) of a connection.
     BadRules,
+    /// [`Connection::set_recovery`](crate::Connection::set_recovery) was called already.
+    InUse,
+    /// Text was sent before [`Connection::set_recovery`](crate::Connection::set_recovery).
+    NoRule,
     /// Another answer, by its number in `tcpcore.h`. None is known that safe code comes to.
     Other(u32),
 }
 
-const ERRORS: [(u32, Error); 15] = [
+const ERRORS: [(u32, Error); 17] = [
     (11, Error::NotOpen),
     (12, Error::AlreadyOpen),
     (13, Error::Closing),
@@ -56,6 +60,8 @@ const ERRORS: [(u32, Error); 15] = [
     (27, Error::BadPort),
     (28, Error::BadRuns),
     (29, Error::BadRules),
+    (32, Error::InUse),
+    (54, Error::NoRule),
 ];
 
 impl Error {

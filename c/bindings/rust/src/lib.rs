@@ -58,7 +58,9 @@ pub use answers::{Agreed, Arrival, EmitFirst, Ending, Error, Expired, Malformed,
 #[cfg(feature = "alloc")]
 pub use boxed::Boxed;
 pub use config::Config;
-pub use connection::{connection_memory, connection_memory_with_runs, Congestion, CongestionWindow, Connection, Policy, Rules, Segment};
+pub use connection::{
+    connection_memory, connection_memory_with_runs, Congestion, CongestionWindow, Connection, Policy, Rules, Segment, RECOVERY_MEMORY,
+};
 pub use lending::{Lent, Parts, HEADER_ROOM};
 pub use placed::{memory, memory_with_runs, Placed};
 pub use reports::{ArriveReport, Brought, Kind, Rule, Transmit};

@@ -2,9 +2,10 @@
 use core::ffi::c_void;
 use core::ptr;
 
-pub(crate) const VERSION: u32 = 17;
+pub(crate) const VERSION: u32 = 18;
 pub(crate) const END_SIZE: usize = 416;
-pub(crate) const CONNECTION_SIZE: usize = 1088;
+pub(crate) const CONNECTION_SIZE: usize = 1136;
+pub(crate) const RECOVERY_MEMORY: usize = 2863;
 pub(crate) const MARK_SIZE: usize = 8;
 pub(crate) const HELD_SIZE: usize = 16;
 pub(crate) const UNIT: usize = 16;
@@ -354,6 +355,7 @@ extern "C" {
     pub fn tcpcore_connection_set_congestion(connection: *mut Connection, congestion: u32) -> u32;
     pub fn tcpcore_connection_congestion(connection: *const Connection, congestion: *mut Congestion) -> u32;
     pub fn tcpcore_connection_set_policy(connection: *mut Connection, policy: *const Policy) -> u32;
+    pub fn tcpcore_connection_set_recovery(connection: *mut Connection, now: u64, block: *mut c_void, length: usize) -> u32;
     pub fn tcpcore_strerror(answer: u32) -> *const u8;
     pub fn tcpcore_version() -> u32;
     pub fn tcpcore_build() -> *const u8;
@@ -504,10 +506,11 @@ mod tests {
         let constants = "TCPCORE_EMIT_ROOM, TCPCORE_TRAIN_ROOM, TCPCORE_HEADER_ROOM, TCPCORE_RESET_ROOM, TCPCORE_TIME_WAIT_ROOM, \
                          TCPCORE_MEMORY(17, 1) + TCPCORE_STRUCT_ROOM, TCPCORE_MEMORY_RUNS(1, 17, 3) + TCPCORE_STRUCT_ROOM, \
                          TCPCORE_CONNECTION_MEMORY(17, 1) + TCPCORE_STRUCT_ROOM, \
-                         TCPCORE_CONNECTION_MEMORY_RUNS(1, 17, 3) + TCPCORE_STRUCT_ROOM, TCPCORE_RUNS, TCPCORE_MAX_RUNS, TCPCORE_LIMIT, TCPCORE_VERSION";
+                         TCPCORE_CONNECTION_MEMORY_RUNS(1, 17, 3) + TCPCORE_STRUCT_ROOM, TCPCORE_RECOVERY_MEMORY, TCPCORE_RUNS, TCPCORE_MAX_RUNS, \
+                         TCPCORE_LIMIT, TCPCORE_VERSION";
         let memory = [crate::memory(17, 1), crate::memory_with_runs(1, 17, 3)];
         let memory = memory.into_iter().chain([crate::connection_memory(17, 1), crate::connection_memory_with_runs(1, 17, 3)]);
-        let memory = memory.chain([crate::RUNS.into(), crate::MAX_RUNS.into()]);
+        let memory = memory.chain([crate::RECOVERY_MEMORY, crate::RUNS.into(), crate::MAX_RUNS.into()]);
         let rooms = [crate::EMIT_ROOM, crate::TRAIN_ROOM, crate::HEADER_ROOM, crate::RESET_ROOM, crate::RESET_ROOM];
         let constants_found = rooms.into_iter().chain(memory).map(|it| it as u64);
         let wanted: Vec<u64> = found.into_iter().map(|it| it as u64).chain(constants_found).chain([crate::LIMIT, VERSION.into()]).collect();

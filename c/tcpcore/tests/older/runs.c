@@ -13,8 +13,8 @@ __asm__(".symver tcpcore_connection_connect, tcpcore_connection_connect@TCPCORE_
 __asm__(".symver tcpcore_connection_listen, tcpcore_connection_listen@TCPCORE_11");
 __asm__(".symver tcpcore_connection_room, tcpcore_connection_room@TCPCORE_11");
 
-/* Below as many runs the tables of version 13 have no place for the window, the policy and a run. */
-enum { FEWEST = 25 };
+/* Below as many runs the tables of version 13 have no place for the window, the policy, the recovery and a run. */
+enum { FEWEST = 29 };
 
 /* TCPCORE_MEMORY_RUNS and TCPCORE_CONNECTION_MEMORY_RUNS of version 13. */
 #define MEMORY_OF_13(send, receive, runs) \
@@ -58,7 +58,7 @@ static int makes(uint16_t runs, size_t offset)
     if (tcpcore_new(&end, &config, from, room) != TCPCORE_DONE || tcpcore_free(&end) != TCPCORE_DONE ||
         tcpcore_new_at(&at, &config, from, room + TCPCORE_STRUCT_ROOM) != TCPCORE_DONE || tcpcore_free(at) != TCPCORE_DONE)
         return 0;
-    /* A connection has a congestion window and a policy, too, for which the tables of the fewest runs have no place. */
+    /* A connection has a congestion window, a policy and a recovery, too, for which the tables of the fewest runs have no place. */
     if (asked < FEWEST)
         return tcpcore_connection_listen(&connection, &config, &rules, 0, from, connections) == TCPCORE_NO_MEMORY;
     return tcpcore_connection_listen(&connection, &config, &rules, 0, from, connections) == TCPCORE_DONE &&

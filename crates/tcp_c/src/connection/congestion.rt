@@ -37,7 +37,7 @@ fn congestion_number(window: &AnyWindow) -> u32
 }
 
 /// Whether text was sent, or a FIN.
-fn has_sent(driven: &Driven) -> bool
+pub(crate) fn has_sent(driven: &Driven) -> bool
     ensures { result ≡ has_sent (end_of driven.now) }
 {
     driven.connection.flow().driver().core().end.snd_nxt() > 1

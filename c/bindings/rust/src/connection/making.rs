@@ -94,6 +94,8 @@ impl<'m> Connection<'m> {
             raw,
             #[cfg(feature = "alloc")]
             owned: None,
+            #[cfg(feature = "alloc")]
+            recovery: None,
             block: PhantomData,
         }
     }
@@ -139,11 +141,11 @@ impl Connection<'static> {
 
 impl Drop for Connection<'_> {
     fn drop(&mut self) {
-        // SAFETY: it holds a connection, which nobody uses behind this; its block is freed last.
+        // SAFETY: it holds a connection, which nobody uses behind this; its blocks are freed last.
         unsafe {
             sys::tcpcore_connection_free(self.raw.as_ptr());
             #[cfg(feature = "alloc")]
-            if let Some(block) = self.owned {
+            for block in [self.owned, self.recovery].into_iter().flatten() {
                 free_block(block);
             }
         }

@@ -2,12 +2,14 @@
 mod congestion;
 mod making;
 mod policy;
+mod recovery;
 mod rules;
 mod train;
 
 pub use congestion::{Congestion, CongestionWindow};
 pub use making::{connection_memory, connection_memory_with_runs};
 pub use policy::Policy;
+pub use recovery::RECOVERY_MEMORY;
 pub(crate) use rules::reach_of;
 pub use rules::Rules;
 
@@ -65,15 +67,18 @@ use rules::NEVER;
 /// # Ok::<(), tcpcore::Error>(())
 /// ```
 ///
-/// Where the path may be congested [`set_congestion`](Connection::set_congestion) chooses a congestion window, and
-/// [`set_policy`](Connection::set_policy) when acknowledgements and small segments wait. Who has emissions wait by a rule of his own goes by
-/// [`ArriveReport::at_once`] (RFC 5681, 4.2).
+/// Where the path may be congested [`set_congestion`](Connection::set_congestion) chooses a congestion window;
+/// [`set_recovery`](Connection::set_recovery) has losses found by time, and [`set_policy`](Connection::set_policy) says when acknowledgements
+/// and small segments wait. Who has emissions wait by a rule of his own goes by [`ArriveReport::at_once`] (RFC 5681, 4.2).
 pub struct Connection<'m> {
     /// The C struct, at the front of the block, where it stays.
     raw: NonNull<sys::Connection>,
     /// The block, where it is the connection's own.
     #[cfg(feature = "alloc")]
     owned: Option<*mut [MaybeUninit<u8>]>,
+    /// The recovery's block, where it is the connection's own.
+    #[cfg(feature = "alloc")]
+    recovery: Option<*mut [MaybeUninit<u8>]>,
     block: PhantomData<&'m mut [MaybeUninit<u8>]>,
 }
 

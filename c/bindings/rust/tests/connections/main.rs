@@ -183,6 +183,51 @@ fn a_policy_is_chosen() {
     assert_eq!(ends[1].poll_timeout(), None);
 }
 
+/// The one segment that is due goes to the other side, another time later.
+fn carry_one(ends: &mut [Connection; 2], from: usize, sent: Time, came: Time) {
+    let segments = emitted(&mut ends[from], sent);
+    assert_eq!(hand_in(&mut ends[1 - from], 1 - from, came, &segments), [Arrival::Taken]);
+}
+
+/// RFC 8985, 7.2: with a round trip of 100 ms the end of what was sent goes out again behind two of them, and the peer's delay of 200 ms behind
+/// a single segment; no timer expires.
+fn is_probed(ends: &mut [Connection; 2], opened: Time) {
+    let (half, trip) = (opened + Duration::from_millis(50), opened + Duration::from_millis(100));
+    carry_one(ends, 0, opened, half);
+    carry_one(ends, 1, half, trip);
+    carry_one(ends, 0, trip, trip);
+    let (client, sent) = (&mut ends[0], opened + SECOND);
+    let probed = sent + Duration::from_millis(400);
+    assert_eq!((client.send(sent, b"a"), emitted(client, sent).len(), client.poll_timeout()), (Ok(1), 1, Some(probed)));
+    assert_eq!(emitted(client, sent + Duration::from_micros(399_999)).len(), 0);
+    assert_eq!((emitted(client, probed).len(), client.handle_timeout(probed)), (1, None));
+    assert!(client.poll_timeout() > Some(probed));
+}
+
+#[test]
+fn losses_are_found_by_time() {
+    let opened = seconds(10);
+    let mut ends = pair(&Rules::new(), opened);
+    assert_eq!(ends[0].set_recovery(opened), Ok(()));
+    assert_eq!(ends[0].set_recovery(opened), Err(Error::InUse));
+    is_probed(&mut ends, opened);
+    assert_eq!((ends[1].send(opened, b"b"), emitted(&mut ends[1], opened).len()), (Ok(1), 1));
+    assert_eq!(ends.map(|mut end| end.set_recovery(opened)), [Err(Error::InUse), Err(Error::NoRule)]);
+}
+
+/// In a block of the caller's, wherever it begins.
+#[test]
+fn losses_are_found_in_placed_memory() {
+    for offset in 0..17 {
+        let (opened, mut block, mut little) = (seconds(10), [MaybeUninit::new(0xa5); RECOVERY_MEMORY + 17], [MaybeUninit::uninit(); 100]);
+        let mut ends: [Connection; 2] = pair(&Rules::new(), opened);
+        assert_eq!(ends[0].set_recovery_in(&mut little, opened), Err(Error::NoMemory));
+        assert_eq!(ends[0].set_recovery_in(&mut block[offset..offset + RECOVERY_MEMORY], opened), Ok(()));
+        assert_eq!(ends[0].set_recovery_in(&mut [], opened), Err(Error::InUse));
+        is_probed(&mut ends, opened);
+    }
+}
+
 /// RFC 6928, 2: of segments of 1,000 bytes ten go out at first, of 536 before both SYNs have agreed on them (RFC 9293, 3.7.1). RFC 5681, 3.1,
 /// and RFC 9438, 4.8: after a timeout ssthresh is half of the 4,000 bytes in flight, and 0.7 of them, and the window a segment.
 #[test]
@@ -495,6 +540,9 @@ fn any_calls_at_any_times() {
     for seed in 1..=calls / 3000 {
         let mut any = Any(seed * 7_919);
         let mut ends = pair(&Rules::new().user(Some(SECOND)), Time::ZERO);
+        for end in ends.iter_mut().take(seed as usize % 3) {
+            assert_eq!(end.set_recovery(Time::ZERO), Ok(()));
+        }
         let (mut seen, mut room, mut large, mut out) = (vec![], [0; EMIT_ROOM], [0; TRAIN_ROOM], [0; 700]);
         let (mut given, mut read) = ([0, 0], [0, 0]);
         for _ in 0..3000 {
@@ -538,6 +586,9 @@ fn any_calls_at_any_times() {
                 10 if any.below(2) == 0 => drop(ends[side].resend_first(now)),
                 10 if any.below(2) == 0 => drop(ends[side].resend(now, any.below(2000), any.below(4000))),
                 10 if any.below(2) == 0 => ends[side].set_policy([Policy::immediate(), Policy::standard()][any.below(2) as usize]),
+                10 if any.below(4) == 0 => {
+                    assert!(matches!(ends[side].set_recovery(now), Ok(()) | Err(Error::InUse | Error::NoRule)))
+                }
                 10 => {
                     let rule = [Congestion::None, Congestion::Reno, Congestion::Cubic][any.below(3) as usize];
                     assert!(!ends[side].set_congestion(rule) || ends[side].congestion().congestion == rule);
