@@ -41,8 +41,8 @@ for name in answers congestion cubic delayed_ack flow keep_alive loss_recovery s
     companions="$companions $top/c/companions/$name.c"
 done
 # shellcheck disable=SC2086
-gcc -std=c11 -O2 -Wall -Wextra -I"$header" -I"$top/c/companions" "$top/bench/jitter/jitter.c" $companions $layer "$library" \
-    -o "$out/jitter"
+gcc -std=c11 -O2 -Wall -Wextra -I"$header" -I"$top/c/companions" "$top/bench/link/jitter.c" "$top/bench/link/link.c" $companions $layer \
+    "$library" -o "$out/jitter"
 grep -q 'TCPCORE_MAX_RUNS' "$header/tcpcore.h" && has_runs=1 || has_runs=
 runs=${runs:-${has_runs:+16 64 128 256 1024}}
 

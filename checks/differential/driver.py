@@ -106,6 +106,8 @@ class Small:
 class Second:
     """What answers a line."""
 
+    is_patient = False
+
     def new(self, now, first, time_wait, suspect, handshake, user, fin_wait_2):
         self.end, self.estimator, self.watch = Small(first), Estimator(*STANDARD), Watch()
         self.clock, self.una = min(LAST, now), first
@@ -113,7 +115,7 @@ class Second:
         self.deadlines, self.sent = {}, set()
         self.since, self.expiries, self.patience, self.bursts = None, 0, self.estimator.rto, False
         self.shut, self.fin_wait_2, self.left = False, fin_wait_2, None
-        self.postponed = False
+        self.postponed, self.is_patient = False, False
         self.follow()
         return "new"
 
@@ -126,7 +128,9 @@ class Second:
         self.una = self.end.una
         if is_news:
             trip = self.estimator.srtt
-            self.patience = self.estimator.rto if trip is None else min(trip, self.estimator.rto)
+            # RFC 6298, 2: no time below the clock's granularity can be told from none.
+            least = max(1, self.estimator.granularity)
+            self.patience = self.estimator.rto if trip is None or self.is_patient else min(max(least, trip), self.estimator.rto)
         spans = {"retransmit": self.estimator.rto, "reorder": min(self.patience, self.estimator.rto), "time-wait": min(LAST, self.time_wait)}
         for timer, span in spans.items():
             if timer not in wanted:
@@ -242,6 +246,8 @@ class Second:
         numbers = [None if word == "-" else int(word) for word in words]
         if word == "user-timeout":
             self.user, answer = numbers[0], "set"
+        elif word == "patience":
+            self.is_patient, answer = numbers[0] == 1, "set"
         elif word in ("new", "arrive", "emit", "timeout"):
             answer = getattr(self, word)(*numbers)
         else:
@@ -315,6 +321,16 @@ def worked():
     gap = Turns(1, LIMITS, MOST, lost=(2, 9))
     gap.turn("send 9")
     gap.runs(9)
+    # The same of a path that takes no time: what the clock can't tell from none is no time for reordering. And of a caller that finds
+    # losses by time: the peer's gap is given a timeout.
+    near, patient = Turns(1, LIMITS, MOST, lost=(2, 9), way=0), Turns(1, LIMITS, MOST, lost=(2, 9))
+    patient.call("patience 1")
+    for turns in (near, patient):
+        turns.turn("send 9")
+        turns.runs(9)
+    assert near.expired == ["reorder", "reorder"] and near.now == 3000, (near.expired, near.now)
+    assert patient.expired[0] == "retransmit", patient.expired
+    patient.call("patience 0")
     # 600 ms there and back, where a timeout takes a second: a segment is lost within a window, and goes out again in time. Where it is lost
     # for good the timeout expires all the same.
     far, cut = (Turns(1, LIMITS, MOST, lost=lost, way=300_000) for lost in ((11,), (11, *range(24, 99))))
@@ -408,7 +424,7 @@ def worked():
     stretch = ["new 0 1 5000000 3 - - -", "send 0 5", *["emit 0 9"] * 6, "resend 1000 1 3", *["emit 1000 9"] * 3, "arrive 2000 2 1 0 9 0",
                "resend 2000 0 4", "timeout 2000", *["emit 2000 9"] * 3, "resend 3000 5 9", "resend 3000 3 3", "resend 3000 0 2", "emit 3000 9",
                f"resend 4000 4 {MOST}", *["emit 4000 9"] * 2, "abort 5000", "resend 5000 0 9"]  # fmt: skip
-    turns = (orderly, gap, far, cut, late, silent, unanswered, shut, opened, resting, alone, gone, heard, unread)
+    turns = (orderly, gap, near, patient, far, cut, late, silent, unanswered, shut, opened, resting, alone, gone, heard, unread)
     return [line for turn in turns for line in turn.lines] + burst + stretch
 
 
@@ -430,7 +446,7 @@ def random_calls(draw, count):
         elif kind < 16:
             yield f"timeout {at}"
         elif kind == 16:
-            yield draw.choice((f"user-timeout {draw.randrange(100 * SECOND)}", "user-timeout -"))
+            yield draw.choice((f"user-timeout {draw.randrange(100 * SECOND)}", "user-timeout -", "patience 0", "patience 1"))
         elif kind < 19:
             yield f"send {at} {draw.randrange(4)}"
         else:

@@ -99,6 +99,17 @@ class Flow:
             self.path.lost(una, flight, nxt)
         return timer
 
+    def lose(self, what):
+        """A loss that the caller has found (RFC 5681, 4.3); recovery of one that is repaired already is over with the next acknowledgement (RFC 8985,
+        7.4.2)."""
+        if self.path is None:
+            return
+        if what == "again":
+            self.path.lost_again()
+        else:
+            self.path.lost(self.end.una, self.flight, self.end.una if what == "repaired" else self.end.nxt)
+            self.path.finds_by_time()
+
     @property
     def next(self):
         return min(self.driver.all_deadlines().values(), default="-")
@@ -111,6 +122,10 @@ class Flow:
             answer = self.choose(*words)
         elif word == "user-timeout":
             self.driver.user, answer = None if words[0] == "-" else int(words[0]), "set"
+        elif word == "patience":
+            self.driver.is_patient, answer = words[0] == "1", "set"
+        elif word == "lose":
+            answer = self.lose(words[0]) or "told"
         elif word == "tick":
             answer = f"{self.timeout(int(words[0]))} {self.next}"
         elif word in ("arrive", "vouched", "emit", "train", "timeout"):
@@ -180,11 +195,30 @@ def worked():
         late.turn("abort")
         all_turns.append(late)
         all_turns.append(chosen(rule))
+        all_turns.append(found(rule))
     none = Turns("none", 1, 1, (5,))
     none.turn("send 60")
     none.runs(30)
     all_turns.append(none)
     return [line for turns in all_turns for line in turns.lines]
+
+
+def found(rule):
+    """A caller finds losses by time: one, what was sent again of it, the same once more before that is acknowledged, and one that a probe has
+    repaired."""
+    turns = Turns(rule, 1, 2, lost=(8,))
+    turns.call("patience 1")
+    turns.turn("send 40")
+    turns.runs(4)
+    for what in ("found", "found", "again", "found"):
+        turns.call(f"lose {what}")
+        turns.runs(1)
+    turns.runs(9)
+    turns.turn("send 9")
+    turns.call("lose repaired")
+    turns.runs(9)
+    assert turns.second.end.una == 50, turns.second.end.una
+    return turns
 
 
 def chosen(rule):
@@ -220,7 +254,8 @@ def random_calls(draw, count):
         elif kind < 48:
             yield f"{draw.choice(('timeout', 'tick'))} {at}"
         elif kind == 48:
-            yield draw.choice((f"user-timeout {draw.choice(('-', 60 * SECOND))}", f"choose {draw.choice(tuple(RULES))} {draw.choice((1, 2, 9))} 1"))
+            timeout, other = f"user-timeout {draw.choice(('-', 60 * SECOND))}", f"choose {draw.choice(tuple(RULES))} {draw.choice((1, 2, 9))} 1"
+            yield draw.choice((timeout, other, f"patience {draw.randrange(2)}", *(f"lose {what}" for what in ("found", "again", "repaired"))))
         elif kind < 56:
             yield f"send {at} {draw.randrange(30)}"
         else:

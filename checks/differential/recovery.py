@@ -76,6 +76,8 @@ class Rack:
         if part.first == 0:
             return
         if part.again and now - part.last < min_rtt:
+            # It came late, and wasn't lost.
+            self.reordering_seen = True
             if self.round <= part.start:
                 self.mult, self.persist, self.round = min(MOST, self.mult + 1), 16, self.nxt
         else:
@@ -109,6 +111,11 @@ class Rack:
 
     def lost(self, window, now):
         return next((f"{s.start} {s.end}" for s, at in self.losses(window) if at <= now), "-")
+
+    def resent(self, at):
+        """When the first outstanding segment from a position on was sent last, if it was sent again."""
+        later = self.parts(at, self.nxt)
+        return str(later[0].last) if later and later[0].again else "-"
 
     def deadline(self, window):
         return str(min((at for _, at in self.losses(window)), default="-"))
@@ -167,7 +174,7 @@ def answers(lines):
     for line in lines:
         word, *numbers = line.split()
         numbers = [int(number) for number in numbers]
-        if word in ("window", "lost", "deadline"):
+        if word in ("window", "lost", "deadline", "resent"):
             yield str(getattr(rack, word)(*numbers))
         elif word in ("probe", "start", "stop", "recovering", "measured", "probed", "acked"):
             probe = Probe() if word == "probe" else probe
@@ -205,7 +212,7 @@ def random_lines(count, rng):
         elif kind == 5:
             yield rng.choice(("recovered", f"window {rng.choice((50_000, 200_000))} {min_rtt} {rng.randint(0, 1)}"))
         elif kind == 6:
-            yield rng.choice((f"lost {window} {now}", f"deadline {window}"))
+            yield rng.choice((f"lost {window} {now}", f"deadline {window}", f"resent {any_start}"))
         elif kind == 7 and rng.random() < 0.05:
             nxt = 0
             yield "rack"

@@ -19,7 +19,7 @@ class Reno:
         self.cwnd = self.iw = min(10 * smss, max(2 * smss, 14600))
         self.ssthresh = HIGH
         self.recover = 0
-        self.fast_recovery = self.resent_by_timer = self.lost_before = False
+        self.fast_recovery = self.is_found = self.resent_by_timer = self.lost_before = False
         self.dupacks = self.bytes_acked = 0
         self.pipe = 0
 
@@ -60,11 +60,12 @@ class Reno:
         if acked >= self.smss:
             self.cwnd += self.smss
         self.cwnd = max(self.cwnd, self.smss)
-        return self.shown("again")
+        # RFC 6582, 1: where losses are found by time, that says what else is lost.
+        return self.shown("" if self.is_found else "again")
 
     def begin_recovery(self, left, flight, nxt):
         """RFC 5681, 3.2, 2 and 3, with so many segments that have left the network."""
-        self.lost_before = True
+        self.lost_before, self.is_found = True, False
         self.shrink(flight)
         self.cwnd = self.ssthresh + left * self.smss
         self.recover, self.fast_recovery, self.bytes_acked = nxt, True, 0
@@ -89,6 +90,21 @@ class Reno:
             return self.shown()
         self.begin_recovery(min(self.dupacks, 3), flight, nxt)
         return self.shown("shrinks")
+
+    def finds_by_time(self):
+        self.is_found = True
+        return self.shown()
+
+    # Of a window what is left where it shrinks.
+    KEPT = Fraction(1, 2)
+
+    def lost_again(self):
+        """RFC 5681, 4.3: the loss of a retransmission is a second sign of congestion, for cwnd and ssthresh."""
+        base = min(self.cwnd, self.ssthresh)
+        self.ssthresh = max(int(base * self.KEPT), 2 * self.smss)
+        self.cwnd = max(self.smss, self.cwnd - max(0, base - self.ssthresh))
+        self.bytes_acked = 0
+        return self.shown()
 
     def timed_out(self, flight, nxt):
         self.lost_before = True
@@ -149,6 +165,11 @@ class Cubic(Reno):
 
     MS, PART = Fraction(1, 1000), Fraction(1, 2**23)
     LONGEST, FARTHEST = 2000, 2**31
+    KEPT = BETA
+
+    def lost_again(self):
+        self.stage = None
+        return super().lost_again()
 
     def __init__(self, smss, limit=1):
         super().__init__(smss, limit)
@@ -283,7 +304,7 @@ class Windows:
     MADE = {"reno": Reno, "cubic": Cubic, "delayed": Delayed, "sws": Sws, "limiter": Limiter}
     CALLS = {
         **dict.fromkeys(
-            ("acknowledged", "duplicate", "reported", "lost", "timed-out", "resent", "may-resend", "syn-lost", "idle", "room"), "path"
+            ("acknowledged", "duplicate", "reported", "lost", "lost-again", "finds-by-time", "timed-out", "resent", "may-resend", "syn-lost", "idle", "room"), "path"
         ),
         **dict.fromkeys(("arrived", "answered", "due"), "delayed"),
         **dict.fromkeys(("window", "segment"), "sws"),
@@ -337,6 +358,10 @@ WORKED = [
     "lost 16501 6000 22501", "acknowledged 6000 22501 0", "timed-out 4000 26501", "lost 22501 4000 26501", "acknowledged 2000 24501 2000",
     "acknowledged 2000 26501 2000", "lost 26501 2000 28501", "reno 1000 2", "lost 1 500 501", "reno 1000", "reported", "duplicate 1 3000 3001",
     "duplicate 1 3000 3001", "reported", "duplicate 1 3000 3001",
+    # What was sent again was lost again, and once more: each time the window shrinks, and the recovery lasts until what is in flight then is
+    # acknowledged.
+    "reno 1000 8", "acknowledged 9000 9001 30000", "reported", "lost 9001 30000 39001", "finds-by-time", "reported", "lost-again", "reported", "lost-again",
+    "acknowledged 20000 29001 12000", "acknowledged 12000 41001 0", "cubic 1000", "lost 1 20000 20001", "lost-again", "acknowledged 22000 22001 0",
     # CUBIC: up to ssthresh and past it by slow start, below W_max by the curve, past it, with a second loss below the first one's window;
     # a path so short that Reno's window is greater; half of a window in use, an idle time, and a timeout, behind which W_max is the window.
     "cubic 0", "cubic 1460 9", "cubic 65535 8", "cubic 1000 2", *curve(1000, 0, 20, 100_000), "lost 40001 40000 90001", "acknowledged 50000 90001 28000 2100000 100000",
@@ -386,7 +411,7 @@ def random_calls(draw, count):
         elif kind < 10:
             yield from [draw.choice((f"duplicate {una} {nxt - una} {nxt}", "reported", f"lost {una} {nxt - una} {nxt}"))] * draw.randrange(1, 6)
         elif kind == 10:
-            yield draw.choice((f"timed-out {nxt - una} {nxt}", f"timed-out {nxt - una} {nxt}", f"resent {size}", "may-resend", "syn-lost", "idle"))
+            yield draw.choice((f"timed-out {nxt - una} {nxt}", f"timed-out {nxt - una} {nxt}", "lost-again", "finds-by-time", f"resent {size}", "may-resend", "syn-lost", "idle"))
             yield from ("may-resend", f"resent {draw.choice((size, 2**61))}", "may-resend")
         elif kind == 11:
             yield f"room {draw.choice((nxt - una, size, 2**draw.randrange(62)))}"

@@ -4,16 +4,22 @@
 
 use std::alloc::{AllocError, Global};
 use std::process::ExitCode;
-use tcp_conn::{Config, EMIT_ROOM, Endpoint, Received};
+use tcp_conn::{Config, EMIT_ROOM, Endpoint, RESET_LEN, Received};
 use tcp_driver::{Limits, Timer};
+use tcp_connection::{Connection, Policy};
+use tcp_congestion::Reno;
 use tcp_end::{End, Wired, connect, listen};
-use tcp_host::{Arrived, Host, Pair, Socket, pair_of};
+use tcp_flow::Flow;
+use tcp_host::{Arrived, Host, NotRetired, Pair, Place, Socket, pair_of};
 use tcp_table::Id;
 use tcp_timing::Rules;
 use tcp_wire::{Addr, Seq};
 
 /// A host whose listeners keep a number.
-type Ends = Host<Wired<Global>, u8, Global>;
+type Ends = Host<End<Global>, u8, Global>;
+
+/// A host of connections.
+type Connections = Host<Connection<Wired<Global>, Reno>, u8, Global>;
 
 /// The client's address and the server's.
 const CLIENT: [u8; 4] = [10, 0, 0, 1];
@@ -45,12 +51,16 @@ fn connects(alloc: Global, host: &mut Ends, port: u16) -> Option<Id> {
     put(host, pair, end)
 }
 
-/// The host opens an end for what a segment asks of its listener.
-fn opens(alloc: Global, host: &mut Ends, pair: Pair) -> Option<Id> {
+/// The host opens an end for what a segment asks of the listener in a slot.
+fn opens(alloc: Global, host: &mut Ends, listener: usize, pair: Pair) -> Option<Id> {
     let config = Config::new(Addr(pair.local.addr), pair.local.port, Seq(5000));
     let end = Endpoint::new(alloc, config).ok()?;
     let end = listen(end, Rules::standard(), Limits::standard(), 0).ok()?;
-    put(host, pair, end)
+    let listener = host.listener_id(listener)?;
+    if host.find(&pair).is_some() {
+        return None;
+    }
+    host.admit(listener, pair, end).ok()
 }
 
 /// A segment comes to a host: what became of it. For a listener an end is opened, and it comes again.
@@ -65,12 +75,15 @@ fn takes(
     for _ in 0..2 {
         match host.arrive(0, src, dst, bytes) {
             Arrived::Taken(slot, _) => return write!(answers, "taken by {slot}\n"),
+            Arrived::Late(slot, Some(_)) => return write!(answers, "late for {slot}\n"),
+            Arrived::Late(_, None) => return answers.push_str("withheld\n"),
+            Arrived::Full(listener) => return write!(answers, "dropped by {listener}\n"),
             Arrived::Stray => return answers.push_str("stray\n"),
             Arrived::Short => return answers.push_str("short\n"),
             Arrived::Listening(listener) => {
                 write!(answers, "heard by {listener}, ")?;
                 if let Some(pair) = pair_of(src, dst, bytes) {
-                    let _ = opens(alloc, host, pair);
+                    let _ = opens(alloc, host, listener, pair);
                 }
             }
         }
@@ -88,11 +101,14 @@ fn carry(
 ) -> Result<(), AllocError> {
     let mut out = [0u8; EMIT_ROOM];
     for _ in 0..8 {
-        let Some((slot, sent)) = from.emit(0, u64::MAX, &mut out) else {
+        let Some((place, sent)) = from.emit(0, u64::MAX, &mut out) else {
             return answers.push_str("-\n");
         };
         if let Some(sent) = sent {
-            write!(answers, "from {slot}: ")?;
+            match place {
+                Place::End(slot) => write!(answers, "from {slot}: ")?,
+                Place::Record(slot) => write!(answers, "from record {slot}: ")?,
+            }
             let bytes = out.get(..sent.len).unwrap_or(&[]);
             takes(alloc, to, src, sent.to, bytes, answers)?;
         }
@@ -155,7 +171,7 @@ fn wait(alloc: Global, a: &mut Ends, b: &mut Ends, answers: &mut String) -> Resu
         answers.push_str("early\n")?;
     }
     match a.timeout(1_000_000) {
-        Some((slot, Timer::Retransmit)) => write!(answers, "{slot} again\n"),
+        Some((Place::End(slot), Some(Timer::Retransmit))) => write!(answers, "{slot} again\n"),
         _ => answers.push_str("-\n"),
     }
 }
@@ -183,8 +199,9 @@ fn takes_turns(host: &mut Ends, answers: &mut String) -> Result<(), AllocError> 
             None => answers.push_str("next nobody: ")?,
         }
         match host.emit(0, u64::MAX, &mut out) {
-            Some((slot, Some(_))) => write!(answers, "{slot} sends\n")?,
-            Some((slot, None)) => write!(answers, "{slot} has nothing\n")?,
+            Some((Place::End(slot), Some(_))) => write!(answers, "{slot} sends\n")?,
+            Some((Place::End(slot), None)) => write!(answers, "{slot} has nothing\n")?,
+            Some((Place::Record(_), _)) => answers.push_str("a record\n")?,
             None => return answers.push_str("-\n"),
         }
     }
@@ -253,13 +270,13 @@ fn show_kept(kept: Option<u8>, answers: &mut String) -> Result<(), AllocError> {
 /// A listener goes, and another one takes its slot and socket: the first one's handle finds nothing.
 fn unheard(alloc: Global, socket: Socket, answers: &mut String) -> Result<(), AllocError> {
     let mut host: Ends = Host::new_in(alloc);
-    let Ok(first) = host.listen(socket, 7) else {
+    let Ok(first) = host.listen(socket, 7, 1) else {
         return Err(AllocError);
     };
     show_kept(host.listener(first.slot).copied(), answers)?;
     show_kept(host.unlisten(first), answers)?;
     show_kept(host.listener(first.slot).copied(), answers)?;
-    let Ok(second) = host.listen(socket, 8) else {
+    let Ok(second) = host.listen(socket, 8, 1) else {
         return Err(AllocError);
     };
     show_kept(host.unlisten(first), answers)?;
@@ -267,6 +284,240 @@ fn unheard(alloc: Global, socket: Socket, answers: &mut String) -> Result<(), Al
     let is_slot = host.find_listener(&socket) == Some(first.slot);
     let is_handle = host.listener_id(second.slot) == Some(second);
     write!(answers, "{is_slot} {is_handle}\n")
+}
+
+/// All that one host has due goes to the other, at time 0: the length of the last segment, which is left in `last`.
+fn passes(from: &mut Ends, src: [u8; 4], to: &mut Ends, last: &mut [u8]) -> usize {
+    let mut out = [0u8; EMIT_ROOM];
+    let mut len = 0;
+    for _ in 0..8 {
+        let Some((_, sent)) = from.emit(0, u64::MAX, &mut out) else {
+            return len;
+        };
+        if let Some(sent) = sent {
+            len = sent.len;
+            last[..len].copy_from_slice(&out[..len]);
+            let _ = to.arrive(0, src, sent.to, &last[..len]);
+        }
+    }
+    len
+}
+
+/// Whether an end retires, and why not.
+fn retires(host: &mut Ends, id: Id) -> &'static str {
+    match host.retire(id) {
+        Ok(_) => "retired",
+        Err(NotRetired::Gone) => "gone",
+        Err(NotRetired::IsActive) => "active",
+        Err(NotRetired::HasRecord) => "has a record",
+        Err(NotRetired::NoMemory) => "no memory",
+    }
+}
+
+/// When a host has to be told the time.
+fn polls(host: &Ends, answers: &mut String) -> Result<(), AllocError> {
+    match host.poll_at() {
+        Some(time) => write!(answers, "next {time}\n"),
+        None => answers.push_str("next -\n"),
+    }
+}
+
+/// What became of a segment that comes from the server, and what answers it.
+fn comes(host: &mut Ends, now: u64, bytes: &[u8], answers: &mut String) -> Result<(), AllocError> {
+    match host.arrive(now, SERVER, CLIENT, bytes) {
+        Arrived::Late(slot, Some(_)) => write!(answers, "late for {slot}, ")?,
+        Arrived::Late(slot, None) => write!(answers, "withheld at {slot}, ")?,
+        Arrived::Taken(slot, _) => write!(answers, "taken by {slot}, ")?,
+        Arrived::Listening(slot) => write!(answers, "heard by {slot}, ")?,
+        Arrived::Full(slot) => write!(answers, "dropped by {slot}, ")?,
+        Arrived::Stray => answers.push_str("stray, ")?,
+        Arrived::Short => answers.push_str("short, ")?,
+    }
+    let mut out = [0u8; EMIT_ROOM];
+    for _ in 0..4 {
+        match host.emit(now, u64::MAX, &mut out) {
+            Some((Place::Record(slot), Some(sent))) => {
+                write!(answers, "record {slot} sends {} with flags {}, ", sent.len, out[13])?
+            }
+            Some((Place::End(slot), Some(_))) => write!(answers, "{slot} sends, ")?,
+            Some(_) => {}
+            None => return answers.push_str("-\n"),
+        }
+    }
+    answers.push_str("no end of turns\n")
+}
+
+/// Who is told the time.
+fn tells(host: &mut Ends, now: u64, answers: &mut String) -> Result<(), AllocError> {
+    match host.timeout(now) {
+        Some((Place::Record(slot), Some(Timer::TimeWait))) => write!(answers, "record {slot} is over\n"),
+        Some(_) => answers.push_str("an end\n"),
+        None => answers.push_str("nobody\n"),
+    }
+}
+
+/// The reset that answers a stray: its length and its flags, or `-`.
+fn strays(
+    host: &mut Ends,
+    now: u64,
+    src: [u8; 4],
+    dst: [u8; 4],
+    bytes: &[u8],
+    answers: &mut String,
+) -> Result<(), AllocError> {
+    let mut out = [0u8; RESET_LEN];
+    match host.stray(now, src, dst, bytes, &mut out) {
+        Some(len) => write!(answers, "{len} bytes with flags {}\n", out[13]),
+        None => answers.push_str("-\n"),
+    }
+}
+
+/// Two connections; the client closes the first, and then its server does. The client's end is in TIME-WAIT, for four minutes, and
+/// retires; the other one doesn't. The server's FIN comes again to the record after a second, which answers by an acknowledgement
+/// (flags 16), and TIME-WAIT begins anew (RFC 9293, 3.10.7.4). A reset is withheld (RFC 1337). Behind TIME-WAIT the FIN is a
+/// stray's, and a reset without an acknowledgement (flags 4) at the number that it acknowledges answers it (3.10.7.1), once in ten
+/// milliseconds. None answers what is for an end or a listener.
+fn rests(alloc: Global, socket: Socket, answers: &mut String) -> Result<(), AllocError> {
+    let mut a: Ends = Host::new_in(alloc);
+    let mut b: Ends = Host::new_in(alloc);
+    let _ = b.listen(socket, 0, 8);
+    let (Some(first), Some(second)) = (connects(alloc, &mut a, 1001), connects(alloc, &mut a, 1002)) else {
+        return Err(AllocError);
+    };
+    let mut told = String::new(alloc);
+    carry(alloc, &mut a, CLIENT, &mut b, &mut told)?;
+    carry(alloc, &mut b, SERVER, &mut a, &mut told)?;
+    carry(alloc, &mut a, CLIENT, &mut b, &mut told)?;
+    let mut fin = [0u8; EMIT_ROOM];
+    let _ = a.close(0, first);
+    let _ = passes(&mut a, CLIENT, &mut b, &mut fin);
+    let _ = passes(&mut b, SERVER, &mut a, &mut fin);
+    if let Some(id) = b.find(&served(1001)).and_then(|slot| b.id(slot)) {
+        let _ = b.close(0, id);
+    }
+    let len = passes(&mut b, SERVER, &mut a, &mut fin);
+    let mut last = [0u8; EMIT_ROOM];
+    let _ = passes(&mut a, CLIENT, &mut b, &mut last);
+    write!(answers, "{}, ", retires(&mut a, first))?;
+    write!(answers, "{}, ", retires(&mut a, first))?;
+    write!(answers, "{}\n", retires(&mut a, second))?;
+    polls(&a, answers)?;
+    comes(&mut a, 1_000_000, &fin[..len], answers)?;
+    polls(&a, answers)?;
+    let mut reset = fin;
+    reset[13] = 4;
+    comes(&mut a, 2_000_000, &reset[..len], answers)?;
+    tells(&mut a, 240_999_999, answers)?;
+    tells(&mut a, 241_000_000, answers)?;
+    polls(&a, answers)?;
+    comes(&mut a, 241_000_000, &fin[..len], answers)?;
+    strays(&mut a, 241_000_000, SERVER, CLIENT, &fin[..len], answers)?;
+    strays(&mut a, 241_009_999, SERVER, CLIENT, &fin[..len], answers)?;
+    strays(&mut a, 241_010_000, SERVER, CLIENT, &fin[..len], answers)?;
+    let len = passes(&mut a, CLIENT, &mut b, &mut last);
+    write!(answers, "{len}\n")?;
+    let _ = a.send(241_010_000, second, b"abc");
+    let len = passes(&mut a, CLIENT, &mut b, &mut last);
+    strays(&mut b, 0, CLIENT, SERVER, &last[..len], answers)?;
+    last[1] = 7;
+    strays(&mut b, 0, CLIENT, SERVER, &last[..len], answers)
+}
+
+/// A host of connections, to which a client sends three bytes: their acknowledgement waits for 40 ms (RFC 9293, 3.8.6.3), which is
+/// the host's deadline. At that time the end is told, though no timer of it expires, and it isn't told again; then the
+/// acknowledgement goes out (flags 16), and nothing is left to wait for. The user reads, and sends an answer at once.
+fn waits(alloc: Global, answers: &mut String) -> Result<(), AllocError> {
+    let mut a: Ends = Host::new_in(alloc);
+    let mut b: Connections = Host::new_in(alloc);
+    let Some(first) = connects(alloc, &mut a, 1001) else {
+        return Err(AllocError);
+    };
+    let config = Config::new(Addr(SERVER), PORT, Seq(5000));
+    let end = Endpoint::new(alloc, config).map_err(|_| AllocError)?;
+    let end = listen(end, Rules::standard(), Limits::standard(), 0).map_err(|_| AllocError)?;
+    let end = Connection::new(Flow::new(end, Reno::new(1460), 0), Policy::standard());
+    let Ok(served) = b.open(served(1001), end) else {
+        return Err(AllocError);
+    };
+    let mut out = [0u8; EMIT_ROOM];
+    for round in 0..3 {
+        if round == 2 {
+            let _ = a.send(0, first, b"abc");
+        }
+        while let Some((_, sent)) = a.emit(0, u64::MAX, &mut out) {
+            if let Some(sent) = sent {
+                let _ = b.arrive(0, CLIENT, sent.to, &out[..sent.len]);
+            }
+        }
+        while let Some((_, sent)) = b.emit(0, u64::MAX, &mut out) {
+            if let Some(sent) = sent {
+                let _ = a.arrive(0, SERVER, sent.to, &out[..sent.len]);
+            }
+        }
+    }
+    write!(answers, "{:?}\n", b.poll_at())?;
+    write!(answers, "{:?}\n", b.timeout(39_999))?;
+    write!(answers, "{:?}\n", b.timeout(40_000))?;
+    write!(answers, "{:?} {:?}\n", b.timeout(40_000), b.poll_at())?;
+    match b.emit(40_000, u64::MAX, &mut out) {
+        Some((Place::End(slot), Some(sent))) => write!(answers, "{slot} sends {} with flags {}\n", sent.len, out[13])?,
+        _ => answers.push_str("-\n")?,
+    }
+    let is_silent = matches!(b.emit(40_000, u64::MAX, &mut out), Some((_, None)));
+    write!(answers, "{is_silent} {:?} {:?}\n", b.emit(40_000, u64::MAX, &mut out), b.poll_at())?;
+    let mut text = [0u8; 8];
+    write!(answers, "{:?}\n", b.receive(40_000, served, &mut text))?;
+    let _ = b.send(40_000, served, b"d");
+    match b.emit(40_000, u64::MAX, &mut out) {
+        Some((Place::End(slot), Some(sent))) => write!(answers, "{slot} sends {}\n", sent.len),
+        _ => answers.push_str("-\n"),
+    }
+}
+
+/// What the user of a listener accepts.
+fn accepts(host: &mut Ends, listener: Id, answers: &mut String) -> Result<(), AllocError> {
+    match host.accept(listener) {
+        Some(id) => write!(answers, "accepts {}\n", id.slot),
+        None => answers.push_str("accepts none\n"),
+    }
+}
+
+/// A listener with a backlog of two, and three clients. The third SYN is dropped, and answered by nothing, no reset either. The
+/// second client's handshake is over first, so that it is accepted first; then there is room for the third, whose SYN comes
+/// again behind its timeout. The first one's end is removed in its handshake, which makes room for a fourth.
+fn queues(alloc: Global, socket: Socket, answers: &mut String) -> Result<(), AllocError> {
+    let mut b: Ends = Host::new_in(alloc);
+    let Ok(listener) = b.listen(socket, 0, 2) else {
+        return Err(AllocError);
+    };
+    let mut clients: [Ends; 3] = [Host::new_in(alloc), Host::new_in(alloc), Host::new_in(alloc)];
+    for (client, port) in clients.iter_mut().zip([1001u16, 1002, 1003]) {
+        let _ = connects(alloc, client, port);
+        carry(alloc, client, CLIENT, &mut b, answers)?;
+    }
+    accepts(&mut b, listener, answers)?;
+    let mut out = [0u8; EMIT_ROOM];
+    while let Some((_, sent)) = b.emit(0, u64::MAX, &mut out) {
+        if let Some(sent) = sent {
+            for client in &mut clients {
+                let _ = client.arrive(0, SERVER, sent.to, &out[..sent.len]);
+            }
+        }
+    }
+    carry(alloc, &mut clients[1], CLIENT, &mut b, answers)?;
+    carry(alloc, &mut clients[2], CLIENT, &mut b, answers)?;
+    let _ = clients[2].timeout(1_000_000);
+    carry(alloc, &mut clients[2], CLIENT, &mut b, answers)?;
+    accepts(&mut b, listener, answers)?;
+    accepts(&mut b, listener, answers)?;
+    let _ = clients[2].timeout(3_000_000);
+    carry(alloc, &mut clients[2], CLIENT, &mut b, answers)?;
+    let first = b.find(&served(1001)).and_then(|slot| b.id(slot));
+    let is_removed = first.and_then(|id| b.remove(id)).is_some();
+    write!(answers, "{is_removed}\n")?;
+    let mut fourth: Ends = Host::new_in(alloc);
+    let _ = connects(alloc, &mut fourth, 1004);
+    carry(alloc, &mut fourth, CLIENT, &mut b, answers)
 }
 
 /// All rows.
@@ -279,13 +530,16 @@ fn rows(alloc: Global) -> Result<String, AllocError> {
         port: PORT,
     };
     if b.find_listener(&socket).is_none() {
-        let _ = b.listen(socket, 0);
+        let _ = b.listen(socket, 0, 8);
     }
     speak(alloc, &mut a, &mut b, &mut answers)?;
     wait(alloc, &mut a, &mut b, &mut answers)?;
     ends_of_time(alloc, &mut answers)?;
     gone(alloc, &mut answers)?;
     unheard(alloc, socket, &mut answers)?;
+    rests(alloc, socket, &mut answers)?;
+    waits(alloc, &mut answers)?;
+    queues(alloc, socket, &mut answers)?;
     Ok(answers)
 }
 

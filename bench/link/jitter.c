@@ -11,28 +11,11 @@
  * jitter memory RUNS: the bytes of such an end's block beside its buffers.
  */
 #include "flow.h"
+#include "link.h"
 
 #include <stdio.h>
 #include <stdlib.h>
 #include <string.h>
-
-enum { IP_HEADER_BYTES = 20, PERIOD = 1000003, CHUNK = 1 << 16, ISN = 7 };
-
-static const uint64_t MILLISECOND = 1000000, HOUR = UINT64_C(3600000000000); /* all times are in nanoseconds */
-
-/* A segment on its way, and when it arrives; those of one time in the order in which they were sent. */
-struct packet {
-    uint64_t at, order;
-    size_t length;
-    uint8_t bytes[];
-};
-
-/* One direction of the link: what is on its way, as a heap with the next arrival at its front. */
-struct link {
-    struct packet **heap;
-    size_t count, room;
-    uint64_t free_at; /* when the last segment has left */
-};
 
 /* An end with its flow, and the direction of the link that leads to it. */
 struct side {
@@ -44,82 +27,20 @@ struct side {
 
 /* What the words say of the link and of the text. */
 static double rate, trip, jitter, loss;
-static uint64_t total, window, random_state;
+static uint64_t total, window;
 
 static struct side sides[2]; /* the sender, and the receiver */
-static uint64_t now, order, given, got, segments, resent, highest;
-static uint8_t text[PERIOD + CHUNK]; /* byte k of the text is text[k % PERIOD] */
+static uint64_t now, given, got, segments, resent, highest;
 
 /* What has arrived: a mark for each byte, how many there are in order, and the runs behind a gap, now and at most. */
 static uint8_t *arrived;
 static uint64_t in_order, made, most_made;
 
-static void fail(const char *what)
-{
-    fprintf(stderr, "jitter: %s\n", what);
-    exit(1);
-}
-
-/* SplitMix64. */
-static uint64_t draw(void)
-{
-    uint64_t z = random_state += UINT64_C(0x9e3779b97f4a7c15);
-    z = (z ^ z >> 30) * UINT64_C(0xbf58476d1ce4e5b9);
-    z = (z ^ z >> 27) * UINT64_C(0x94d049bb133111eb);
-    return z ^ z >> 31;
-}
-
-/* From 0 to below 1. */
-static double chance(void) { return (double)(draw() >> 11) / 9007199254740992.0; }
-
-static int is_before(const struct packet *one, const struct packet *other)
-{
-    return one->at != other->at ? one->at < other->at : one->order < other->order;
-}
-
-static void push(struct link *link, struct packet *packet)
-{
-    if (link->count == link->room) {
-        link->room = 2 * link->room + 64;
-        link->heap = realloc(link->heap, link->room * sizeof *link->heap);
-        if (!link->heap)
-            fail("no memory");
-    }
-    size_t at = link->count++;
-    for (; at > 0 && is_before(packet, link->heap[(at - 1) / 2]); at = (at - 1) / 2)
-        link->heap[at] = link->heap[(at - 1) / 2];
-    link->heap[at] = packet;
-}
-
-static struct packet *pop(struct link *link)
-{
-    struct packet *first = link->heap[0], *last = link->heap[--link->count];
-    size_t at = 0;
-    for (size_t child = 1; child < link->count; child = 2 * at + 1) {
-        if (child + 1 < link->count && is_before(link->heap[child + 1], link->heap[child]))
-            child++;
-        if (!is_before(link->heap[child], last))
-            break;
-        link->heap[at] = link->heap[child];
-        at = child;
-    }
-    link->heap[at] = last;
-    return first;
-}
-
-/* The bytes of a segment's text, and in *first where they begin in the stream, from its sequence number. */
-static size_t text_of(const uint8_t *segment, size_t length, uint64_t *first)
-{
-    uint32_t seq = (uint32_t)segment[4] << 24 | (uint32_t)segment[5] << 16 | (uint32_t)segment[6] << 8 | segment[7];
-    *first = highest + (uint64_t)(int64_t)(int32_t)(seq - (ISN + 1 + (uint32_t)highest));
-    return length - 4 * (size_t)(segment[12] >> 4);
-}
-
 /* Counts a segment that leaves: it is sent again where it begins before the end of all that was sent. */
 static void count(const uint8_t *segment, size_t length)
 {
     uint64_t first;
-    size_t size = text_of(segment, length, &first);
+    size_t size = text_of(segment, length, highest, &first);
     segments += size > 0;
     resent += size > 0 && first < highest;
     if (first + size > highest && size > 0)
@@ -141,7 +62,7 @@ static void note_byte(uint64_t at)
 static void note(const uint8_t *segment, size_t length)
 {
     uint64_t first;
-    size_t size = text_of(segment, length, &first);
+    size_t size = text_of(segment, length, highest, &first);
     for (uint64_t at = first; at < first + size; at++)
         if (!arrived[at])
             note_byte(at);
@@ -151,18 +72,9 @@ static void note(const uint8_t *segment, size_t length)
 /* A segment leaves once those before it have left. */
 static void carry(struct link *link, const uint8_t *segment, size_t length)
 {
-    double bits = 8.0 * (double)(length + IP_HEADER_BYTES);
-    link->free_at = (link->free_at > now ? link->free_at : now) + (uint64_t)(bits * 1000 / rate);
-    if (chance() * 100 < loss)
-        return;
-    struct packet *packet = malloc(sizeof *packet + length);
-    if (!packet)
-        fail("no memory");
-    packet->at = link->free_at + (uint64_t)((trip / 2 + chance() * jitter) * (double)MILLISECOND);
-    packet->order = order++;
-    packet->length = length;
-    memcpy(packet->bytes, segment, length);
-    push(link, packet);
+    uint64_t left = leave(link, now, length, rate);
+    if (chance() * 100 >= loss)
+        push(link, left + (uint64_t)((trip / 2 + chance() * jitter) * (double)MILLISECOND), segment, length);
 }
 
 static uint64_t milliseconds(void) { return now / MILLISECOND; }
@@ -184,7 +96,7 @@ static void emit(int at)
 static void arrive(int at)
 {
     struct side *side = sides + at;
-    while (side->link.count > 0 && side->link.heap[0]->at <= now) {
+    while (next_arrival(&side->link) <= now) {
         struct packet *packet = pop(&side->link);
         if (at == 1)
             note(packet->bytes, packet->length);
@@ -235,8 +147,8 @@ static void pass_time(void)
         if (wait == 0)
             deadline = now + 1000;
         next = deadline < next ? deadline : next;
-        if (sides[at].link.count > 0 && sides[at].link.heap[0]->at < next)
-            next = sides[at].link.heap[0]->at;
+        uint64_t arrival = next_arrival(&sides[at].link);
+        next = arrival < next ? arrival : next;
     }
     if (next == UINT64_MAX || next > HOUR)
         fail("the transfer doesn't end");
@@ -303,9 +215,7 @@ int main(int words, char **word)
     trip = atof(word[6]);
     jitter = atof(word[7]);
     loss = atof(word[8]);
-    for (size_t at = 0; at < sizeof text; at++)
-        text[at] = at < PERIOD ? (uint8_t)draw() : text[at - PERIOD];
-    random_state = strtoull(word[9], NULL, 10) * 7919 + 5;
+    begin(strtoull(word[9], NULL, 10));
     arrived = calloc(total + 1, 1); /* and behind the last byte none */
     if (!arrived)
         fail("no memory");
