@@ -64,17 +64,19 @@
  *
  * MEMORY
  *   The library takes no memory from anywhere: an end lies in a block that the caller hands to tcpcore_new, all of it, and no
- *   call asks for more. tcpcore_new_at puts the struct there, too. Any block will do, static or from malloc, of any
- *   alignment. tcpcore_room says how many bytes are enough, and TCPCORE_MEMORY(send, receive) the same as a constant, or
- *   TCPCORE_MEMORY_RUNS(send, receive, runs) where the config has `runs`: the two capacities, each in whole units of 16 bytes,
+ *   call asks for more; but tcpcore_connection_set_recovery is handed a block of its own. tcpcore_new_at puts the struct
+ *   there, too. Any block will do, static or from malloc, of any alignment. tcpcore_room says how many bytes are enough, and
+ *   TCPCORE_MEMORY(send, receive) the same as a constant, or TCPCORE_MEMORY_RUNS(send, receive, runs) where the config has
+ *   `runs`: the two capacities, each in whole units of 16 bytes,
  *   24 bytes for each run and 16 more, what the end takes beside them, and 15 bytes for a block that doesn't begin at a multiple of 16.
  *   That these are enough is measured by the tests (tests/room.c), not proved. The linker is
  *   asked for memcpy, memmove and memset alone.
  *
  * STACK
- *   A call takes less than TCPCORE_STACK bytes, and one that makes a connection less than TCPCORE_CONNECTION_STACK. That isn't
- *   proved: the tests read it from the disassembly (tests/depth.py: nothing calls through a pointer, and nothing calls itself)
- *   and measure it (tests/stack.c).
+ *   A call takes less than TCPCORE_STACK bytes, one that makes a connection less than TCPCORE_CONNECTION_STACK, and
+ *   tcpcore_connection_set_recovery, and any call of a connection behind that, less than TCPCORE_RECOVERY_STACK. That isn't proved: the
+ *   tests read it from the disassembly (tests/depth.py: nothing calls through a pointer, and nothing calls itself) and measure the
+ *   first (tests/stack.c).
  *
  * THREADS
  *   None is started. One end is used by one thread at a time: two calls of one end at once are undefined behaviour and
@@ -88,7 +90,8 @@
  *   the same place after its end was freed isn't detected: a call with it uses a block that was given back.
  *   The block is the end's from tcpcore_new to tcpcore_free: nobody else reads, writes, moves or frees it, and no other end
  *   is made in it. Then, and where tcpcore_new was refused, it is the caller's again, whatever its bytes are, and may serve the
- *   next end. Leaving an end without tcpcore_free loses nothing but the block.
+ *   next end. The same holds of the block of a connection's recovery, from tcpcore_connection_set_recovery to
+ *   tcpcore_connection_free. Leaving an end without tcpcore_free loses nothing but the block.
  *   Buffers belong to the caller; no call keeps a pointer to one.
  *   What tcpcore_peek and tcpcore_parts lend lies in the block: it may be read, never written, until the next call that changes the
  *   end (any but peek, parts, next, pending, timers, peer, status and time_wait).
@@ -130,7 +133,7 @@ extern "C" {
 #endif
 
 /* The version of this header: it grows with each change of a struct, a call or an answer. */
-#define TCPCORE_VERSION 17
+#define TCPCORE_VERSION 18
 
 /* The answers; tcpcore_strerror has a text for each. */
 enum {
@@ -162,7 +165,7 @@ enum {
     TCPCORE_BAD_RULES = 29,    /* no timeout can be made from the rules of a connection; no congestion window has this number */
     /* The boundary refuses; nothing changed. */
     TCPCORE_NO_END = 31,    /* no end is in the struct: never made, or freed */
-    TCPCORE_IN_USE = 32,    /* tcpcore_new: the struct holds an end already */
+    TCPCORE_IN_USE = 32,    /* tcpcore_new: the struct holds an end already; tcpcore_connection_set_recovery: it was called already */
     TCPCORE_ROOM = 33,      /* fewer than TCPCORE_EMIT_ROOM bytes; of tcpcore_parts than TCPCORE_HEADER_ROOM, and so on */
     TCPCORE_NO_TIMER = 34,  /* tcpcore_timer: no timer has this number */
     TCPCORE_NULL = 35,      /* a pointer is NULL */
@@ -175,8 +178,8 @@ enum {
     TCPCORE_END_OF_STREAM = 52, /* tcpcore_receive: the peer closed, and all its bytes were delivered */
     TCPCORE_NOT_DUE = 53,       /* no segment is due; tcpcore_stray_reset: no reset answers the bytes; tcpcore_connection_timeout: no timer has
                                    expired */
-    TCPCORE_NO_RULE = 54,       /* tcpcore_timer: the timer's bit was clear; tcpcore_connection_set_congestion: text was sent already;
-                                   nothing changed */
+    TCPCORE_NO_RULE = 54,       /* tcpcore_timer: the timer's bit was clear; tcpcore_connection_set_congestion and
+                                   tcpcore_connection_set_recovery: text was sent already; nothing changed */
     TCPCORE_DROPPED = 55,       /* an arrival: the segment was dropped; an answer to it may be due */
     TCPCORE_NOT_MINE = 56,      /* an arrival: the segment is another connection's; nothing changed */
     TCPCORE_NOT_TIME_WAIT = 57,   /* tcpcore_time_wait: the end isn't in TIME-WAIT, or has bytes unread */
@@ -245,6 +248,11 @@ enum {
 /* The bytes of stack that tcpcore_connection_connect and tcpcore_connection_listen take at most; a connection's other calls take less
    than TCPCORE_STACK. */
 #define TCPCORE_CONNECTION_STACK 5632
+
+/* The bytes of stack that tcpcore_connection_set_recovery, and a call of a connection that has a recovery, take at most; and of the
+   portable file, as it was measured on x86-64. */
+#define TCPCORE_RECOVERY_STACK 4608
+#define TCPCORE_PORTABLE_RECOVERY_STACK 12288
 
 /* The room that tcpcore_emit wants, in bytes: more than the longest segment of an end. */
 #define TCPCORE_EMIT_ROOM 1520
@@ -908,10 +916,11 @@ uint32_t tcpcore_time_wait_status(const struct tcpcore_time_wait *time_wait, uin
  *   6. Free it once `phase` is TCPCORE_PHASE_CLOSED, and nothing is due: tcpcore_connection_free.
  *
  *   Where the path may be congested, one line behind the making chooses a congestion window (RFC 5681; RFC 9438), of which nothing else
- *   has to be called: tcpcore_connection_set_congestion(&connection, TCPCORE_CONGESTION_CUBIC). Another one has acknowledgements and small
- *   segments wait, avoids silly windows, and limits what only answers (RFC 9293, 3.7.4 and 3.8.6; RFC 5961, 7):
- *   tcpcore_connection_set_policy, with TCPCORE_POLICY_DEFAULT. A caller who has emissions wait by a rule of his own goes by `at_once` of
- *   the report (RFC 5681, 4.2).
+ *   has to be called: tcpcore_connection_set_congestion(&connection, TCPCORE_CONGESTION_CUBIC). Another one has losses found by time, so
+ *   that few wait for the retransmission timeout (RFC 8985): tcpcore_connection_set_recovery, with TCPCORE_RECOVERY_MEMORY bytes. A third
+ *   one has acknowledgements and small segments wait, avoids silly windows, and limits what only answers (RFC 9293, 3.7.4 and 3.8.6; RFC
+ *   5961, 7): tcpcore_connection_set_policy, with TCPCORE_POLICY_DEFAULT. A caller who has emissions wait by a rule of his own goes by
+ *   `at_once` of the report (RFC 5681, 4.2).
  */
 
 /* A connection, placed by the caller. Its words are the library's: set them by TCPCORE_CONNECTION_INIT alone. */
@@ -1022,8 +1031,11 @@ struct tcpcore_connection_segment {
 };
 
 /* How many bytes of a block are enough for a connection: as TCPCORE_MEMORY_RUNS and TCPCORE_MEMORY. */
-#define TCPCORE_CONNECTION_MEMORY_RUNS(send, receive, runs) (TCPCORE_MEMORY_RUNS(send, receive, runs) - 416 + 1088)
+#define TCPCORE_CONNECTION_MEMORY_RUNS(send, receive, runs) (TCPCORE_MEMORY_RUNS(send, receive, runs) - 416 + 1136)
 #define TCPCORE_CONNECTION_MEMORY(send, receive) TCPCORE_CONNECTION_MEMORY_RUNS(send, receive, TCPCORE_RUNS)
+
+/* How many bytes of a block of any alignment are enough for loss recovery by time: tcpcore_connection_set_recovery. */
+#define TCPCORE_RECOVERY_MEMORY (2848 + 15)
 
 /*
  * Makes an end with its timers in *connection, and opens a connection to this address and port at `now` (RFC 9293, 3.10.1): the SYN is
@@ -1049,14 +1061,14 @@ uint32_t tcpcore_connection_listen(tcpcore_connection *connection, const tcpcore
 size_t tcpcore_connection_room(const tcpcore_config *config);
 
 /*
- * Frees the end, in any phase: its block is the caller's again. Nothing is sent to the peer, as of tcpcore_free.
+ * Frees the end, in any phase: its block is the caller's again, and that of its recovery. Nothing is sent to the peer, as of tcpcore_free.
  *   DONE; NO_END (so a second free is refused); NULL; COPIED.
  */
 uint32_t tcpcore_connection_free(tcpcore_connection *connection);
 
 /*
- * Reports when tcpcore_connection_timeout has to be called, or what a policy had wait is to be emitted, if nothing else happens before;
- * TCPCORE_NEVER where no timer runs and nothing waits. It may have passed: then emit, and call it now. A later call has all that was sent go
+ * Reports when tcpcore_connection_timeout has to be called, or what a policy or a recovery had wait is to be emitted, if nothing else happens
+ * before; TCPCORE_NEVER where no timer runs and nothing waits. It may have passed: then emit, and call it now. A later call has all that was sent go
  * out again later.
  *   DONE; NO_END; NULL; OVERLAP; COPIED.
  */
@@ -1203,6 +1215,24 @@ uint32_t tcpcore_connection_congestion(const tcpcore_connection *connection, str
  *   DONE; NO_END; NULL; COPIED.
  */
 uint32_t tcpcore_connection_set_policy(tcpcore_connection *connection, const struct tcpcore_policy *policy);
+
+/*
+ * From `now` on losses are found by time (RACK-TLP: RFC 8985), instead of a round trip behind a gap. What is in flight is lost, and goes
+ * out again, where something that was sent later has come, and a round trip and a window for reordering have passed since it was sent; and
+ * where nothing comes for two round trips, and for the peer's delay behind less than two full segments, the last SMSS bytes, and the FIN, go
+ * out again as a probe. So a loss rarely waits for the retransmission timeout, and reordering within the window isn't taken for a loss. The
+ * congestion window shrinks once for all that is in flight then, also for a loss that a probe has repaired, and once more where what was sent
+ * again is lost again. `now` has to be finer than a quarter of a round trip: by a coarser
+ * clock what isn't answered yet looks lost, and goes out again in vain.
+ *   It counts where both SYNs agree on selective acknowledgement; else nothing changes. What falls due by it goes out by an emission, of
+ * which tcpcore_connection_poll_at has the time: emit then, whether or not a timer expires, too. At most 64 stretches of what is in flight are kept in the `length` bytes at `block`; where
+ * there are more, what was joined is found lost later. The block is the connection's until tcpcore_connection_free, whatever has become of
+ * the connection; TCPCORE_RECOVERY_MEMORY bytes are enough. Call it once, any time before text is sent, also right after the making of the
+ * connection: of text that was sent before it wouldn't be known when. Of version 18.
+ *   DONE; IN_USE: it was called already. NO_RULE: text was sent already, or a FIN. NO_MEMORY: the block is too small. At any answer but DONE
+ *   nothing has changed, and the block is the caller's. NO_END; NULL; LENGTH; OVERLAP (the block lies over the struct); COPIED.
+ */
+uint32_t tcpcore_connection_set_recovery(tcpcore_connection *connection, uint64_t now, void *block, size_t length);
 
 /*
  * The text of an answer, such as "nothing to read yet". It is never NULL, nobody frees it, and any thread may ask for

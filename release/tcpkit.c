@@ -14077,8 +14077,9 @@ enum { TABLE_AT = 0 };
  *   1  the end's block;
  *   2  a buffer that is read: text to send, a segment that has come;
  *   3  a buffer that is written: room for text or for a segment.
- * Each access tests that it lies in its window, and a store that it isn't in window 2. With TCPCORE_UNCHECKED none does: then
- * nothing but the proof and the translators keep the code within its memory.
+ * A call of a connection has one buffer, which is seen through window 2 whether it is read or written, and through 3 the memory of the
+ * connection's recovery. Each access tests that it lies in its window, and a store that it isn't in a buffer that is read. With
+ * TCPCORE_UNCHECKED none does: then nothing but the proof and the translators keep the code within its memory.
  * The module's constants, TABLE, if it has any, are at TABLE_AT of window 0, behind all else there, and are only read.
  */
 typedef uint8_t u8;
@@ -14089,7 +14090,7 @@ typedef int8_t s8;
 typedef int32_t s32;
 typedef int64_t s64;
 
-enum { WINDOWS = 4, IN_STACK = 0, IN_BLOCK = 1, IN_READ = 2, IN_WRITTEN = 3 };
+enum { WINDOWS = 4, IN_STACK = 0, IN_BLOCK = 1, IN_READ = 2, IN_WRITTEN = 3, IN_BUFFER = IN_READ, IN_RECOVERY = IN_WRITTEN };
 
 #define WINDOW(number) ((u32)(number) << 30)
 #define PLACE UINT32_C(0x3fffffff)
