@@ -128,6 +128,19 @@ of_memory() {
     pass
 }
 
+# What a call takes of the stack at most, as gcc lists the frames. Functions of the same code stay apart, or the list would lack them.
+depths() {
+    local words bound connection
+    bound=$(sed -n 's/^#define TCPCORE_PORTABLE_STACK //p' "$layer/tcpcore.h")
+    connection=$(sed -n 's/^#define TCPCORE_PORTABLE_CONNECTION_STACK //p' "$layer/tcpcore.h")
+    for words in -O0 -O2 -Os; do
+        [[ -z $short || $words == -O2 ]] || continue
+        gcc -std=c99 $words -fno-ipa-icf -fcallgraph-info=su -I"$layer" -c "$file" -o "out/depth$words.o"
+        python3 tests/depth.py "$bound" "$connection" "out/depth$words.ci" || fail "the stack of $words"
+        pass
+    done
+}
+
 # What copies or sums ahead of a loop does what the loop does, of which no other is taken for one; and a division of 64 bits is one.
 ahead() {
     of_memory ahead "a loop that copies does something else where it is done ahead"
@@ -166,6 +179,7 @@ here() {
     calls_over sanitized gcc $sanitizers
     stops
     ahead
+    depths
     [[ -z $short ]] || return 0
     object x86-64 gcc -Os
     object x86-64.unchecked gcc -Os -DTCPCORE_UNCHECKED

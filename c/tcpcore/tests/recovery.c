@@ -419,6 +419,19 @@ static void the_clock_rests(void)
     free_both();
 }
 
+/* An end that was given up sends nothing again, whatever was in flight. */
+static void given_up(void)
+{
+    begin(1, TCPCORE_CONGESTION_NONE);
+    sends(NOW, 5);
+    trip(NOW, 1 << 1);
+    CHECK(tcpcore_connection_abort(&a, NOW + TRIP), TCPCORE_DONE);
+    emit(&flying, &a, NOW + TRIP);
+    CHECK(flying.count, 1);
+    CHECK(poll_at(), TCPCORE_NEVER);
+    free_both();
+}
+
 static void refusals(void)
 {
     static const size_t HUGE_LENGTH = (size_t)PTRDIFF_MAX + 1;
@@ -479,6 +492,7 @@ int main(void)
     behind_the_syn();
     too_late();
     the_clock_rests();
+    given_up();
     refusals();
     rooms();
     printf("recovery: losses found by time, ends of text probed, and none taken for lost that was overtaken\n");

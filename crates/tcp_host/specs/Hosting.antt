@@ -13,7 +13,7 @@ use Rattle.tcp_table.specs.declared.held.Id.{Id}
 use Rattle.tcp_table.specs.Table.{HasKey, LacksKey, Table, held_at, slot_of, value_at, with_value}
 use Rattle.tcp_table.specs.Turns.{waits}
 use Rattle.tcp_host.specs.Behaviour.{Behaviour, of_driver}
-use Rattle.tcp_host.specs.Pair.{pair_of}
+use Rattle.tcp_host.specs.Pair.{acknowledges, pair_of}
 use Rattle.tcp_host.specs.Door.{Door, admitted, announced, forgotten, is_full}
 use Rattle.tcp_host.specs.Record.{left_by, of_record}
 use Rattle.tcp_conn.specs.TimeWait.{TimeWaitRecord}
@@ -201,13 +201,15 @@ module _ {L : Type 0} where
   abbrev pub admitted_at : Table Socket (Door L) → Bool → Id → Id → Table Socket (Door L)
   admitted_at t is origin id = with_door t origin (λ door. if is then announced (admitted door) id else admitted door)
 
--- ---- NOBODY HAS A SEGMENT: no end, no record and no listener, but it has ports (RFC 9293, 3.10.7.1)
+-- ---- NOBODY HAS A SEGMENT, which has ports: no end and no record, where it acknowledges something, since nothing of a listener's is to
+-- be acknowledged; and no listener, where it doesn't (RFC 9293, 3.10.7.1, and 3.10.7.2, second)
 module _ {S L : Type 0} (cmp : Pair → Pair → Ordering) (socket_cmp : Socket → Socket → Ordering) where
-  abbrev pub IsFree : Hosting S L → Pair → Type 0
-  IsFree h pair = LacksKey cmp h.ends pair × LacksKey cmp h.records pair × LacksKey socket_cmp h.listeners pair.local
+  abbrev pub IsFree : Hosting S L → Pair → Bool → Type 0
+  IsFree h pair acknowledging =
+      LacksKey cmp h.ends pair × LacksKey cmp h.records pair × (acknowledging ≡ false → LacksKey socket_cmp h.listeners pair.local)
 
   abbrev pub IsNobodys : Hosting S L → List ℕ → List ℕ → List ℕ → Type 0
-  IsNobodys h src dst bytes = IsSomeAnd (pair_of src dst bytes) (λ pair. IsFree h pair)
+  IsNobodys h src dst bytes = IsSomeAnd (pair_of src dst bytes) (λ pair. IsFree h pair (acknowledges bytes))
 
 -- ---- AN ARRIVAL IS ONE'S (RFC 9293, 3.3.1): of the end of its four values, or where there is none of their record; and of the
 -- listener that has opened that end, at most

@@ -18,3 +18,11 @@ asks_by (Some flags) = bit_and flags 22 == 2
 
 abbrev pub asks : List ℕ → Bool
 asks bytes = asks_by (slice_get bytes 13)
+
+-- A SEGMENT ACKNOWLEDGES something: ACK (RFC 9293, 3.1)
+abbrev pub acknowledges_by : Option ℕ → Bool
+acknowledges_by None = false
+acknowledges_by (Some flags) = bit_and flags 16 == 16
+
+abbrev pub acknowledges : List ℕ → Bool
+acknowledges bytes = acknowledges_by (slice_get bytes 13)

@@ -11,7 +11,8 @@ pub enum Arrived<T> {
     /// reset, which counts as lost (RFC 1337, 3).
     Late(usize, Option<Arrival>),
     /// No end and no record has its four values, but the listener in this slot has its destination (RFC 9293,
-    /// 3.10.7.2): nothing has changed. An end that takes it is put there by `open`, and the segment passed again.
+    /// 3.10.7.2): nothing has changed. Where it asks for a connection an end that takes it is put there by `admit`, and
+    /// the segment passed again; else `stray` answers it, if anything does.
     Listening(usize),
     /// The same, but the listener in this slot has as many ends in its backlog as it may: nothing has changed, and the
     /// segment is dropped.

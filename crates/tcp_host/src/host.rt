@@ -85,7 +85,7 @@ impl<T: Timed + Drop, L: Drop, A: Allocator + Copy> Host<T, L, A> {
 
     /// The least deadline of all ends and records: when [`timeout`](Self::timeout) has to be called, if nothing else
     /// happens before. An end in a burst has none: it waits for a turn, and its timers for what that emits; nor has one
-    /// that `timeout` has told, until it has its turn.
+    /// that `timeout` has told, until something is called of it, as its turn is.
     #[must_use]
     pub fn poll_at(&self) -> Option<u64>
         ensures least { IfSome result (IsLeast T.behaviour self.now.ends) }
@@ -186,9 +186,9 @@ impl<T: Timed + Drop, L: Drop, A: Allocator + Copy> Host<T, L, A> {
 
     /// It is `now`: a record whose TIME-WAIT is over goes; else the end whose deadline is the least is told, if that
     /// has come. Its place, and the timer that has expired, if one has: an end is told, too, that has something to emit
-    /// which was held back. It waits for a turn, and has no deadline until then. Call this again until it is `None`,
-    /// which it is once all that was due has been told, and emit until nobody waits. Behind the last time
-    /// ([`tcp_driver::LAST`]) it is that time for good, so that what is due later never expires.
+    /// which was held back. It waits for a turn, and has no deadline until something is called of it. Call this again
+    /// until it is `None`, which it is once all that was due has been told, and emit until nobody waits. Behind the
+    /// last time ([`tcp_driver::LAST`]) it is that time for good, so that what is due later never expires.
     pub fn timeout(&mut self, now: u64) -> Option<(Place, Option<Timer>)>
         ensures due { IfSome result (λ told. ByPlace told.0 (λ slot. IsSomeAnd (deadline_at T.behaviour self.old.ends slot) (λ time. (time ≤ min last now) × IsLeast T.behaviour self.old.ends time)) (λ slot. IsSomeAnd (deadline_at of_record self.old.records slot) (λ time. (time ≤ min last now) × IsLeast of_record self.old.records time))) }
         ensures expired { IfSome result (λ told. ByPlace told.0 (λ slot. IsSomeAnd (value_at self.old.ends slot) (λ guest. told.1 ≡ T.behaviour.expiry guest.end now)) (λ slot. told.1 ≡ Some Timer.TimeWait)) }

@@ -13,8 +13,8 @@
 //! The caller's loop, each turn at some time `now`:
 //! 1. waits for a segment or for [`Host::poll_at`], whichever comes first,
 //! 2. passes each segment that has come to [`Host::arrive`]. For a listener that it asks for a connection ([`asks`]) it
-//!    opens an end, puts it there by [`Host::admit`], and passes the segment again; a stray it passes to
-//!    [`Host::stray`], and sends what that writes; what a full backlog drops it forgets,
+//!    opens an end, puts it there by [`Host::admit`], and passes the segment again; a stray, and what asks a listener for
+//!    nothing, it passes to [`Host::stray`], and sends what that writes; what a full backlog drops it forgets,
 //! 3. takes what [`Host::accept`] gives, and makes the calls of its users,
 //! 4. calls [`Host::timeout`] until it is `None`,
 //! 5. calls [`Host::emit`] and sends what it writes, until nobody waits,
@@ -23,8 +23,9 @@
 //!
 //! Left out: what a listener's end is made of. What else an end has can't be called of it in a host, as segments that a
 //! device has summed, trains, and what is chosen for an end. [`Host::end`] lends an end to be looked at alone, and
-//! [`Host::remove`] gives it back. A record takes what comes without the guard of its end's limits. No end makes way for
-//! another: where a backlog is full of handshakes that nobody goes on with, their own limit ends them
+//! [`Host::remove`] gives it back. A record takes what comes without the guard of its end's limits, and answers each
+//! segment at once, whatever its policy was. How many records there are isn't bounded: each lasts for TIME-WAIT. No end
+//! makes way for another: where a backlog is full of handshakes that nobody goes on with, their own limit ends them
 //! ([`tcp_driver::Limits::handshake`]).
 #![tactic(auto)]
 

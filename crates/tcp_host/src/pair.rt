@@ -1,6 +1,6 @@
 //! The four values of a connection.
 ghost use Rattle.std.specs.Prelude.{◌≡◌};
-ghost use Rattle.tcp_host.specs.Pair.{asks, pair_of};
+ghost use Rattle.tcp_host.specs.Pair.{acknowledges, asks, pair_of};
 
 /// A socket: an IPv4 address and a port (RFC 9293, 3.3.1).
 #[derive(Clone, Copy, Debug, PartialEq, Eq, PartialOrd, Ord)]
@@ -47,13 +47,23 @@ const RST: u8 = 4;
 const ACK: u8 = 16;
 
 /// Whether a segment asks a listener for a connection (RFC 9293, 3.10.7.2): it has SYN, and neither RST nor ACK. For no
-/// other one an end has to be made.
+/// other one an end has to be made: [`Host::stray`](crate::Host::stray) answers those that are answered.
 #[must_use]
 pub fn asks(bytes: &[u8]) -> bool
     ensures { result ≡ asks bytes.now }
 {
     match bytes.get(13) {
         Some(flags) => *flags & (SYN | RST | ACK) == SYN,
+        None => false,
+    }
+}
+
+/// Whether a segment acknowledges something: it has ACK (RFC 9293, 3.1).
+pub(crate) fn acknowledges(bytes: &[u8]) -> bool
+    ensures { result ≡ acknowledges bytes.now }
+{
+    match bytes.get(13) {
+        Some(flags) => *flags & ACK == ACK,
         None => false,
     }
 }

@@ -5,7 +5,8 @@ use tcp_congestion::Congestion;
 use tcp_connection::{Connection, Deferring};
 use tcp_driver::{Core, Driver, Sent, Taken, Timer};
 
-/// An end with its times: a [`Driver`], or a [`Connection`]. Times are microseconds, as a driver has them.
+/// An end with its times: a [`Driver`], or a [`Connection`], which may find losses by time
+/// ([`Repairing`](tcp_repair::Repairing)). Times are microseconds, as a driver has them.
 pub trait Timed {
     /// What `arrive` answers.
     type Arriving;

@@ -9,7 +9,7 @@ use Rattle.tcp_recovery.specs.declared.stretch.Stretch.{Stretch}
 use Rattle.tcp_recovery.specs.Delivered.{greatest}
 use Rattle.tcp_recovery.specs.Laws.{DeadlinesAreLosses}
 use Rattle.tcp_recovery.specs.Rack.{deadline_of, lost_in}
-use Rattle.tcp_connection.specs.Connection.{Connecting}
+use Rattle.tcp_connection.specs.Connection.{Connecting, core_of}
 use Rattle.tcp_repair.specs.declared.seen.Seen.{Seen}
 use Rattle.tcp_repair.specs.Deadlines.{AreReady, IsToCome, own_deadline, rack_deadline}
 use Rattle.tcp_repair.specs.Recovery.{Repair, is_looking, window_of}
@@ -63,11 +63,16 @@ own-later : (r : Repair) (s : Seen) → DeadlinesAreLosses → r.clock ≤ last 
 unfolding own_deadline
 own-later r s law most probe = earlier-later r.probe.at (rack_deadline r s) r.clock probe (rack-later r s law (omega (arith, most)))
 
+if-live : (live : Bool) (time : Option ℕ) (now : ℕ) → IsToCome time now → IsToCome (if live then time else None) now
+if-live true time now comes = comes
+if-live false time now comes = tt
+
 pub recovery_rests : {S W : Type 0} (m : Machine S) (smss_of : S → Option ℕ) (b : Reports S) (k : Connecting S W) (recovery : Option Repair) (now : ℕ)
     → DeadlinesAreLosses → AreReady recovery now → RecoveryRests m smss_of b k recovery now
 recovery_rests m smss_of b k None now law ready = λ early. tt
 recovery_rests m smss_of b k (Some r) now law ready =
-    λ early. sooner (own_deadline r (seen_in m smss_of b k)) now r.clock (ready.clock early) (own-later r (seen_in m smss_of b k) law ready.most ready.probe)
+    λ early. if-live (m.wants (core_of k)).retransmit (own_deadline r (seen_in m smss_of b k)) now
+    (sooner (own_deadline r (seen_in m smss_of b k)) now r.clock (ready.clock early) (own-later r (seen_in m smss_of b k) law ready.most ready.probe))
 
 pub still_ready : {S W : Type 0} (w : Repaired S W) (k : Connecting S W) (recovery : Option Repair) (now : ℕ)
     → record { connecting = k; recovery = recovery } ≡ w → AreReady w.recovery now → AreReady recovery now

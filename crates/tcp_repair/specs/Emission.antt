@@ -1,5 +1,5 @@
 -- WHAT GOES OUT AGAIN (RFC 8985, 6.2, step 5, and 7.3), before what the connection emits by itself.
-use Rattle.std.specs.Prelude.{ℕ, ◌+◌, ◌-◌, Bool, false, true, not, ◌&&◌, if◌then◌else◌, nat_lt, Option, Some, None, max, min}
+use Rattle.std.specs.Prelude.{ℕ, zero, suc, ◌+◌, ◌-◌, Bool, false, not, ◌&&◌, if◌then◌else◌, nat_lt, Option, Some, None, max, min}
 use Rattle.tcp_driver.specs.declared.machine.Sent.{Sent}
 use Rattle.tcp_driver.specs.Deadlines.{no_later}
 use Rattle.tcp_recovery.specs.Delivered.{greatest}
@@ -34,29 +34,54 @@ abbrev pub has_unmarked : Option (ℕ × ℕ) → ℕ → Bool
 has_unmarked None end = false
 has_unmarked (Some run) end = nat_lt (run.0) end
 
+-- A STRETCH OF WHICH ALL WAS REPORTED, by more runs than are looked at, had come before: it counts as come, and what is lost is looked for
+-- behind it. There are no more stretches than these (own)
+abbrev pub most_stretches : ℕ
+most_stretches = 64
+
+abbrev pub unless_unmarked : (ℕ → Option (ℕ × ℕ)) → Option (ℕ × ℕ) → Option (ℕ × ℕ)
+unless_unmarked unmarked None = None
+unless_unmarked unmarked (Some lost) = if has_unmarked (unmarked (lost.0)) (lost.1) then None else Some lost
+
+abbrev pub reported_loss : Repair → Seen → (ℕ → Option (ℕ × ℕ)) → Option (ℕ × ℕ)
+reported_loss r s unmarked = unless_unmarked unmarked (lost_at r s r.clock)
+
+unfoldable pub settled : ℕ → Repair → Seen → (ℕ → Option (ℕ × ℕ)) → Repair
+settled zero r s unmarked = r
+settled (suc more) r s unmarked =
+    elim (reported_loss r s unmarked) [
+      | None ↦ r
+      | Some lost ↦ settled more (record r { rack = after_settled r.rack (lost.0) (lost.1) }) s unmarked
+    ]
+
 abbrev pub loss_of : Repair → (ℕ → Option (ℕ × ℕ)) → Option (ℕ × ℕ) → Option Again
 loss_of r unmarked None = None
 loss_of r unmarked (Some lost) =
     if has_unmarked (unmarked (lost.0)) (lost.1) then Some (record { from = lost.0; to = lost.1; loss = Some (loss_at r (lost.0)) }) else None
 
+abbrev pub loss_in : Repair → Seen → (ℕ → Option (ℕ × ℕ)) → Option Again
+loss_in r s unmarked = loss_of r unmarked (lost_at r s r.clock)
+
 -- A PROBE THAT IS DUE goes out before anything, also where something that was sent before is due, which for so long couldn't go out:
 -- the first segment fits each window (own)
 unfoldable pub again_of : Repair → Seen → (ℕ → Option (ℕ × ℕ)) → Bool → Option Again
 again_of r s unmarked resending =
-    if is_probe_due r then Some (probe_of r s) else (if resending then None else loss_of r unmarked (lost_at r s r.clock))
+    if is_probe_due r then Some (probe_of r s) else (if resending then None else loss_in (settled most_stretches r s unmarked) s unmarked)
 
--- the recovery behind that. Only a probe of the last segment tells later whether it has repaired a loss (7.4.2); and a stretch of which
--- all was reported, by more runs than are looked at, had come before
+-- the recovery behind that. Only a probe of the last segment tells later whether it has repaired a loss (7.4.2)
 abbrev pub with_loss : Repair → Seen → (ℕ → Option (ℕ × ℕ)) → Option (ℕ × ℕ) → Repair
 with_loss r s unmarked None = r
 with_loss r s unmarked (Some lost) =
-    if has_unmarked (unmarked (lost.0)) (lost.1) then recovering r (lost.0) s.nxt else record r { rack = after_settled r.rack (lost.0) (lost.1) }
+    if has_unmarked (unmarked (lost.0)) (lost.1) then recovering r (lost.0) s.nxt else r
+
+abbrev pub with_loss_in : Repair → Seen → (ℕ → Option (ℕ × ℕ)) → Repair
+with_loss_in r s unmarked = with_loss r s unmarked (lost_at r s r.clock)
 
 unfoldable pub readied : Repair → Seen → (ℕ → Option (ℕ × ℕ)) → Bool → Repair
 readied r s unmarked resending =
     if is_probe_due r
     then record r { probe = after_probe r.probe s.nxt (not (is_looking r s)) }
-    else (if resending then r else with_loss r s unmarked (lost_at r s r.clock))
+    else (if resending then r else with_loss_in (settled most_stretches r s unmarked) s unmarked)
 
 -- ---- WHAT HAS GONE OUT is told, where it takes numbers (RFC 8985, 6.1 and 7.2)
 abbrev pub went_between : Repair → Seen → ℕ → ℕ → Repair

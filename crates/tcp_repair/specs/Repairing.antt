@@ -174,10 +174,11 @@ after_tick m smss_of c b w now = record {
       (expiry w.connecting.flowing.driving.times (at w.connecting.flowing.driving now)) now;
 }
 
--- ---- WHEN SOMETHING HAS TO BE DONE next
+-- ---- WHEN SOMETHING HAS TO BE DONE next. Where nothing waits for an acknowledgement nothing goes out again, as of an end that was
+-- aborted with text in flight
 abbrev pub recovery_deadline : {S W : Type 0} → Machine S → (S → Option ℕ) → Reports S → Connecting S W → Option Repair → Option ℕ
 recovery_deadline m smss_of b k None = None
-recovery_deadline m smss_of b k (Some r) = own_deadline r (seen_in m smss_of b k)
+recovery_deadline m smss_of b k (Some r) = if (m.wants (core_of k)).retransmit then own_deadline r (seen_in m smss_of b k) else None
 
 abbrev pub next_call : {S W : Type 0} → Machine S → (S → Option ℕ) → Reports S → Repaired S W → Option ℕ
 next_call m smss_of b w = earlier (recovery_deadline m smss_of b w.connecting w.recovery) (connection_deadlines.next_call m w.connecting)

@@ -10,6 +10,9 @@ use crate::reporting::Reporting;
 use crate::seen::{Again, Seen};
 use tcp_connection::Next;
 
+/// No more stretches than these are in flight: the rack keeps no more.
+const MOST_STRETCHES: u64 = 64;
+
 /// Whether what is due was sent before.
 pub(crate) fn goes_again(seen: Seen, next: Option<Next>) -> bool
     ensures { result ≡ goes_again seen (option_map (λ next. next.sent) next) }
@@ -63,8 +66,8 @@ fn has_come(time: Option<u64>, now: u64) -> bool
 }
 
 impl Recovery {
-    ghost use Rattle.tcp_repair.specs.Emission.{again_of, is_probe_due, loss_of, probe_of, readied, went, went_between, with_loss};
-    ghost use Rattle.tcp_repair.specs.Recovery.{is_looking, lost_at};
+    ghost use Rattle.tcp_repair.specs.Emission.{again_of, is_probe_due, loss_in, most_stretches, probe_of, readied, reported_loss, settled, went, went_between, with_loss_in};
+    ghost use Rattle.tcp_repair.specs.Recovery.{is_looking};
 
     /// Whether the probe is due.
     pub(crate) fn is_probe_due(&self) -> bool
@@ -107,19 +110,44 @@ impl Recovery {
 
     /// What is lost, if anything is.
     fn next_loss<C: Reporting>(&mut self, core: &C, seen: Seen) -> Option<Again>
-        ensures again { result ≡ loss_of self.old (C.reports.unmarked core.now) (lost_at self.old seen self.old.clock) }
-        ensures state { self.new ≡ with_loss self.old seen (C.reports.unmarked core.now) (lost_at self.old seen self.old.clock) }
+        ensures again { result ≡ loss_in (settled most_stretches self.old seen (C.reports.unmarked core.now)) seen (C.reports.unmarked core.now) }
+        ensures state { self.new ≡ with_loss_in (settled most_stretches self.old seen (C.reports.unmarked core.now)) seen (C.reports.unmarked core.now) }
         ensures probe { IsToCome self.old.probe.at self.old.clock → IsToCome self.new.probe.at self.new.clock }
         ensures clock { self.new.clock ≡ self.old.clock }
     {
+        self.settle(core, seen);
         let (from, to) = self.lost(seen)?;
         if !has_unmarked(core.unmarked(from), to) {
-            self.timed.settled(from, to);
             return None;
         }
         let loss = Some(self.loss_at(from));
         self.recovers(from, seen.nxt);
         Some(Again { from, to, loss })
+    }
+
+    /// What looks lost, and of which all was reported, counts as come.
+    fn settle<C: Reporting>(&mut self, core: &C, seen: Seen)
+        ensures state { self.new ≡ settled most_stretches self.old seen (C.reports.unmarked core.now) }
+        ensures probe { self.new.probe ≡ self.old.probe }
+        ensures clock { self.new.clock ≡ self.old.clock }
+    {
+        for _ in 0..MOST_STRETCHES {
+            let Some((from, to)) = self.reported_loss(core, seen) else {
+                return;
+            };
+            self.timed.settled(from, to);
+        }
+    }
+
+    /// The first stretch that looks lost, if all of it was reported.
+    fn reported_loss<C: Reporting>(&self, core: &C, seen: Seen) -> Option<(u64, u64)>
+        ensures { result ≡ reported_loss self.now seen (C.reports.unmarked core.now) }
+    {
+        let (from, to) = self.lost(seen)?;
+        if has_unmarked(core.unmarked(from), to) {
+            return None;
+        }
+        Some((from, to))
     }
 
     /// What begins at a position and takes so many numbers has gone out.

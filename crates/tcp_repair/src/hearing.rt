@@ -21,8 +21,8 @@ fn starts_before(stretch: Option<(u64, u64)>, end: u64) -> bool
     }
 }
 
-/// A run of what blocks report is told to the rack. It was told before, nearly always, and then nothing is outstanding of it, which is
-/// cheaper to see.
+/// A run of what blocks report is told to the rack, unless nothing is outstanding of it, which is cheaper to see: it was told before,
+/// mostly. Not where there are more stretches than are kept: there a joined one spans what was told.
 #[tactic(auto, unfolding(crate::specs::Arrival::after_run))]
 fn tell_run(timed: &mut Timed, start: u64, end: u64, min_rtt: u64)
     ensures { timed.new ≡ record timed.old { rack = after_run timed.old.rack start end timed.old.clock min_rtt } }

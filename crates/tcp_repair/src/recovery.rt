@@ -12,7 +12,7 @@ use tcp_flow::Loss;
 use tcp_recovery::{Probe, Rack};
 
 /// Loss recovery by time (RACK-TLP: RFC 8985): what is in flight and when it was sent, the tail loss probe, and what is being
-/// repaired. It has some 2.7 KB, which a [`Repairing`](crate::Repairing) has in a box.
+/// repaired. It has some 2.8 KB, which a [`Repairing`](crate::Repairing) has in a box.
 #[derive(Debug, Drop)]
 pub struct Recovery {
     /// What is in flight, and the time of the last call.

@@ -43,8 +43,8 @@ impl<C: Reporting + Drop, W: Congestion + Drop, A: Allocator> Repairing<C, W, A>
     }
 
     /// From `now` on, in microseconds, what is lost is found by time, with what this recovery has room for: it begins anew, and all
-    /// that is in flight counts as sent now, so that what of it is lost is found later, never earlier. No memory is taken. What the
-    /// peer's blocks pass over is given a whole timeout beside that (`Limits::is_patient` of tcp_driver).
+    /// that is in flight is left to the timers, since it isn't known when it was sent. No memory is taken. What the peer's blocks pass
+    /// over is given a whole timeout beside that (`Limits::is_patient` of tcp_driver).
     pub fn set_recovery(&mut self, recovery: Box<Recovery, A>, now: u64)
         ensures { self.new ≡ with_recovery C.machine C.smss_of C.reports self.old now }
     {

@@ -31,15 +31,18 @@ impl<C: Reporting + Drop, W: Congestion + Drop, A: Allocator> Repairing<C, W, A>
         earlier(self.recovery_deadline(), next)
     }
 
-    /// When the recovery has something to send again.
+    /// When the recovery has something to send again, if something waits for an acknowledgement.
     #[inline(never)]
     fn recovery_deadline(&self) -> Option<u64>
         ensures { result ≡ recovery_deadline C.machine C.smss_of C.reports self.now.connecting self.now.recovery }
     {
-        match &self.recovery {
-            Some(recovery) => recovery.deadline(Seen::of(&self.connection)),
-            None => None,
+        let Some(recovery) = &self.recovery else {
+            return None;
+        };
+        if !self.connection.flow().driver().core().wants().retransmit {
+            return None;
         }
+        recovery.deadline(Seen::of(&self.connection))
     }
 
     /// It is `now`: the timer that has expired, if one has, as for the connection.
