@@ -76,7 +76,8 @@
  *   A call takes less than TCPCORE_STACK bytes, one that makes a connection less than TCPCORE_CONNECTION_STACK, and
  *   tcpcore_connection_set_recovery, and any call of a connection behind that, less than TCPCORE_RECOVERY_STACK. That isn't proved: the
  *   tests read it from the disassembly (tests/depth.py: nothing calls through a pointer, and nothing calls itself) and measure the
- *   first (tests/stack.c).
+ *   first (tests/stack.c). In the portable file it is TCPCORE_PORTABLE_STACK, and TCPCORE_PORTABLE_CONNECTION_STACK for any call of
+ *   a connection, as gcc tells it for x86-64 (c/portable/tests/depth.py).
  *
  * THREADS
  *   None is started. One end is used by one thread at a time: two calls of one end at once are undefined behaviour and
@@ -241,18 +242,18 @@ enum {
    or tcpcore_room(config) + TCPCORE_STRUCT_ROOM. */
 #define TCPCORE_STRUCT_ROOM 32
 
-/* The bytes of stack that a call takes at most; and of the portable file, on any machine that it was tried on. */
+/* The bytes of stack that a call takes at most; of the portable file the second, which is for a call of an end: that of a connection
+   stands below. */
 #define TCPCORE_STACK 2560
-#define TCPCORE_PORTABLE_STACK 7168
+#define TCPCORE_PORTABLE_STACK 7680
 
 /* The bytes of stack that tcpcore_connection_connect and tcpcore_connection_listen take at most; a connection's other calls take less
-   than TCPCORE_STACK. */
+   than TCPCORE_STACK. Of the portable file any call of a connection takes at most the second, with a recovery or without one. */
 #define TCPCORE_CONNECTION_STACK 5632
+#define TCPCORE_PORTABLE_CONNECTION_STACK 12288
 
-/* The bytes of stack that tcpcore_connection_set_recovery, and a call of a connection that has a recovery, take at most; and of the
-   portable file, as it was measured on x86-64. */
+/* The bytes of stack that tcpcore_connection_set_recovery, and a call of a connection that has a recovery, take at most. */
 #define TCPCORE_RECOVERY_STACK 4608
-#define TCPCORE_PORTABLE_RECOVERY_STACK 12288
 
 /* The room that tcpcore_emit wants, in bytes: more than the longest segment of an end. */
 #define TCPCORE_EMIT_ROOM 1520
@@ -1067,9 +1068,9 @@ size_t tcpcore_connection_room(const tcpcore_config *config);
 uint32_t tcpcore_connection_free(tcpcore_connection *connection);
 
 /*
- * Reports when tcpcore_connection_timeout has to be called, or what a policy or a recovery had wait is to be emitted, if nothing else happens
- * before; TCPCORE_NEVER where no timer runs and nothing waits. It may have passed: then emit, and call it now. A later call has all that was sent go
- * out again later.
+ * Reports when tcpcore_connection_timeout has to be called, or what a policy or a recovery made wait is to be emitted, if nothing else
+ * happens before; TCPCORE_NEVER where no timer runs and nothing waits. It may have passed: then emit, and call it now. A later call has all
+ * that was sent go out again later.
  *   DONE; NO_END; NULL; OVERLAP; COPIED.
  */
 uint32_t tcpcore_connection_poll_at(const tcpcore_connection *connection, uint64_t *at);
@@ -1219,16 +1220,20 @@ uint32_t tcpcore_connection_set_policy(tcpcore_connection *connection, const str
 /*
  * From `now` on losses are found by time (RACK-TLP: RFC 8985), instead of a round trip behind a gap. What is in flight is lost, and goes
  * out again, where something that was sent later has come, and a round trip and a window for reordering have passed since it was sent; and
- * where nothing comes for two round trips, and for the peer's delay behind less than two full segments, the last SMSS bytes, and the FIN, go
- * out again as a probe. So a loss rarely waits for the retransmission timeout, and reordering within the window isn't taken for a loss. The
- * congestion window shrinks once for all that is in flight then, also for a loss that a probe has repaired, and once more where what was sent
- * again is lost again. `now` has to be finer than a quarter of a round trip: by a coarser
- * clock what isn't answered yet looks lost, and goes out again in vain.
- *   It counts where both SYNs agree on selective acknowledgement; else nothing changes. What falls due by it goes out by an emission, of
- * which tcpcore_connection_poll_at has the time: emit then, whether or not a timer expires, too. At most 64 stretches of what is in flight are kept in the `length` bytes at `block`; where
- * there are more, what was joined is found lost later. The block is the connection's until tcpcore_connection_free, whatever has become of
- * the connection; TCPCORE_RECOVERY_MEMORY bytes are enough. Call it once, any time before text is sent, also right after the making of the
- * connection: of text that was sent before it wouldn't be known when. Of version 18.
+ * where nothing is sent or acknowledged for two round trips, and for the peer's delay behind less than two full segments, the last SMSS
+ * numbers, the FIN among them, go out again as a probe, or the first ones while blocks report a gap or a loss is repaired. So a loss rarely
+ * waits for the retransmission timeout. The window is a quarter of the least round trip, or more where what was sent again came late, and
+ * what is late by less isn't taken for lost. Until reordering was seen the window is 0 behind three duplicates and while a loss is repaired.
+ *   Choose a congestion window, too: without one all that looks lost goes out again at once, and a peer that reports as received what was
+ * sent last has all that is in flight sent again for each of its segments. That window shrinks once for all that is in flight when a loss
+ * is found, also for a loss that a probe has repaired, and once more where what was sent again is lost again. The steps of `now` have to be
+ * finer than a quarter of a round trip: by a coarser clock what isn't answered yet looks lost, and goes out again in vain.
+ *   It counts where both SYNs agree on selective acknowledgement; else the same goes out as without it. What falls due by it goes out by an
+ * emission, of which tcpcore_connection_poll_at has the time: emit then, whether or not a timer expires, too. At most 64 stretches of what
+ * is in flight are kept in the `length` bytes at `block`; where there are more, what was joined is found lost later. The block is the
+ * connection's until tcpcore_connection_free, whatever has become of the connection; TCPCORE_RECOVERY_MEMORY bytes are enough. Call it once,
+ * any time before text is sent, also right after the making of the connection: of text that was sent before it wouldn't be known when. Of
+ * version 18.
  *   DONE; IN_USE: it was called already. NO_RULE: text was sent already, or a FIN. NO_MEMORY: the block is too small. At any answer but DONE
  *   nothing has changed, and the block is the caller's. NO_END; NULL; LENGTH; OVERLAP (the block lies over the struct); COPIED.
  */
