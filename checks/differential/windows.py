@@ -100,6 +100,7 @@ class Reno:
 
     def lost_again(self):
         """RFC 5681, 4.3: the loss of a retransmission is a second sign of congestion, for cwnd and ssthresh."""
+        self.lost_before = True
         base = min(self.cwnd, self.ssthresh)
         self.ssthresh = max(int(base * self.KEPT), 2 * self.smss)
         self.cwnd = max(self.smss, self.cwnd - max(0, base - self.ssthresh))
