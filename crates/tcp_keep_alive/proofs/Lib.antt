@@ -1,0 +1,4 @@
+pub mod Shifts
+mod Silent
+mod OnTime
+pub mod Answered

@@ -1,0 +1,4 @@
+mod Bare
+mod Asks
+mod Runs
+mod Called
