@@ -27,7 +27,7 @@ class Flow:
     def begin(self, rule, now, first, limit):
         self.driver = driver.Second()
         self.driver.new(now, first, *STANDARD)
-        self.path, self.is_shut, self.sent_at = path_of(rule, 1, limit), False, now
+        self.path, self.is_shut, self.sent_at, self.reported = path_of(rule, 1, limit), False, now, 0
 
     def choose(self, rule, smss, limit):
         self.path, self.is_shut = path_of(rule, int(smss), int(limit)), False
@@ -53,10 +53,15 @@ class Flow:
 
     def arrive(self, now, ack, gap, fin, window, flags):
         before, is_duplicate = self.end.una, ack == self.end.una
-        answer = self.driver.arrive(now, ack, gap, fin, window, flags)
-        if not answer.startswith("taken") or self.path is None:
+        answer = self.driver.arrive(now, ack, min(gap, 1), fin, window, flags)
+        if not answer.startswith("taken"):
+            return answer
+        self.reported = gap
+        if self.path is None:
             return answer
         self.told(now, before, is_duplicate, window)
+        if self.path.fast_recovery:
+            self.path.keep_pipe(self.reported)
         self.settle()
         return answer
 
@@ -65,8 +70,12 @@ class Flow:
         una, blocks = self.end.una, "reorder" in self.end.wants()
         if una > before:
             said = self.path.acknowledged(una - before, una, self.flight, now, self.driver.estimator.srtt or 0)
+        elif is_duplicate and self.is_shut:
+            # RFC 9293, 3.8.6.1: it answers a probe.
+            return
         elif is_duplicate and blocks:
-            said = self.path.reported()
+            # RFC 6675, 4: in recovery what blocks report counts, and not how often.
+            said = "" if self.path.fast_recovery else self.path.reported()
         elif is_duplicate:
             said = self.path.duplicate(una, self.flight, self.end.nxt)
         else:
@@ -89,6 +98,8 @@ class Flow:
     def timeout(self, now):
         una, nxt, flight = self.end.una, self.end.nxt, self.flight
         timer = self.driver.timeout(now)
+        if timer == "retransmit":
+            self.reported = 0
         if self.path is None:
             return timer
         if timer == "retransmit" and una == 0:
@@ -155,7 +166,7 @@ class Turns(driver.Turns):
                 self.early.add(start)
                 while self.next in self.early:
                     self.next += 1
-                gap = int(self.blocks and any(number > self.next for number in self.early))
+                gap = min(255, sum(number > self.next for number in self.early)) if self.blocks else 0
                 self.coming.append((self.now + 2 * self.way, f"{self.next} {gap} 0 {self.shown} 0"))
             self.count += 1
 
@@ -196,6 +207,8 @@ def worked():
         all_turns.append(late)
         all_turns.append(chosen(rule))
         all_turns.append(found(rule))
+        all_turns.append(repeated(rule))
+        all_turns.append(probed(rule))
     none = Turns("none", 1, 1, (5,))
     none.turn("send 60")
     none.runs(30)
@@ -218,6 +231,42 @@ def found(rule):
     turns.call("lose repaired")
     turns.runs(9)
     assert turns.second.end.una == 50, turns.second.end.una
+    return turns
+
+
+def probed(rule):
+    """A window that is shut is probed, and each probe is answered: none of these answers is a duplicate (RFC 9293, 3.8.6.1)."""
+    turns = Turns(rule, 1, 2)
+    turns.turn("send 9")
+    turns.shown = 0
+    turns.turn("send 1")
+    turns.runs(20)
+    turns.lost = range(999)
+    turns.turn("send 1")
+    for _ in range(4):
+        turns.runs(1)
+        turns.turn(f"arrive {turns.second.end.una} 0 0 0 0")
+    assert turns.second.path.dupacks == 0 and not turns.second.end.again, turns.second.path.dupacks
+    return turns
+
+
+def repeated(rule):
+    """A peer that reports three numbers behind a gap, and says so again and again while the loss is repaired: what it reports is let out, and no
+    more (RFC 6675, 4)."""
+    turns = Turns(rule, 1, 2, lost=(8,))
+    turns.turn("send 90")
+    turns.runs(4)
+    una, path = turns.second.end.una, turns.second.path
+    for _ in range(3):
+        turns.call(f"arrive {turns.now} {una} 3 0 9 0")
+    turns.call("lose found")
+    for _ in range(20):
+        turns.call(f"arrive {turns.now} {una} 3 0 9 0")
+        turns.emits()
+    assert path.fast_recovery and path.cwnd == path.ssthresh + 3, (path.cwnd, path.ssthresh)
+    for _ in range(20):
+        turns.call(f"arrive {turns.now} {una} 5 0 9 0")
+    assert path.cwnd == path.ssthresh + 5, (path.cwnd, path.ssthresh)
     return turns
 
 
@@ -249,7 +298,7 @@ def random_calls(draw, count):
             window = draw.choice((driver.MOST, driver.MOST, draw.randrange(30)))
             yield from [f"{draw.choice(('emit', 'emit', 'train'))} {at} {window}"] * draw.choice((1, 1, 5))
         elif kind < 40:
-            ack = f"{draw.choice((draw.randrange(12), draw.randrange(100)))} {draw.choice((0, 0, 1))} {int(draw.randrange(30) == 0)}"
+            ack = f"{draw.choice((draw.randrange(12), draw.randrange(100)))} {draw.choice((0, 0, 1, 3, 30))} {int(draw.randrange(30) == 0)}"
             yield from [f"{draw.choice(('arrive', 'arrive', 'vouched'))} {at} {ack} {draw.choice((0, 9, 9))} {draw.choice((0, 16, 20))}"] * draw.choice((1, 1, 4))
         elif kind < 48:
             yield f"{draw.choice(('timeout', 'tick'))} {at}"

@@ -95,6 +95,12 @@ class Reno:
         self.is_found = True
         return self.shown()
 
+    def keep_pipe(self, reported):
+        # RFC 6675, 4 and 5: what was reported isn't in the pipe, and cwnd - pipe may be sent. Without reports it is RFC 6582.
+        if self.fast_recovery and (self.is_found or reported):
+            self.cwnd = min(HIGH, self.ssthresh + reported)
+        return self.shown()
+
     # Of a window what is left where it shrinks.
     KEPT = Fraction(1, 2)
 
@@ -305,7 +311,7 @@ class Windows:
     MADE = {"reno": Reno, "cubic": Cubic, "delayed": Delayed, "sws": Sws, "limiter": Limiter}
     CALLS = {
         **dict.fromkeys(
-            ("acknowledged", "duplicate", "reported", "lost", "lost-again", "finds-by-time", "timed-out", "resent", "may-resend", "syn-lost", "idle", "room"), "path"
+            ("acknowledged", "duplicate", "reported", "lost", "lost-again", "finds-by-time", "keep-pipe", "timed-out", "resent", "may-resend", "syn-lost", "idle", "room"), "path"
         ),
         **dict.fromkeys(("arrived", "answered", "due"), "delayed"),
         **dict.fromkeys(("window", "segment"), "sws"),
@@ -363,6 +369,11 @@ WORKED = [
     # acknowledged.
     "reno 1000 8", "acknowledged 9000 9001 30000", "reported", "lost 9001 30000 39001", "finds-by-time", "reported", "lost-again", "reported", "lost-again",
     "acknowledged 20000 29001 12000", "acknowledged 12000 41001 0", "cubic 1000", "lost 1 20000 20001", "lost-again", "acknowledged 22000 22001 0",
+    # As many as ssthresh are under way beside what blocks report: not before a loss is found, nor where they report nothing and losses aren't found
+    # by time.
+    "reno 1000", "keep-pipe 3000", "lost 1 20000 20001", "keep-pipe 0", "keep-pipe 7000", "acknowledged 12000 12001 8000", "keep-pipe 0",
+    "keep-pipe 2500", "keep-pipe 18446744073709551615", "finds-by-time", "keep-pipe 0", "lost-again", "keep-pipe 1", "acknowledged 9000 21001 0", "keep-pipe 9",
+    "cubic 1000", "lost 1 20000 20001", "keep-pipe 4000", "timed-out 20000 20001", "keep-pipe 4000",
     # CUBIC: up to ssthresh and past it by slow start, below W_max by the curve, past it, with a second loss below the first one's window;
     # a path so short that Reno's window is greater; half of a window in use, an idle time, and a timeout, behind which W_max is the window.
     "cubic 0", "cubic 1460 9", "cubic 65535 8", "cubic 1000 2", *curve(1000, 0, 20, 100_000), "lost 40001 40000 90001", "acknowledged 50000 90001 28000 2100000 100000",
@@ -412,7 +423,7 @@ def random_calls(draw, count):
         elif kind < 10:
             yield from [draw.choice((f"duplicate {una} {nxt - una} {nxt}", "reported", f"lost {una} {nxt - una} {nxt}"))] * draw.randrange(1, 6)
         elif kind == 10:
-            yield draw.choice((f"timed-out {nxt - una} {nxt}", f"timed-out {nxt - una} {nxt}", "lost-again", "finds-by-time", f"resent {size}", "may-resend", "syn-lost", "idle"))
+            yield draw.choice((f"timed-out {nxt - una} {nxt}", f"timed-out {nxt - una} {nxt}", "lost-again", "finds-by-time", f"keep-pipe {size}", f"resent {size}", "may-resend", "syn-lost", "idle"))
             yield from ("may-resend", f"resent {draw.choice((size, 2**61))}", "may-resend")
         elif kind == 11:
             yield f"room {draw.choice((nxt - una, size, 2**draw.randrange(62)))}"

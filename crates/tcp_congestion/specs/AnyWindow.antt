@@ -38,6 +38,7 @@ any_control = record {
   is_new_loss = λ w snd_una. of_each (λ r. reno_control.is_new_loss r snd_una) (λ c. cubic_control.is_new_loss c snd_una) false w;
   lost = λ w snd_una flight snd_nxt. each_after (λ r. reno_control.lost r snd_una flight snd_nxt) (λ c. cubic_control.lost c snd_una flight snd_nxt) w;
   found_by_time = λ w. each_after reno_control.found_by_time cubic_control.found_by_time w;
+  with_pipe = λ w reported. each_after (λ r. reno_control.with_pipe r reported) (λ c. cubic_control.with_pipe c reported) w;
   lost_again = λ w. each_after reno_control.lost_again cubic_control.lost_again w;
   timed_out = λ w flight snd_nxt. each_after (λ r. reno_control.timed_out r flight snd_nxt) (λ c. cubic_control.timed_out c flight snd_nxt) w;
   may_resend = λ w. of_each reno_control.may_resend cubic_control.may_resend true w;

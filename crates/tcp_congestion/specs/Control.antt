@@ -25,8 +25,10 @@ pub record Control (W : Type 0) : Type 0 where
   -- blocks or a probe found a loss: whether it is the first of a window, and the state after it
   pub is_new_loss : W → ℕ → Bool
   pub lost : W → ℕ → ℕ → ℕ → W
-  -- losses are found by time in the recovery that goes on; and what was sent again was lost again
+  -- losses are found by time in the recovery that goes on; blocks report so many bytes of what is in flight; and what was sent again was
+  -- lost again
   pub found_by_time : W → W
+  pub with_pipe : W → ℕ → W
   pub lost_again : W → W
   pub timed_out : W → ℕ → ℕ → W
   -- what is sent again
@@ -53,6 +55,7 @@ reno_control = record {
   is_new_loss = λ w snd_una. reno.is_new_loss w snd_una;
   lost = λ w snd_una flight snd_nxt. reno.after_loss w snd_una flight snd_nxt;
   found_by_time = λ w. reno.after_finding w;
+  with_pipe = λ w reported. reno.with_pipe w reported;
   lost_again = λ w. reno.after_second_loss w;
   timed_out = λ w flight snd_nxt. reno.after_timeout w flight snd_nxt;
   may_resend = λ w. reno.may_resend w;
@@ -78,6 +81,7 @@ cubic_control = record {
   is_new_loss = λ c snd_una. reno.is_new_loss c.window snd_una;
   lost = λ c snd_una flight snd_nxt. cubic.after_loss c snd_una flight snd_nxt;
   found_by_time = λ c. record c { window = reno.after_finding c.window };
+  with_pipe = λ c reported. record c { window = reno.with_pipe c.window reported };
   lost_again = λ c. cubic.after_second_loss c;
   timed_out = λ c flight snd_nxt. cubic.after_timeout c flight snd_nxt;
   may_resend = λ c. reno.may_resend c.window;

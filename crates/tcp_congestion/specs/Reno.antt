@@ -1,6 +1,6 @@
 -- The congestion window (RFC 5681, 3 and 4.1; RFC 6582, 3.2; RFC 3042, 2). All sizes are bytes, and positions count from the SYN, which
 -- is at 0, in the direction of what is sent (RFC 9293, 3.4). `flight` is FlightSize: what was sent and isn't acknowledged.
-use Rattle.std.specs.Prelude.{ℕ, ◌+◌, ◌-◌, ◌*◌, ◌/◌, ◌<◌, ◌≤◌, ◌==◌, ◌&&◌, not, min, max, Bool, true, false, nat_lt, nat_le, if◌then◌else◌}
+use Rattle.std.specs.Prelude.{ℕ, ◌+◌, ◌-◌, ◌*◌, ◌/◌, ◌<◌, ◌≤◌, ◌==◌, ◌&&◌, ◌||◌, not, min, max, Bool, true, false, nat_lt, nat_le, if◌then◌else◌}
 use Rattle.tcp_congestion.specs.Sizes.{max_limit, max_segment, max_window}
 
 pub record Window : Type 0 where
@@ -167,6 +167,14 @@ after_loss w snd_una flight snd_nxt = if is_new_loss w snd_una then begun (halve
 -- LOSSES ARE FOUND BY TIME in the recovery that goes on (RFC 8985)
 abbrev pub after_finding : Window → Window
 after_finding w = record w { is_found = true }
+
+-- BLOCKS REPORT SO MANY BYTES of what is in flight, which have left the network: in a recovery the window is ssthresh and these, so that
+-- pipe is ssthresh (RFC 6675, 4 and 5). Where they report nothing, and losses aren't found by time, it is that of RFC 6582
+abbrev pub has_pipe : Window → ℕ → Bool
+has_pipe w reported = w.is_recovering && (w.is_found || nat_lt 0 reported)
+
+abbrev pub with_pipe : Window → ℕ → Window
+with_pipe w reported = if has_pipe w reported then record w { cwnd = min max_window (w.ssthresh + reported) } else w
 
 -- WHAT WAS SENT AGAIN WAS LOST AGAIN: cwnd and ssthresh are lowered once more (RFC 5681, 4.3), by half of ssthresh, or of cwnd where that
 -- is less; what was let out for segments that have left the network stays

@@ -109,6 +109,14 @@ impl Congestion for AnyWindow {
         }
     }
 
+    fn keep_pipe(&mut self, reported: u64) {
+        match self {
+            AnyWindow::Unlimited => {}
+            AnyWindow::Reno(window) => Congestion::keep_pipe(window, reported),
+            AnyWindow::Cubic(window) => Congestion::keep_pipe(window, reported),
+        }
+    }
+
     fn lost_again(&mut self) {
         match self {
             AnyWindow::Unlimited => {}

@@ -67,6 +67,11 @@ pub trait Congestion {
     fn finds_by_time(&mut self)
         ensures { self.new ≡ control.found_by_time self.old };
 
+    /// Blocks report `reported` bytes of what is in flight: in a recovery as many as ssthresh are under way beside them (RFC 6675, 4
+    /// and 5).
+    fn keep_pipe(&mut self, reported: u64)
+        ensures { self.new ≡ control.with_pipe self.old reported };
+
     /// What was sent again since the last loss was lost again: the window shrinks once more (RFC 5681, 4.3).
     fn lost_again(&mut self)
         ensures { self.new ≡ control.lost_again self.old };
@@ -155,6 +160,10 @@ impl Congestion for Reno {
         Reno::finds_by_time(self);
     }
 
+    fn keep_pipe(&mut self, reported: u64) {
+        Reno::keep_pipe(self, reported);
+    }
+
     fn lost_again(&mut self) {
         Reno::lost_again(self);
     }
@@ -231,6 +240,10 @@ impl Congestion for Cubic {
 
     fn finds_by_time(&mut self) {
         Cubic::finds_by_time(self);
+    }
+
+    fn keep_pipe(&mut self, reported: u64) {
+        Cubic::keep_pipe(self, reported);
     }
 
     fn lost_again(&mut self) {

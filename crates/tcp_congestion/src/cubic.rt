@@ -73,7 +73,7 @@ impl Model for Cubic {
 
 impl Cubic {
     ghost use Rattle.tcp_congestion.specs.Cubic.{after_acknowledgement, after_duplicate, after_idle_time, after_loss, after_report_of, after_second_loss, after_timeout, new_cubic};
-    ghost use Rattle.tcp_congestion.specs.Reno.{after_agreement, after_finding, after_resent, after_syn_resent, begins_recovery, is_new_loss, is_partial, may_resend, room_of};
+    ghost use Rattle.tcp_congestion.specs.Reno.{after_agreement, after_finding, after_resent, after_syn_resent, begins_recovery, is_new_loss, is_partial, may_resend, room_of, with_pipe};
     ghost use Rattle.tcp_congestion.specs.Sizes.{max_limit, max_segment, max_window};
 
     /// The window of a connection that begins, as [`Reno::with_limit`] has it: of full segments of `smss` bytes, of which an
@@ -202,6 +202,13 @@ impl Cubic {
         ensures { self.new ≡ record self.old { window = after_finding self.old.window } }
     {
         self.window.finds_by_time();
+    }
+
+    /// Blocks report `reported` bytes of what is in flight: [`Reno::keep_pipe`].
+    pub fn keep_pipe(&mut self, reported: u64)
+        ensures { self.new ≡ record self.old { window = with_pipe self.old.window reported } }
+    {
+        self.window.keep_pipe(reported);
     }
 
     /// What was sent again since the last loss was lost again: the window shrinks once more, as for [`Reno::lost_again`] (RFC 5681,

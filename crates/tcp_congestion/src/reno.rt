@@ -80,7 +80,7 @@ impl Model for Reno {
 }
 
 impl Reno {
-    ghost use Rattle.tcp_congestion.specs.Reno.{new_window, new_window_with, room_of, after_acknowledgement, after_agreement, after_finding, after_loss, after_report, after_second_loss, is_new_loss, is_partial, after_duplicate, begins_recovery, after_timeout, after_resent, may_resend, after_syn_resent, after_idle};
+    ghost use Rattle.tcp_congestion.specs.Reno.{new_window, new_window_with, room_of, after_acknowledgement, after_agreement, after_finding, after_loss, with_pipe, after_report, after_second_loss, is_new_loss, is_partial, after_duplicate, begins_recovery, after_timeout, after_resent, may_resend, after_syn_resent, after_idle};
     ghost use Rattle.tcp_congestion.specs.Sizes.{max_limit, max_segment, max_window};
 
     /// The window of a connection that begins, with full segments of `smss` bytes as both SYNs agreed on them: IW (RFC
@@ -221,6 +221,17 @@ impl Reno {
         ensures { self.new ≡ after_finding self.old }
     {
         self.is_found = true;
+    }
+
+    /// Blocks report `reported` bytes of what is in flight: in a recovery these have left the network, and the window is ssthresh
+    /// and as much, so that as many as ssthresh are under way (RFC 6675, 4 and 5). Nothing changes where they report nothing, unless
+    /// losses are found by time: then what is lost is known by that, and else by acknowledgements alone (RFC 6582).
+    pub fn keep_pipe(&mut self, reported: u64)
+        ensures { self.new ≡ with_pipe self.old reported }
+    {
+        if self.is_recovering && (self.is_found || reported > 0) {
+            self.cwnd = MAX_WINDOW.min(self.ssthresh + reported.min(MAX_WINDOW));
+        }
     }
 
     /// What was sent again since the last loss was lost again: the window and ssthresh are lowered once more (RFC 5681, 4.3), by half

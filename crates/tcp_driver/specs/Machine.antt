@@ -15,6 +15,8 @@ pub record Machine (S : Type 0) : Type 0 where
   -- SND.UNA, and how many numbers are in flight
   pub una : S → ℕ
   pub flight : S → ℕ
+  -- how many bytes of these the peer's blocks report
+  pub reported : S → ℕ
   -- whether a reset counts as lost
   pub ignores_resets : S → Bool
   -- after a timer's expiry

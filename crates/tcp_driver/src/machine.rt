@@ -133,6 +133,10 @@ pub trait Core {
     fn flight(&self) -> u64
         ensures { result ≡ machine.flight self.now };
 
+    /// How many bytes of these the peer's blocks report as received (RFC 2018, 4).
+    fn reported(&self) -> u64
+        ensures { result ≡ machine.reported self.now };
+
     /// Whether a reset counts as lost now: in TIME-WAIT (RFC 1337, 3), and in CLOSING and LAST-ACK while there is text that
     /// the user hasn't read, which a reset would discard.
     fn ignores_resets(&self) -> bool

@@ -122,6 +122,16 @@ impl<A: Allocator> Core for Wired<A> {
         self.end.snd_nxt().saturating_sub(self.end.snd_una())
     }
 
+    fn reported(&self) -> u64 {
+        let mut unmarked = 0;
+        let mut place = 0;
+        while let Some((from, to)) = self.end.next_unmarked(place) {
+            unmarked += to - from;
+            place = to;
+        }
+        (self.end.queued() - unmarked) as u64
+    }
+
     fn ignores_resets(&self) -> bool {
         let phase = self.end.phase();
         if !matches!(phase, Phase::Closing | Phase::LastAck | Phase::TimeWait) {

@@ -1,6 +1,6 @@
 -- The driver in a flow is as after calls of its own.
-use Rattle.std.proofs.Common.{◌≡◌, ℕ, Bool, true, false, List, [], ◌∷◌, refl, subst}
-use Rattle.std.specs.Prelude.{◌||◌, ◌&&◌, if◌then◌else◌, Option, replicate}
+use Rattle.std.proofs.Common.{◌≡◌, ℕ, Bool, true, false, List, [], ◌∷◌, refl, subst, ◌∙◌}
+use Rattle.std.specs.Prelude.{not, ◌||◌, ◌&&◌, if◌then◌else◌, Option, replicate}
 use Rattle.tcp_congestion.specs.Control.{Control}
 use Rattle.tcp_driver.specs.declared.machine.Report.{Report}
 use Rattle.tcp_driver.specs.Calls.{Call, Arrives, Emits, Uses, after_calls}
@@ -8,7 +8,7 @@ use Rattle.tcp_driver.specs.Rows.{after_emissions, emissions_of}
 use Rattle.tcp_driver.specs.Trains.{TrainIsEmissions}
 use Rattle.tcp_driver.specs.Driver.{Driving, after_arrival, at, is_withheld, way_of}
 use Rattle.tcp_driver.specs.Machine.{Machine}
-use Rattle.tcp_flow.specs.Flow.{Flowing, after_duplicate, after_progress, allowed, has_blocks, is_idle, rested, row_of, settled, told, una_of, with_first}
+use Rattle.tcp_flow.specs.Flow.{Flowing, after_duplicate, after_progress, allowed, has_blocks, is_idle, rested, row_of, settled, shut_by, told, una_of, with_first, with_pipe}
 use Rattle.tcp_flow.specs.Calls.{Comes, Goes, GoesAsOne, Passes, Asks, Limits, Waits, Chooses, Loses, FlowIsDriven}
 
 -- the driver of x is as after a call of d, and perhaps the first segment goes out again
@@ -22,28 +22,34 @@ first : {S W : Type 0} (m : Machine S) (d : Driving S) (f : Flowing S W) (now : 
 first m d f now call true e = record { resends = true; same = cc }
 first m d f now call false e = record { resends = false; same = e }
 
-by-blocks : {S W : Type 0} (m : Machine S) (d : Driving S) (f : Flowing S W) (x y : W) (now : ℕ) (call : Call S) (again blocks : Bool)
+by-blocks : {S W : Type 0} (m : Machine S) (d : Driving S) (f : Flowing S W) (x y : W) (now : ℕ) (call : Call S) (again blocks let_out : Bool)
     → f.driving ≡ after_calls m d (call ∷ [])
-    → Follows m d (if blocks then record f { window = x } else with_first m (record f { window = y }) now again).driving now call
-by-blocks m d f x y now call again true e = record { resends = false; same = e }
-by-blocks m d f x y now call again false e = first m d (record f { window = y }) now call again e
+    → Follows m d (if blocks then (if let_out then f else record f { window = x }) else with_first m (record f { window = y }) now again).driving now call
+by-blocks m d f x y now call again true true e = record { resends = false; same = e }
+by-blocks m d f x y now call again true false e = record { resends = false; same = e }
+by-blocks m d f x y now call again false let_out e = first m d (record f { window = y }) now call again e
 
 by-kind : {S W : Type 0} (m : Machine S) (c : Control W) (d : Driving S) (f : Flowing S W) (acked now : ℕ) (call : Call S) (moved duplicate : Bool)
     → f.driving ≡ after_calls m d (call ∷ [])
     → Follows m d (if moved then after_progress m c f acked now else (if duplicate then after_duplicate m c f now else f)).driving now call
 by-kind m c d f acked now call true b e = first m d _ now call _ e
-by-kind m c d f acked now call false true e = by-blocks m d f _ _ now call _ (has_blocks m f) e
+by-kind m c d f acked now call false true e = by-blocks m d f _ _ now call _ (has_blocks m f) (c.is_recovering f.window) e
 by-kind m c d f acked now call false false e = record { resends = false; same = e }
+
+pub rest_by : {S W : Type 0} (f : Flowing S W) (x : W) (b : Bool) → (if b then record f { window = x } else f).driving ≡ f.driving
+rest_by f x true = refl
+rest_by f x false = refl
 
 -- told of a window that isn't one, nothing changes
 by-limits : {S W : Type 0} (m : Machine S) (smss_of : S → Option ℕ) (c : Control W) (d : Driving S) (f g : Flowing S W) (acked now : ℕ) (call : Call S) (limits moved duplicate : Bool)
     → f.driving ≡ after_calls m d (call ∷ []) → g.driving ≡ after_calls m d (call ∷ [])
     → Follows m d (if limits
-    then settled smss_of c (if moved then after_progress m c g acked now else (if duplicate then after_duplicate m c g now else g))
+    then settled smss_of c (with_pipe m c (if moved then after_progress m c g acked now else (if duplicate then after_duplicate m c g now else g)))
     else f).driving now call
 by-limits m smss_of c d f g acked now call true moved duplicate e i =
     let h = by-kind m c d g acked now call moved duplicate i in
-    record { resends = h.resends; same = h.same }
+    let k = if moved then after_progress m c g acked now else (if duplicate then after_duplicate m c g now else g) in
+    record { resends = h.resends; same = rest_by k (c.with_pipe k.window (m.reported k.driving.core)) (c.is_recovering k.window) ∙ h.same }
 by-limits m smss_of c d f g acked now call false moved duplicate e i = record { resends = false; same = e }
 
 unchanged : {A : Type 0} (x y : A) (b : Bool) → b ≡ true → x ≡ (if b then x else y)
@@ -61,11 +67,7 @@ by-taken m smss_of c f now src dst bytes vouched report true e = record {
   same = unchanged f.driving _ (f.driving.times.bursting || is_withheld m f.driving.core bytes) e;
 }
 by-taken m smss_of c f now src dst bytes vouched report false e =
-    by-limits m smss_of c f.driving _ _ report.acked now (Arrives now src dst bytes vouched) _ _ report.is_duplicate refl refl
-
-pub rest_by : {S W : Type 0} (f : Flowing S W) (x : W) (b : Bool) → (if b then record f { window = x } else f).driving ≡ f.driving
-rest_by f x true = refl
-rest_by f x false = refl
+    by-limits m smss_of c f.driving _ _ report.acked now (Arrives now src dst bytes vouched) _ _ (report.is_duplicate && not (shut_by report.window f.shut)) refl refl
 
 emits-by : {S W : Type 0} (m : Machine S) (f g : Flowing S W) (now window : ℕ) → g.driving ≡ f.driving
     → after_calls m g.driving (Emits now window ∷ []) ≡ after_calls m f.driving (Emits now window ∷ [])

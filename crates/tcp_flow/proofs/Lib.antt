@@ -4,3 +4,4 @@ mod Quiet
 mod Outgoing
 mod Flights
 mod InFlight
+mod Pipe

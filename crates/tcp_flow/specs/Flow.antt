@@ -61,16 +61,21 @@ after_progress m c f acked now =
     with_first m (record f { window = c.acknowledged f.window acked (una_of m f) (flight_of m f) now (srtt_of f.driving.times.estimate.trip) }) now
     (c.is_partial f.window (una_of m f) && not (has_blocks m f))
 
--- A DUPLICATE came, which counts where no blocks report gaps (RFC 5681, 4.3)
+-- IN RECOVERY AS MANY AS SSTHRESH ARE UNDER WAY beside what blocks report (RFC 6675, 4 and 5)
+abbrev pub with_pipe : {S W : Type 0} → Machine S → Control W → Flowing S W → Flowing S W
+with_pipe m c f = if c.is_recovering f.window then record f { window = c.with_pipe f.window (m.reported f.driving.core) } else f
+
+-- A DUPLICATE came, which counts where no blocks report gaps (RFC 5681, 4.3); in recovery it does by what blocks report
 abbrev pub after_duplicate : {S W : Type 0} → Machine S → Control W → Flowing S W → ℕ → Flowing S W
 after_duplicate m c f now =
-    if has_blocks m f then record f { window = c.reported f.window }
+    if has_blocks m f then (if c.is_recovering f.window then f else record f { window = c.reported f.window })
     else with_first m (record f { window = c.duplicated f.window (una_of m f) (flight_of m f) (nxt_of m f) }) now (c.begins_recovery f.window (una_of m f))
 
+-- while the peer's window is shut what comes again and again answers probes, and says nothing of the path (RFC 9293, 3.8.6.1)
 abbrev pub after_report : {S W : Type 0} → Machine S → Control W → Flowing S W → ℕ → Report → ℕ → Flowing S W
 after_report m c f una report now =
     if nat_lt una (una_of m f) then after_progress m c f report.acked now
-    else (if report.is_duplicate then after_duplicate m c f now else f)
+    else (if report.is_duplicate && not f.shut then after_duplicate m c f now else f)
 
 -- SMSS is what both SYNs agreed on, once they have (RFC 5681, 2)
 abbrev pub agreed_by : {W : Type 0} → Control W → W → Option ℕ → W
@@ -83,7 +88,9 @@ settled smss_of c f = record f { window = agreed_by c f.window (smss_of f.drivin
 -- told of a segment that was taken, before which SND.UNA was this
 abbrev pub told : {S W : Type 0} → Machine S → (S → Option ℕ) → Control W → Flowing S W → ℕ → Report → ℕ → Flowing S W
 told m smss_of c f una report now =
-    if c.limits f.window then settled smss_of c (after_report m c (record f { shut = shut_by report.window f.shut }) una report now) else f
+    if c.limits f.window
+    then settled smss_of c (with_pipe m c (after_report m c (record f { shut = shut_by report.window f.shut }) una report now))
+    else f
 
 abbrev pub after_segment : {S W : Type 0} → Machine S → (S → Option ℕ) → Control W → Flowing S W → ℕ → List ℕ → List ℕ → List ℕ → Bool → Flowing S W
 after_segment m smss_of c f now src dst bytes vouched =

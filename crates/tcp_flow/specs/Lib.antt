@@ -3,3 +3,4 @@ pub mod Wired
 pub mod Calls
 pub mod InFlight
 pub mod FlightOfEnds
+pub mod Pipe

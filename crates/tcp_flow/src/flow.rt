@@ -141,7 +141,7 @@ impl<C: Paced + Drop, W: Congestion + Drop> Flow<C, W> {
         taken
     }
 
-    ghost use Rattle.tcp_flow.specs.Flow.{after_duplicate, after_progress, after_report, settled, srtt_of, told, with_first};
+    ghost use Rattle.tcp_flow.specs.Flow.{after_duplicate, after_progress, after_report, settled, srtt_of, told, with_first, with_pipe};
 
     /// What came is told to the window.
     #[inline(never)]
@@ -153,6 +153,7 @@ impl<C: Paced + Drop, W: Congestion + Drop> Flow<C, W> {
             self.is_shut = window == 0;
         }
         self.report(una, report, now);
+        self.keep_pipe();
         self.settle();
     }
 
@@ -162,7 +163,7 @@ impl<C: Paced + Drop, W: Congestion + Drop> Flow<C, W> {
     {
         if una < self.driver.core().una() {
             self.progress(report.acked, now);
-        } else if report.is_duplicate {
+        } else if report.is_duplicate && !self.is_shut {
             self.duplicate(now);
         }
     }
@@ -206,7 +207,9 @@ impl<C: Paced + Drop, W: Congestion + Drop> Flow<C, W> {
         ensures { self.new ≡ after_duplicate C.machine W.control self.old now }
     {
         if self.driver.core().wants().reorder {
-            self.window.reported();
+            if !self.window.is_recovering() {
+                self.window.reported();
+            }
             return;
         }
         let una = self.driver.core().una();
@@ -214,6 +217,17 @@ impl<C: Paced + Drop, W: Congestion + Drop> Flow<C, W> {
         let nxt = self.nxt();
         if self.window.duplicate(una, flight, nxt) {
             let _ = self.driver.resend_first(now);
+        }
+    }
+
+    /// In a recovery as many as ssthresh are under way beside what blocks report, however many acknowledgements say so (RFC 6675, 4
+    /// and 5).
+    fn keep_pipe(&mut self)
+        ensures { self.new ≡ with_pipe C.machine W.control self.old }
+    {
+        if self.window.is_recovering() {
+            let reported = self.driver.core().reported();
+            self.window.keep_pipe(reported);
         }
     }
 

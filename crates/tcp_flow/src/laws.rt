@@ -5,6 +5,7 @@ ghost use Rattle.tcp_congestion.specs.Control.{cubic_control, reno_control};
 ghost use Rattle.tcp_flow.specs.Calls.{FlowIsDriven};
 ghost use Rattle.tcp_flow.specs.FlightOfEnds.{EachOpensSized, EndCountsFlight, EndStaysInWindow};
 ghost use Rattle.tcp_flow.specs.InFlight.{LetsOutTwoMore};
+ghost use Rattle.tcp_flow.specs.Pipe.{PipeStaysInThreshold, RecoveryKeepsPipe};
 
 use crate::paced::Paced;
 use std::alloc::Allocator;
@@ -44,6 +45,19 @@ pub fn each_window_lets_out_two_more()
     ensures reno { LetsOutTwoMore reno_control }
     ensures cubic { LetsOutTwoMore cubic_control }
     ensures any { LetsOutTwoMore any_control }
+{}
+
+/// In recovery, behind each arrival, a window lets out no more from SND.UNA on than ssthresh and what blocks report, which has left the
+/// network (RFC 6675, 4 and 5), however many duplicates say the same: a peer whose blocks tell nothing new has nothing let out.
+pub fn pipe_stays_in_threshold<C: Paced, W: Congestion>()
+    ensures { RecoveryKeepsPipe W.control → PipeStaysInThreshold C.machine W.control }
+{}
+
+/// Each window keeps the pipe so (RFC 6675, 4 and 5).
+pub fn each_window_keeps_the_pipe()
+    ensures reno { RecoveryKeepsPipe reno_control }
+    ensures cubic { RecoveryKeepsPipe cubic_control }
+    ensures any { RecoveryKeepsPipe any_control }
 {}
 
 /// Each end of a good Config that `connect` or `listen` opens has room for text in a full segment.

@@ -100,6 +100,7 @@ machine = record {
   wants = wants;
   una = λ s. s.una;
   flight = λ s. s.nxt - s.una;
+  reported = λ s. if s.has_gap then 1 else 0;
   ignores_resets = λ s. s.is_resting;
   expired = expired;
   report = λ s src dst bytes way. report s src dst bytes;

@@ -176,6 +176,10 @@ impl Core for Small {
         self.nxt.saturating_sub(self.una)
     }
 
+    fn reported(&self) -> u64 {
+        u64::from(self.has_gap)
+    }
+
     fn ignores_resets(&self) -> bool {
         self.is_resting
     }

@@ -26,10 +26,10 @@ awaits_fin s = (s.is_closed && s.una == s.accepted) && (s.unread == 0 && (not s.
 
 abbrev pub wants : Small → Wants
 wants s =
-    record { retransmit = is_in_flight s; reorder = s.has_gap && is_open s; time_wait = s.is_resting && is_open s; fin_wait_2 = awaits_fin s }
+    record { retransmit = is_in_flight s; reorder = nat_lt 0 s.reported && is_open s; time_wait = s.is_resting && is_open s; fin_wait_2 = awaits_fin s }
 
 abbrev pub expired : Small → Timer → Small
-expired s Retransmit = record s { again = s.una; until = s.nxt; has_gap = false }
+expired s Retransmit = record s { again = s.una; until = s.nxt; reported = 0 }
 expired s Reorder = record s { again = s.una; until = min (s.una + 1) (2 ^ 64 - 1) }
 expired s TimeWait = record s { is_over = true }
 expired s User = record s { is_over = true }
@@ -47,7 +47,7 @@ abbrev pub arrived : Small → List ℕ → List ℕ → List ℕ → Small
 arrived s src dst (ack ∷ gap ∷ fin ∷ window ∷ rest) = record s {
   una = acked_to s ack;
   again = max s.again (acked_to s ack);
-  has_gap = gap == 1;
+  reported = gap;
   is_owed = fin == 1 || s.is_owed;
   unread = if fin == 1 then 1 else s.unread;
   is_resting = if fin == 1 then s.is_resting || acked_to s ack == s.nxt else s.is_resting;
@@ -101,6 +101,7 @@ machine = record {
   wants = wants;
   una = λ s. s.una;
   flight = λ s. s.nxt - s.una;
+  reported = λ s. s.reported;
   ignores_resets = λ s. s.is_resting;
   expired = expired;
   report = λ s src dst bytes way. report s src dst bytes;

@@ -62,7 +62,7 @@ pub(crate) fn new_driver(first: u64, now: u64) -> Driver<Small> {
         again: 0,
         until: 0,
         unread: 0,
-        has_gap: false,
+        reported: 0,
         is_owed: false,
         is_resting: false,
         is_closed: false,

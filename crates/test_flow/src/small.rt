@@ -21,8 +21,8 @@ const NOTHING: Report = Report {
     from_peer: false,
 };
 
-/// An end that sends numbers, one in a segment. What comes to it, from anywhere, is an acknowledgement, whether the peer
-/// reports a gap, the peer's FIN, and its window: a byte each. Byte 13 has the bit RST, as in a segment of RFC 9293, 3.1. It
+/// An end that sends numbers, one in a segment. What comes to it, from anywhere, is an acknowledgement, how many numbers the
+/// peer reports behind a gap, the peer's FIN, and its window: a byte each. Byte 13 has the bit RST, as in a segment of RFC 9293, 3.1. It
 /// has no checksum and no guard.
 #[derive(Clone, Copy, Debug, PartialEq, Eq)]
 pub struct Small {
@@ -38,8 +38,8 @@ pub struct Small {
     pub until: u64,
     /// What came and wasn't read.
     pub unread: u64,
-    /// Whether the peer reports a gap.
-    pub has_gap: bool,
+    /// How many numbers the peer reports behind a gap.
+    pub reported: u64,
     /// Whether an acknowledgement is pending.
     pub is_owed: bool,
     /// Whether it is in TIME-WAIT.
@@ -163,7 +163,7 @@ impl Core for Small {
     fn wants(&self) -> Wants {
         Wants {
             retransmit: self.una < self.nxt && !self.is_over,
-            reorder: self.has_gap && !self.is_over,
+            reorder: self.reported > 0 && !self.is_over,
             time_wait: self.is_resting && !self.is_over,
             fin_wait_2: self.awaits_fin(),
         }
@@ -177,6 +177,10 @@ impl Core for Small {
         self.nxt.saturating_sub(self.una)
     }
 
+    fn reported(&self) -> u64 {
+        self.reported
+    }
+
     fn ignores_resets(&self) -> bool {
         self.is_resting
     }
@@ -186,7 +190,7 @@ impl Core for Small {
             Timer::Retransmit => {
                 self.again = self.una;
                 self.until = self.nxt;
-                self.has_gap = false;
+                self.reported = 0;
             }
             Timer::Reorder => {
                 self.again = self.una;
@@ -204,7 +208,7 @@ impl Core for Small {
         let rested = self.is_resting;
         self.una = before.max(self.nxt.min(u64::from(*ack)));
         self.again = self.again.max(self.una);
-        self.has_gap = *gap == 1;
+        self.reported = u64::from(*gap);
         if *fin == 1 {
             self.is_owed = true;
             self.unread = 1;

@@ -121,6 +121,7 @@ fn happens<W: Congestion>(window: &mut W, word: &[u8], rest: &[u8]) -> Result<An
         }
         b"lost-again" => window.lost_again(),
         b"finds-by-time" => window.finds_by_time(),
+        b"keep-pipe" => window.keep_pipe(number(rest)?),
         b"resent" => window.resent(number(rest)?),
         b"syn-lost" => window.syn_was_resent(),
         b"idle" => window.was_idle(),
