@@ -1,3 +1,4 @@
 pub mod Values
 pub mod DrivenValues
+pub mod HostValues
 pub mod Connected

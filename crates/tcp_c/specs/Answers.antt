@@ -81,6 +81,22 @@ emit_first = 58
 abbrev pub withheld : ℕ
 withheld = 59
 
+-- a host has somebody under these values already
+abbrev pub taken : ℕ
+taken = 60
+
+-- the end, or the listener, of this name is gone
+abbrev pub gone : ℕ
+gone = 61
+
+-- the listener has as many ends in its backlog as it may
+abbrev pub backlog_full : ℕ
+backlog_full = 62
+
+-- nobody waits, or is due
+abbrev pub nobody : ℕ
+nobody = 63
+
 -- the answer of a call: of the end in the handle, or that there is none
 abbrev pub answer_of : {S : Type 0} → (S → ℕ) → Option S → ℕ
 answer_of answer None = no_end

@@ -4,7 +4,10 @@ pub mod Configs
 pub mod Connections
 pub mod DrivenHeld
 pub mod Held
+pub mod HostHeld
+pub mod Hosts
 pub mod Intakes
+pub mod Lodgers
 pub mod Lent
 pub mod Pacing
 pub mod Reports

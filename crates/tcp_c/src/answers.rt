@@ -55,6 +55,18 @@ pub const EMIT_FIRST: u32 = 58;
 /// The segment is a reset that counts as lost (RFC 1337, 3).
 pub const WITHHELD: u32 = 59;
 
+/// A host has somebody under these values already.
+pub const TAKEN: u32 = 60;
+
+/// The end, or the listener, of this name is gone.
+pub const GONE: u32 = 61;
+
+/// The listener has as many ends in its backlog as it may.
+pub const BACKLOG_FULL: u32 = 62;
+
+/// Nobody waits, or is due.
+pub const NOBODY: u32 = 63;
+
 /// The answer of a user call, without the value that it reports.
 pub(crate) fn call_number<T: Drop>(answer: Result<T, CallError>) -> u32
     ensures { result ≡ call_number answer }

@@ -3,6 +3,7 @@ ghost use Rattle.std.specs.Prelude.{◌≡◌};
 ghost use Rattle.std_alloc.specs.Box.Ownership.{box_owns};
 
 use crate::connection::driven::Driven;
+use crate::host::lodging::Lodging;
 use region_heap::{Region, Still};
 use std::alloc::Allocator;
 use std::marker::Model;
@@ -48,6 +49,16 @@ impl Loose<Endpoint<Region>, Region> {
 impl Loose<Driven, Region> {
     /// The same of an end with its timers.
     pub(crate) fn settled(self, still: Still) -> (Loose<Driven, Still>, Region)
+        ensures { result.0.value ≡ self.value }
+    {
+        let Loose { at, alloc } = self;
+        (Loose { at, alloc: still }, alloc)
+    }
+}
+
+impl Loose<Lodging, Region> {
+    /// The same of a host.
+    pub(crate) fn settled(self, still: Still) -> (Loose<Lodging, Still>, Region)
         ensures { result.0.value ≡ self.value }
     {
         let Loose { at, alloc } = self;

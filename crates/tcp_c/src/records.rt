@@ -316,3 +316,56 @@ pub struct CConnectionSegment {
     /// The address that it goes to.
     pub to: CAddr,
 }
+
+/// The name of an end or a listener in a host: no other one has it or had it.
+#[repr(C)]
+#[derive(Clone, Copy)]
+pub struct CHostId {
+    /// Its number, in the order in which they came.
+    pub number: u64,
+    /// Its slot: a small number from 0 on, which another one has once this one is gone. A caller's own table goes by it.
+    pub slot: usize,
+}
+
+/// What became of a segment that came to a host (RFC 9293, 3.3.1 and 3.10.7).
+#[repr(C)]
+#[derive(Clone, Copy)]
+pub struct CHostArrived {
+    /// The end that took it, or the listener; zero of anything else.
+    pub id: CHostId,
+    /// Whose it is: TCPCORE_PLACE_END, 1, to TCPCORE_PLACE_STRAY, 5; TCPCORE_PLACE_NONE, 0, where it is too short for ports.
+    pub place: u32,
+}
+
+/// A segment that a host wrote.
+#[repr(C)]
+#[derive(Clone, Copy)]
+pub struct CHostSent {
+    /// The end whose turn it was; zero of a TIME-WAIT record.
+    pub id: CHostId,
+    /// Its length in bytes, with its header.
+    pub length: usize,
+    /// Where it begins, as a position of its end's direction, as of a connection.
+    pub position: u64,
+    /// How many numbers it takes: one for each byte of text, one for a SYN, one for a FIN (RFC 9293, 3.4).
+    pub count: u64,
+    /// The address that it comes from.
+    pub from: CAddr,
+    /// The address that it goes to.
+    pub to: CAddr,
+    /// Whose turn it was: TCPCORE_PLACE_END, 1, or TCPCORE_PLACE_RECORD, 2; TCPCORE_PLACE_NONE, 0, where nobody waited.
+    pub place: u32,
+}
+
+/// Who was told the time.
+#[repr(C)]
+#[derive(Clone, Copy)]
+pub struct CHostTold {
+    /// The end; zero of a TIME-WAIT record, which is gone.
+    pub id: CHostId,
+    /// TCPCORE_PLACE_END, 1, or TCPCORE_PLACE_RECORD, 2; TCPCORE_PLACE_NONE, 0, where nobody was due.
+    pub place: u32,
+    /// The timer that has expired, TCPCORE_TIMER_RETRANSMIT, 0, to TCPCORE_TIMER_USER, 3; TCPCORE_TIMER_NONE, 4, where none has: what
+    /// was held back may go out.
+    pub timer: u32,
+}

@@ -56,6 +56,16 @@ impl DrivenHandle {
         mem::replace(self, live).discard();
     }
 
+    /// Puts an end in, if there is one, where there is none.
+    pub(crate) fn put_back(&mut self, driven: Option<Box<Driven, Still>>)
+        requires { self.old.held.end ≡ None }
+        ensures { self.new.held.end ≡ option_map (λ driven. driven.value) driven }
+    {
+        if let Some(driven) = driven {
+            self.put(driven);
+        }
+    }
+
     /// Discards a handle without an end.
     fn discard(self)
         requires { self.held.end ≡ None }

@@ -17,7 +17,7 @@ use tcp_conn::EMIT_ROOM;
 use tcp_driver::{Sent, Taken};
 
 /// What is reported of an arrival: its answer and its report.
-fn arrival_told(taken: Taken<tcp_conn::Taken>) -> (u32, CArriveReport)
+pub(crate) fn arrival_told(taken: Taken<tcp_conn::Taken>) -> (u32, CArriveReport)
     ensures answer { result.0 ≡ arrival_told taken }
     ensures report { result.1 ≡ taken_report taken }
 {

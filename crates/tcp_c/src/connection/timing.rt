@@ -15,7 +15,7 @@ use crate::connection::rules::{NEVER, limit_of};
 use tcp_driver::Timer;
 
 /// A time, or that there is none.
-fn time_number(time: Option<u64>) -> u64
+pub(crate) fn time_number(time: Option<u64>) -> u64
     ensures { result ≡ time_number time }
 {
     match time {
@@ -43,7 +43,7 @@ pub extern "C" fn tcp_c_connection_poll_at(handle: &mut DrivenHandle, at: &mut u
 }
 
 /// The number of a timer.
-fn timer_number(timer: Timer) -> u32
+pub(crate) fn timer_number(timer: Timer) -> u32
     ensures { result ≡ timer_number timer }
 {
     match timer {

@@ -1,0 +1,44 @@
+-- `into_loose` moves pointer and allocator back.
+use Rattle.std.proofs.Common.{◌≡◌, List, [], ◌∷◌, ◌++◌, refl, sym, subst, Some, IsSome}
+use mir.Val.{Val, vptr}
+use base.Logic.{SProp, ent, emp, id⊢}
+use base.Fml.{ftrue}
+use prog.Wp.{WpFn}
+use types.Kit.{‵, raw, ◌⊛◌, ◌$◌, ◌∵◌, !, qed, by, move, keep, split, fsplit, fjoin, suffices, use0}
+use types.Run.{stop, fld, of_opd, no_more, and_then, returns, enter}
+use types.ByLocal.{alloc_all, pass_all, free_all, look_at, get, get_in, sets}
+use types.Part.{agg, sub, whole}
+use contract.Monad.{fact, fact_i}
+use contract.Running.{tables}
+use denote.Exit.{yes}
+use denote.RattleType.{owns}
+use denote.Signature.{types_at, plain}
+use denote.RawPtr.{block_ptr}
+use denote.Steps.{nothing, heard}
+use denote.Triple.Walked.{Stays, stay_dropped, walk_of, Goes-dropped}
+use Rattle.std.proofs.raw_atomic.Walks.{proved_at, leaves}
+use Rattle.region_heap.proofs.still.Still.TheLaws as heap_laws
+use Rattle.region_heap.specs.contracts.still.StillAllocator.TheImpl.{ghosts}
+use Rattle.tcp_c.specs.HostHeld.{host_row}
+use Rattle.tcp_c.proofs.HostValues.{both, Heap, Held, loose_good, loose_in, held_out}
+use Rattle.tcp_c.specs.contracts.host.host_held.HostHeld.into_loose.{ended, clauses}
+use Rattle.tcp_c.specs.contracts.host.host_held.HostHeld.into_loose.Key.{name as #self}
+use Rattle.tcp_c.proofs.host.host_held.HostHeld.into_loose.Statement.{statement}
+use Rattle.tcp_c.proofs.host.host_held.HostHeld.into_loose.Code as code
+
+pub into_loose_spec : {M : Type 1} → statement M
+into_loose_spec 𝓤 𝓛 𝓜 𝓡 wired =
+    let H = 𝓛.H in let 𝓣 = tables 𝓤 H 𝓜 𝓡 𝓡.env in let c = clauses 𝓛 𝓜.mem 𝓡.returns in let fn = code.function in let L = heap_laws.the_row_laws in
+    let hs : Stays ended.signature.params ended.kept = (stay_dropped (plain (λ _. Held)) yes, tt) in
+    proved_at 𝓛 ended hs c 𝓜 𝓡 (Goes-dropped 𝓛 0 (plain (λ _. Held)) yes (λ κs x f. refl), tt) #self fn (code.unfolded 𝓤 H 𝓜 𝓡 wired) (λ z are.
+    let κs = z.0.0 in let d = z.0.3.0 in let Post : Val → SProp 𝓤 = (walk_of 𝓛 ended hs c).post z in let Run : List Val → SProp 𝓤 = λ ws. WpFn 𝓤 H 𝓣.C 𝓣.Λ fn ws Post in
+    qed 𝓛 ((‵ ftrue ⊛ ‵ (owns (types_at ended.signature.params κs) z.0.3 z.0.4)) ∷ raw (fact 𝓤 (IsSome d.host)) ∷ []) ∵ move ! (1 ∷ []) $ heard ! (IsSome d.host) (λ some. split ! $ move ! (1 ∷ []) $ fsplit ! $
+    held_out ! d z.0.4.0 some (λ b o h s is ws fits.
+    let w : Val = both (vptr b o) h in let typed = loose_good host_row Heap L ghosts b o h fits in
+    suffices ! (Run (w ∷ [])) (subst (λ (us : List Val). ent 𝓤 (Run (w ∷ [])) (Run us)) (sym (λ i. ws i ++ [])) (id⊢ 𝓤 (Run (w ∷ [])))) $
+    enter ! 𝓣.C 𝓣.Λ fn (w ∷ []) Post $ alloc_all ! (λ l. pass_all ! refl (typed, tt) $
+    sets ! (of_opd ! (get_in ! (fld ! refl (stop !)) (sub ! 0 refl (whole !)))) refl (tt, tt) $ sets ! (of_opd ! (get_in ! (fld ! refl (stop !)) (sub ! 1 refl (whole !)))) refl fits $
+    sets ! (of_opd ! (get ! refl)) refl (tt, tt) $ sets ! (agg ! (and_then ! (get ! refl) (and_then ! (get ! refl) (no_more !)))) refl typed $
+    loose_in host_row Heap L ghosts ! b o h d.heap s $
+    use0 𝓛 (raw (fact 𝓤 (d.host ≡ Some s))) (fact_i 𝓤 (d.host ≡ Some s) (emp 𝓤) is) $ nothing ! $ nothing ! $ fjoin ! $
+    returns ! (look_at ! 0 refl) $ free_all ! refl $ keep ! (4 ∷ 0 ∷ 2 ∷ 1 ∷ []) $ by ! (leaves 𝓛 ended hs c z w (record { at = block_ptr b o; alloc = d.heap; value = s }) (tt, tt) (tt, tt))))))
