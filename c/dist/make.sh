@@ -53,7 +53,8 @@ bindings() {
     cp "$top/c/bindings/cpp/"{tcpcore.hpp,test.cpp} "$place/cpp"
 }
 
-# The version, the soname's number and the date in the files of Debian's package, and the symbols by the map's nodes.
+# The version, the soname's number and the date in the files of Debian's package, and the symbols by the map's nodes. Hosts are in machine
+# code alone, which Debian's words for the compiler let be taken on amd64.
 debian() {
     local abi kind
     abi=$(sed -n 's/^TCPCORE_\([0-9]*\) {$/\1/p' "$core/tcpcore.map" | head -n 1)
@@ -63,7 +64,8 @@ debian() {
     {
         echo "libtcpcore.so.$abi libtcpcore$abi #MINVER#"
         awk '/^TCPCORE_[0-9]+ \{$/ { node = $1; print " " node "@" node " 0." substr(node, 9) }
-             /^ *tcpcore_[a-z_]*;$/ { sub(";", "", $1); print " " $1 "@" node " 0." substr(node, 9) }' "$core/tcpcore.map"
+             /^ *tcpcore_[a-z_]*;$/ { sub(";", "", $1); where = $1 ~ /^tcpcore_host_/ ? "(arch=amd64)" : ""
+                                     print " " where $1 "@" node " 0." substr(node, 9) }' "$core/tcpcore.map"
         sed -n 's/^__asm__("\.symver [a-z0-9_]*, \(tcpcore_[a-z_]*@TCPCORE_\([0-9]*\)\)");$/ \1 0.\2/p' "$core/older_ends.c"
     } >"$place/debian/libtcpcore$abi.symbols"
 }

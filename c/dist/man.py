@@ -63,9 +63,10 @@ def sections(header):
 
 
 def calls(header):
-    """Each call as (prototype, lines of its comment)."""
-    form = re.compile(r"^/\*(?:\n((?: \*.*\n)+?)| ([^\n]*?)) \*/\n((?:uint32_t|size_t|const char \*)\s*tcpcore_\w+\([^;]*\);)", re.M)
-    return [(" ".join(call.split()), comment_of(lines or line)) for lines, line, call in form.findall(header)]
+    """Each call as (prototype, lines of its comment): a comment may be of some calls behind it."""
+    one = r"(?:uint32_t|size_t|const char \*)\s*tcpcore_\w+\([^;]*\);\n"
+    form = re.compile(rf"^/\*(?:\n((?: \*.*\n)+?)| ([^\n]*?)) \*/\n((?:{one})+)", re.M)
+    return [(" ".join(call.split()), comment_of(lines or line)) for lines, line, text in form.findall(header) for call in re.findall(one, text)]
 
 
 def entries(body, form):
@@ -76,7 +77,7 @@ def entries(body, form):
 
 def fields(body):
     """A struct's fields, each below its comment, as (declaration, comment)."""
-    kind = r"(?:uint\d+_t|size_t|tcpcore_addr|tcpcore_piece|struct tcpcore_transmit|const void)"
+    kind = r"(?:uint\d+_t|size_t|tcpcore_addr|tcpcore_piece|struct tcpcore_(?:transmit|host_id)|const void)"
     form = rf"/\*((?:(?!\*/).)*)\*/\s*({kind} \*?\w+(?:\[\d+\])?);"
     return [(declaration, text) for text, declaration in re.findall(form, body, re.S)]
 
@@ -123,7 +124,7 @@ def main():
         out += [".PP"] * (not out[-1].startswith(".SH")) + [words(text)]
         out += tagged(entries(re.sub(r"^    /\*.*?\*/\n", "", body, flags=re.M | re.S), r"(TCPCORE_\w+ = \d+),?"))
     for tag, body in re.findall(r"struct (tcpcore_\w+) \{\n(.*?)^\}", header, re.M | re.S):
-        if tag in ("tcpcore_end", "tcpcore_addr", "tcpcore_connection"):
+        if tag in ("tcpcore_end", "tcpcore_addr", "tcpcore_connection", "tcpcore_host"):
             continue
         out += [f'.SH "STRUCT {tag}"', *tagged(fields(body))]
     out += [".SH \"SEE ALSO\"", "RFC 9293, RFC 7323, RFC 2018; docs/EMBEDDING.md of the tarball."]

@@ -53,12 +53,16 @@ unpack() {
 
 # Built, tested and installed, with the words of make; the example on what is installed and moved elsewhere.
 installed() {
+    # Hosts are tested, too, where there are any; pkg-config says whether there are.
+    local checks=10 hosts=-DTCPCORE_HAS_HOSTS
+    [[ $* != *-DTCPCORE_PORTABLE* ]] || checks=9 hosts=-DTCPCORE_PORTABLE
     cd "$place"
     bare make "$@"
     bare make check "$@"
-    [[ $(grep -c passed "$there/told") == 9 ]]
+    [[ $(grep -c passed "$there/told") == "$checks" ]]
     rm -rf "${there:?}/usr" "$there/moved"
     bare make install PREFIX="$there/usr" "$@"
+    grep -q "^Cflags: .* $hosts$" "$there/usr/lib/pkgconfig/tcpcore.pc" || fail "tcpcore.pc doesn't say $hosts"
     mv "$there/usr" "$there/moved"
     cp examples/two_ends.c "$there"
     cd "$there"

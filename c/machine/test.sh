@@ -31,10 +31,14 @@ roots=$(nm --defined-only "$libraries/x86-64/libtcp_c.a" | awk '$2 == "T" { prin
 
 # What a compiler with these words takes: the machine's name, or nothing.
 takes() { "$@" -I"$layer" -dM -E "$file" | sed -n 's/^#define MACHINE_CODE "\(.*\) machine code"$/\1/p'; }
+has_hosts() { "${@:2}" -I"$layer" -dM -E -x c "$1" | sed -n 's/^#define TCPCORE_HAS_HOSTS //p'; }
 chosen() {
     local wanted=$1
     shift
     [[ $(takes "$@") == "$wanted" ]] || fail "'$*' takes '$(takes "$@")' and not '$wanted'"
+    # The header, by itself too, says that there are hosts where machine code is taken, and nowhere else.
+    [[ $(has_hosts "$file" "$@") == "${wanted:+1}" && $(has_hosts "$layer/tcpcore.h" "$@") == "${wanted:+1}" ]] ||
+        fail "'$*' and hosts: '$(has_hosts "$file" "$@")' in the file, '$(has_hosts "$layer/tcpcore.h" "$@")' in the header"
     pass
 }
 

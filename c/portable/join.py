@@ -23,6 +23,7 @@ LAYER = HERE.parent / "tcpcore"
 # Z_NAME_instance_t, of the module's name, is renamed, too.
 RENAMED = [("  FUNC_PROLOGUE;\n", ""), ("  FUNC_EPILOGUE;\n", "")]
 INCLUDES = '#include "layout.h"\n#include "tcpcore.h"\n\n#include <string.h>\n'
+HAS_HOSTS = "/* The library has hosts, whatever the compiler is asked for. */\n#define TCPCORE_HAS_HOSTS 1\n\n"
 INCLUDES_HERE = """\
 #include "tcpcore.h"
 
@@ -67,9 +68,14 @@ LOUD = """\
 
 """
 
-# What the layer calls, and what it says of it.
+# What the layer calls, and what it says of it. A call of a host may reach the block of any of its connections, for which the windows of
+# memory.c are too few: so there are hosts in machine code alone.
 IN_C = """\
 #define MODULE static
+#undef TCPCORE_HAS_HOSTS
+#ifndef TCPCORE_PORTABLE
+#define TCPCORE_PORTABLE
+#endif
 #ifdef TCPCORE_UNCHECKED
 #define TCPCORE_BUILD "portable C, unchecked"
 #else
@@ -78,6 +84,7 @@ IN_C = """\
 """
 OF_MACHINE = """\
 #define MODULE extern __attribute__((visibility("hidden")))
+#define TCPCORE_HAS_HOSTS 1
 #define TCPCORE_BUILD MACHINE_CODE
 """
 
@@ -90,11 +97,11 @@ def layer():
     """tcpcore.c and layout.h in one, in C99, with the library's calls for this file's own."""
     text, layout = (LAYER / "tcpcore.c").read_text(), (LAYER / "layout.h").read_text()
     native = re.compile(r'^_Static_assert\(sizeof\(size_t\) == 8 && .*\n', re.M)
-    if len(native.findall(text)) != 1 or text.count(INCLUDES) != 1:
+    if len(native.findall(text)) != 1 or text.count(HAS_HOSTS + INCLUDES) != 1:
         stop("tcpcore.c isn't as it was")
     fields = layout[layout.index("#define FIELD") : layout.index("#endif", layout.index("#undef FIELD"))]
     holds = "/* Where the fields lie, on this machine too. */\n#define HOLDS(condition) extern const char tcpcore_holds[(condition) ? 1 : -1]\n"
-    text = native.sub("", text).replace(INCLUDES, INCLUDES_HERE + "\n" + holds + fields)
+    text = native.sub("", text).replace(HAS_HOSTS + INCLUDES, INCLUDES_HERE + "\n" + holds + fields)
     text = re.sub(r'_Static_assert\((.*), (?:#field )?".*"\)(;?)$', r"HOLDS(\1)\2", text, flags=re.M)
     text, calls = re.subn(r"^((?:uint32_t|size_t) tcp_c_\w+\()", r"MODULE \1", text, flags=re.M)
     # All calls of the header but these are the library's.
@@ -122,8 +129,24 @@ def table_of(text):
     return int(at), int(length), found
 
 
-def functions(text, module):
-    """wasm2c's functions of a module, and their declarations. What is in its memory from the start is `table_of`'s."""
+def reached(declared, body, roots):
+    """The functions that these need, and their declarations: of those of hosts nothing is called."""
+    form = r"^static (?:u32|u64|void) (w2c_\w+)\([^;{]*\) \{\n.*?^\}\n\n?"
+    each = {it[1]: it[0] for it in re.finditer(form, body, re.M | re.S)}
+    if missing := roots - each.keys():
+        stop(f"the module has no {sorted(missing)}")
+    found, left = set(), list(roots)
+    while left:
+        name = left.pop()
+        if name not in found:
+            found.add(name)
+            left += set(re.findall(r"\b(w2c_\w+)\(", each[name])) & each.keys()
+    lines = [line for line in declared.splitlines(keepends=True) if not (it := re.match(r"static \w+ (w2c_\w+)\(", line)) or it[1] in found]
+    return "".join(lines), "".join(text for name, text in each.items() if name in found)
+
+
+def functions(text, module, roots):
+    """wasm2c's functions of a module that these need, and their declarations. What is in its memory from the start is `table_of`'s."""
     instance = f"Z_{module}_instance_t\\*"
     globals_of, memories = (made_of(text, instance, what) for what in ("globals", "memories"))
     named = re.findall(r"instance->(\w+) = (\w+);\n", globals_of[1])
@@ -136,7 +159,7 @@ def functions(text, module):
         stop("the module has a table")
     declared = text[text.index("static u32 w2c___rattle_enter(") : globals_of.start()]
     start = re.search(rf"^static u32 w2c___rattle_enter\({instance} instance\)", text, re.M).start()
-    body = text[start : text.index("/* export: ")]
+    declared, body = reached(declared, text[start : text.index("/* export: ")], roots)
     names = set(re.findall(rf"^static (?:u32|u64|void) (w2c_\w+)\({instance}", declared, re.M))
     unknown = set(re.findall(r"\b([A-Za-z_]\w*)\(", body)) - names - KNOWN
     # REM_U of memory.c is of 32 bits, DIV_U of 64, which are enough for 32.
@@ -196,7 +219,8 @@ def with_machine_code(libraries, out, in_c):
 
 def main():
     text = pathlib.Path(sys.argv[1]).read_text()
-    declared, body = functions(text, "tcp_c")
+    calls = [(HERE / name).read_text() for name in ("calls.c", "time_wait_calls.c", "connection_calls.c")]
+    declared, body = functions(text, "tcp_c", set(re.findall(r"\b(w2c_tcp_c_\w+)\(", "".join(calls))))
     at, size, constants = table_of(text)
     stack = (stack_of(body) + 15) // 16 * 16
     body, loops, summed, pieces = quicker.quicker(body)
@@ -207,7 +231,6 @@ def main():
     table = f"/* The module's constants, and where they lie. */\nenum {{ TABLE_AT = {at} }};\n#define TABLE_SIZE {size}\n"
     table += f"static const unsigned char TABLE[] = {{\n{constants}\n}};\n\n" if size > 0 else "\n"
     module = "/* THE MODULE: crates/tcp_c and those below it, function by function, as wasm2c has written them. */\n"
-    calls = [(HERE / name).read_text() for name in ("calls.c", "time_wait_calls.c", "connection_calls.c")]
     parts = [QUIET, table, (HERE / "memory.c").read_text(), own, module, declared, body, LOUD, *calls]
     text = "".join([head_of("tcpcore_portable.c", "as wasm2c has translated them from WebAssembly"), IN_C, layer(), *parts])
     pathlib.Path(sys.argv[2]).write_text(text)

@@ -168,7 +168,8 @@ here() {
             tests_over "here.$compiler" $compiler -O1
             calls_over "here.$compiler" $compiler -O2
         done
-        wanted=$(grep -o '^[a-z].* \**tcpcore_[a-z_]*(' "$layer/tcpcore.h" | grep -o 'tcpcore_[a-z_]*' | sort)
+        # Hosts are in machine code alone.
+        wanted=$(grep -o '^[a-z].* \**tcpcore_[a-z_]*(' "$layer/tcpcore.h" | grep -o 'tcpcore_[a-z_]*' | grep -v '^tcpcore_host_' | sort)
         [[ $(names "out/here.$compiler.o") == "$wanted" ]] || fail "the names aren't the header's"
         pass
     done

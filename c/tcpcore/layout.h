@@ -176,6 +176,30 @@ FIELD(struct tcpcore_connection_segment, to, 24, 4);
 /* The library writes nothing behind these. */
 FIELD(struct tcpcore_connection_segment, reserved, 28, 36);
 _Static_assert(sizeof(struct tcpcore_connection_segment) == 64, "the size of struct tcpcore_connection_segment");
+FIELD(struct tcpcore_host_id, number, 0, 8);
+FIELD(struct tcpcore_host_id, slot, 8, 8);
+_Static_assert(sizeof(struct tcpcore_host_id) == 16, "the size of struct tcpcore_host_id");
+FIELD(struct tcpcore_host_arrived, id, 0, 16);
+FIELD(struct tcpcore_host_arrived, place, 16, 4);
+/* The library writes nothing behind these. */
+FIELD(struct tcpcore_host_arrived, reserved, 20, 44);
+_Static_assert(sizeof(struct tcpcore_host_arrived) == 64, "the size of struct tcpcore_host_arrived");
+FIELD(struct tcpcore_host_sent, id, 0, 16);
+FIELD(struct tcpcore_host_sent, length, 16, 8);
+FIELD(struct tcpcore_host_sent, position, 24, 8);
+FIELD(struct tcpcore_host_sent, count, 32, 8);
+FIELD(struct tcpcore_host_sent, from, 40, 4);
+FIELD(struct tcpcore_host_sent, to, 44, 4);
+FIELD(struct tcpcore_host_sent, place, 48, 4);
+/* The library writes nothing behind these. */
+FIELD(struct tcpcore_host_sent, reserved, 52, 44);
+_Static_assert(sizeof(struct tcpcore_host_sent) == 96, "the size of struct tcpcore_host_sent");
+FIELD(struct tcpcore_host_told, id, 0, 16);
+FIELD(struct tcpcore_host_told, place, 16, 4);
+FIELD(struct tcpcore_host_told, timer, 20, 4);
+/* The library writes nothing behind these. */
+FIELD(struct tcpcore_host_told, reserved, 24, 40);
+_Static_assert(sizeof(struct tcpcore_host_told) == 64, "the size of struct tcpcore_host_told");
 
 #undef FIELD
 

@@ -42,6 +42,7 @@ KINDS = {
     "*const u8": WORD,
     "[u8; 4]": Kind(4, 1, "uint8_t", "ctypes.c_uint8", "[u8; 4]"),
     "CAddr": Kind(4, 1, "tcpcore_addr", "AddrStruct", "Addr"),
+    "CHostId": Kind(16, 8, "struct tcpcore_host_id", "", ""),
 }
 
 
@@ -70,6 +71,10 @@ STRUCTS = {
     "CCongestion": Struct("struct tcpcore_congestion", 64, bound=False),
     "CPolicy": Struct("struct tcpcore_policy", 64, bound=False),
     "CConnectionSegment": Struct("struct tcpcore_connection_segment", 64, bound=False),
+    "CHostId": Struct("struct tcpcore_host_id", bound=False),
+    "CHostArrived": Struct("struct tcpcore_host_arrived", 64, bound=False),
+    "CHostSent": Struct("struct tcpcore_host_sent", 96, bound=False),
+    "CHostTold": Struct("struct tcpcore_host_told", 64, bound=False),
 }
 LAYOUT_HEAD = """\
 /*

@@ -2,6 +2,9 @@
  * The thin layer between C and the proved library: NULL, lengths, copied structs, and buffers or places over the struct, then the
  * library's own call. What that finds goes to a local first: the library relies on pointers of which no two are to the same bytes.
  */
+/* The library has hosts, whatever the compiler is asked for. */
+#define TCPCORE_HAS_HOSTS 1
+
 #include "layout.h"
 #include "tcpcore.h"
 
@@ -28,6 +31,7 @@ struct handle {
 _Static_assert(sizeof(struct handle) == OWNER * sizeof(uint64_t), "the handle is the struct's first words");
 _Static_assert(sizeof(tcpcore_end) == (OWNER + 1) * sizeof(uint64_t), "the handle and the struct's own address");
 _Static_assert(sizeof(tcpcore_connection) == sizeof(tcpcore_end), "a connection's struct is as an end's");
+_Static_assert(sizeof(tcpcore_host) == sizeof(tcpcore_end), "and so is a host's");
 
 /* Memory as the library takes it: it begins at a multiple of UNIT, and its size is one. */
 struct block {
@@ -1055,6 +1059,329 @@ uint32_t tcpcore_connection_set_recovery(tcpcore_connection *connection, uint64_
     return answer != TCPCORE_DONE ? answer : tcp_c_connection_set_recovery(handle_in(connection), units_of(block, length), now);
 }
 
+/* ---- hosts */
+
+#ifdef TCPCORE_HAS_HOSTS
+uint32_t tcp_c_host_new(struct handle *, struct block, uint64_t, uint64_t);
+uint32_t tcp_c_host_free(struct handle *);
+uint32_t tcp_c_host_listen(struct handle *, const tcpcore_addr *, uint16_t, size_t, struct tcpcore_host_id *);
+uint32_t tcp_c_host_unlisten(struct handle *, const struct tcpcore_host_id *);
+uint32_t tcp_c_host_open(struct handle *, struct handle *, struct tcpcore_host_id *);
+uint32_t tcp_c_host_admit(struct handle *, const struct tcpcore_host_id *, struct handle *, const tcpcore_addr *, const tcpcore_addr *,
+                          const uint8_t *, size_t, struct tcpcore_host_id *);
+uint32_t tcp_c_host_accept(struct handle *, const struct tcpcore_host_id *, struct tcpcore_host_id *);
+uint32_t tcp_c_host_retire(struct handle *, const struct tcpcore_host_id *, struct handle *);
+uint32_t tcp_c_host_remove(struct handle *, const struct tcpcore_host_id *, struct handle *);
+uint32_t tcp_c_host_arrive(struct handle *, uint64_t, const tcpcore_addr *, const tcpcore_addr *, const uint8_t *, size_t,
+                           struct tcpcore_host_arrived *, struct tcpcore_arrive_report *);
+uint32_t tcp_c_host_stray(struct handle *, uint64_t, const tcpcore_addr *, const tcpcore_addr *, const uint8_t *, size_t, uint8_t *, size_t,
+                          size_t *);
+uint32_t tcp_c_host_emit(struct handle *, uint64_t, uint64_t, uint8_t *, size_t, struct tcpcore_host_sent *);
+uint32_t tcp_c_host_timeout(struct handle *, uint64_t, struct tcpcore_host_told *);
+uint32_t tcp_c_host_poll_at(struct handle *, uint64_t *);
+uint32_t tcp_c_host_send(struct handle *, uint64_t, const struct tcpcore_host_id *, const uint8_t *, size_t, size_t *);
+uint32_t tcp_c_host_receive(struct handle *, uint64_t, const struct tcpcore_host_id *, uint8_t *, size_t, size_t *);
+uint32_t tcp_c_host_acknowledge(struct handle *, uint64_t, const struct tcpcore_host_id *);
+uint32_t tcp_c_host_close(struct handle *, uint64_t, const struct tcpcore_host_id *);
+uint32_t tcp_c_host_abort(struct handle *, uint64_t, const struct tcpcore_host_id *);
+uint32_t tcp_c_host_status(struct handle *, const struct tcpcore_host_id *, struct tcpcore_status *);
+uint32_t tcp_c_host_peer(struct handle *, const struct tcpcore_host_id *, tcpcore_addr *, uint16_t *);
+
+STEP struct handle *handle_of(tcpcore_host *host) { return (struct handle *)host->opaque; }
+
+STEP uint32_t host_refusal(const tcpcore_host *host) { return host ? refusal_at(host->opaque) : TCPCORE_NULL; }
+
+STEP struct object host_at(const tcpcore_host *host) { return (struct object){host, sizeof *host}; }
+
+STEP uint32_t host_refusal_with(const tcpcore_host *host, const void *bytes, size_t length, struct place place)
+{
+    uint32_t answer = refusal_beside(host_at(host), bytes, length, place);
+    return answer != TCPCORE_DONE ? answer : host_refusal(host);
+}
+
+STEP uint32_t host_refusal_with_two(const tcpcore_host *host, const void *bytes, size_t length, struct place one, struct place other)
+{
+    uint32_t answer = refusal_beside_two(host_at(host), bytes, length, one, other);
+    return answer != TCPCORE_DONE ? answer : host_refusal(host);
+}
+
+uint32_t tcpcore_host_new(tcpcore_host *host, uint64_t time_wait, uint64_t stray_interval, void *block, size_t length)
+{
+    uint32_t answer = host_refusal_with(host, block, length, (struct place){NOWHERE, 0});
+    if (answer != TCPCORE_DONE)
+        return answer;
+    answer = tcp_c_host_new(handle_of(host), units_of(block, length), time_wait, stray_interval);
+    if (answer == TCPCORE_DONE)
+        host->opaque[OWNER] = (uintptr_t)host;
+    return answer;
+}
+
+uint32_t tcpcore_host_free(tcpcore_host *host)
+{
+    uint32_t answer = host_refusal(host);
+    if (answer != TCPCORE_DONE)
+        return answer;
+    answer = tcp_c_host_free(handle_of(host));
+    if (answer == TCPCORE_DONE)
+        memset(host, 0, sizeof *host);
+    return answer;
+}
+
+uint32_t tcpcore_host_listen(tcpcore_host *host, tcpcore_addr addr, uint16_t port, size_t backlog, struct tcpcore_host_id *listener)
+{
+    struct tcpcore_host_id found = {0, 0};
+    struct place place = {listener, sizeof *listener};
+    tcpcore_config config = {.addr = addr, .port = port};
+    uint32_t refused = host_refusal_with(host, NULL, 0, place), answer = refused;
+    if (refused == TCPCORE_DONE)
+        answer = refusal_of(&config);
+    if (answer == TCPCORE_DONE)
+        answer = tcp_c_host_listen(handle_of(host), &addr, port, backlog, &found);
+    put(refused, place, host_at(host), NULL, 0, &found);
+    return answer;
+}
+
+/* A call that is told a name alone, which may lie anywhere. */
+STEP uint32_t host_refusal_by(const tcpcore_host *host, const struct tcpcore_host_id *id) { return id ? host_refusal(host) : TCPCORE_NULL; }
+
+uint32_t tcpcore_host_unlisten(tcpcore_host *host, const struct tcpcore_host_id *listener)
+{
+    uint32_t answer = host_refusal_by(host, listener);
+    if (answer != TCPCORE_DONE)
+        return answer;
+    struct tcpcore_host_id here = *listener;
+    return tcp_c_host_unlisten(handle_of(host), &here);
+}
+
+/* A connection moves into a host, or out of it: its struct is another one, and lies where it was made. */
+STEP uint32_t refusal_to_move(const tcpcore_host *host, const tcpcore_connection *connection, struct place place)
+{
+    uint32_t answer = connection ? host_refusal_with(host, connection, sizeof *connection, place) : TCPCORE_NULL;
+    return answer != TCPCORE_DONE ? answer : connection_refusal(connection);
+}
+
+/* A connection that has moved in leaves an empty struct. */
+STEP uint32_t moved_in(tcpcore_connection *connection, uint32_t answer)
+{
+    if (answer == TCPCORE_DONE)
+        memset(connection, 0, sizeof *connection);
+    return answer;
+}
+
+uint32_t tcpcore_host_open(tcpcore_host *host, tcpcore_connection *connection, struct tcpcore_host_id *id)
+{
+    struct tcpcore_host_id found = {0, 0};
+    struct place place = {id, sizeof *id};
+    uint32_t refused = refusal_to_move(host, connection, place), answer = refused;
+    if (refused == TCPCORE_DONE)
+        answer = moved_in(connection, tcp_c_host_open(handle_of(host), handle_in(connection), &found));
+    put(refused, place, host_at(host), connection, sizeof *connection, &found);
+    return answer;
+}
+
+uint32_t tcpcore_host_admit(tcpcore_host *host, const struct tcpcore_host_id *listener, tcpcore_connection *connection, tcpcore_addr src,
+                            tcpcore_addr dst, const void *bytes, size_t length, struct tcpcore_host_id *id)
+{
+    struct tcpcore_host_id found = {0, 0};
+    struct place place = {id, sizeof *id};
+    uint32_t refused = listener ? host_refusal_with(host, bytes, length, place) : TCPCORE_NULL;
+    if (refused == TCPCORE_DONE)
+        refused = refusal_to_move(host, connection, place);
+    if (refused == TCPCORE_DONE && overlap(connection, sizeof *connection, bytes, length))
+        refused = TCPCORE_OVERLAP;
+    uint32_t answer = refused;
+    if (refused == TCPCORE_DONE) {
+        struct tcpcore_host_id here = *listener;
+        answer = tcp_c_host_admit(handle_of(host), &here, handle_in(connection), &src, &dst, front(bytes), length, &found);
+        answer = moved_in(connection, answer);
+    }
+    if (!overlap(place.at, place.size, connection, sizeof *connection))
+        put(refused, place, host_at(host), bytes, length, &found);
+    return answer;
+}
+
+uint32_t tcpcore_host_accept(tcpcore_host *host, const struct tcpcore_host_id *listener, struct tcpcore_host_id *id)
+{
+    struct tcpcore_host_id found = {0, 0};
+    struct place place = {id, sizeof *id};
+    uint32_t refused = listener ? host_refusal_with(host, NULL, 0, place) : TCPCORE_NULL, answer = refused;
+    if (refused == TCPCORE_DONE) {
+        struct tcpcore_host_id here = *listener;
+        answer = tcp_c_host_accept(handle_of(host), &here, &found);
+    }
+    put(refused, place, host_at(host), NULL, 0, &found);
+    return answer;
+}
+
+uint32_t tcpcore_host_retire(tcpcore_host *host, const struct tcpcore_host_id *id, tcpcore_connection *connection)
+{
+    uint32_t answer = id ? refusal_to_move(host, connection, (struct place){NOWHERE, 0}) : TCPCORE_NULL;
+    if (answer != TCPCORE_DONE)
+        return answer;
+    struct tcpcore_host_id here = *id;
+    return made(connection, tcp_c_host_retire(handle_of(host), &here, handle_in(connection)));
+}
+
+uint32_t tcpcore_host_remove(tcpcore_host *host, const struct tcpcore_host_id *id, tcpcore_connection *connection)
+{
+    uint32_t answer = id ? refusal_to_move(host, connection, (struct place){NOWHERE, 0}) : TCPCORE_NULL;
+    if (answer != TCPCORE_DONE)
+        return answer;
+    struct tcpcore_host_id here = *id;
+    return made(connection, tcp_c_host_remove(handle_of(host), &here, handle_in(connection)));
+}
+
+uint32_t tcpcore_host_arrive(tcpcore_host *host, uint64_t now, tcpcore_addr src, tcpcore_addr dst, const void *bytes, size_t length,
+                             struct tcpcore_host_arrived *arrived, struct tcpcore_arrive_report *report)
+{
+    struct tcpcore_host_arrived found = {{0, 0}, 0, {0}};
+    struct tcpcore_arrive_report told = {0};
+    struct place where = {arrived, sizeof *arrived}, place = {report, sizeof *report};
+    uint32_t refused = host_refusal_with_two(host, bytes, length, where, place), answer = refused;
+    if (refused == TCPCORE_DONE)
+        answer = tcp_c_host_arrive(handle_of(host), now, &src, &dst, front(bytes), length, &found, &told);
+    put(refused, where, host_at(host), bytes, length, &found);
+    put(refused, place, host_at(host), bytes, length, &told);
+    return answer;
+}
+
+uint32_t tcpcore_host_stray(tcpcore_host *host, uint64_t now, tcpcore_addr src, tcpcore_addr dst, const void *bytes, size_t length,
+                            void *out, size_t room, size_t *written)
+{
+    size_t found = 0;
+    struct place place = {written, sizeof *written};
+    uint32_t answer = host_refusal_with(host, out, room, place);
+    if (answer == TCPCORE_DONE)
+        answer = host_refusal_with(host, bytes, length, place);
+    if (answer == TCPCORE_DONE)
+        answer = refusal_of_stray(bytes, length, out, room, place);
+    if (answer == TCPCORE_DONE)
+        answer = tcp_c_host_stray(handle_of(host), now, &src, &dst, front(bytes), length, start(out), room, &found);
+    if (written && is_beside(place, bytes, length, out, room) && !overlap(place.at, place.size, host, sizeof *host))
+        *written = found;
+    return answer;
+}
+
+uint32_t tcpcore_host_emit(tcpcore_host *host, uint64_t now, uint64_t window, void *out, size_t room, struct tcpcore_host_sent *sent)
+{
+    struct tcpcore_host_sent found = {.length = 0};
+    struct place place = {sent, sizeof *sent};
+    uint32_t refused = host_refusal_with(host, out, room, place), answer = refused;
+    if (refused == TCPCORE_DONE)
+        answer = tcp_c_host_emit(handle_of(host), now, window, start(out), room, &found);
+    put(refused, place, host_at(host), out, room, &found);
+    return answer;
+}
+
+uint32_t tcpcore_host_timeout(tcpcore_host *host, uint64_t now, struct tcpcore_host_told *told)
+{
+    struct tcpcore_host_told found = {.timer = TCPCORE_TIMER_NONE};
+    struct place place = {told, sizeof *told};
+    uint32_t refused = host_refusal_with(host, NULL, 0, place), answer = refused;
+    if (refused == TCPCORE_DONE)
+        answer = tcp_c_host_timeout(handle_of(host), now, &found);
+    put(refused, place, host_at(host), NULL, 0, &found);
+    return answer;
+}
+
+uint32_t tcpcore_host_poll_at(const tcpcore_host *host, uint64_t *at)
+{
+    uint64_t found = 0;
+    struct place place = {at, sizeof *at};
+    uint32_t refused = host_refusal_with(host, NULL, 0, place), answer = refused;
+    if (refused == TCPCORE_DONE) {
+        struct handle copy = copy_in(host->opaque);
+        answer = tcp_c_host_poll_at(&copy, &found);
+    }
+    put(refused, place, host_at(host), NULL, 0, &found);
+    return answer;
+}
+
+uint32_t tcpcore_host_send(tcpcore_host *host, uint64_t now, const struct tcpcore_host_id *id, const void *text, size_t length,
+                           size_t *taken)
+{
+    size_t found = 0;
+    struct place place = {taken, sizeof *taken};
+    uint32_t refused = id ? host_refusal_with(host, text, length, place) : TCPCORE_NULL, answer = refused;
+    if (refused == TCPCORE_DONE) {
+        struct tcpcore_host_id here = *id;
+        answer = tcp_c_host_send(handle_of(host), now, &here, front(text), length, &found);
+    }
+    put(refused, place, host_at(host), text, length, &found);
+    return answer;
+}
+
+uint32_t tcpcore_host_receive(tcpcore_host *host, uint64_t now, const struct tcpcore_host_id *id, void *out, size_t room, size_t *count)
+{
+    size_t found = 0;
+    struct place place = {count, sizeof *count};
+    uint32_t refused = id ? host_refusal_with(host, out, room, place) : TCPCORE_NULL, answer = refused;
+    if (refused == TCPCORE_DONE) {
+        struct tcpcore_host_id here = *id;
+        answer = tcp_c_host_receive(handle_of(host), now, &here, start(out), room, &found);
+    }
+    put(refused, place, host_at(host), out, room, &found);
+    return answer;
+}
+
+uint32_t tcpcore_host_acknowledge(tcpcore_host *host, uint64_t now, const struct tcpcore_host_id *id)
+{
+    uint32_t answer = host_refusal_by(host, id);
+    if (answer != TCPCORE_DONE)
+        return answer;
+    struct tcpcore_host_id here = *id;
+    return tcp_c_host_acknowledge(handle_of(host), now, &here);
+}
+
+uint32_t tcpcore_host_close(tcpcore_host *host, uint64_t now, const struct tcpcore_host_id *id)
+{
+    uint32_t answer = host_refusal_by(host, id);
+    if (answer != TCPCORE_DONE)
+        return answer;
+    struct tcpcore_host_id here = *id;
+    return tcp_c_host_close(handle_of(host), now, &here);
+}
+
+uint32_t tcpcore_host_abort(tcpcore_host *host, uint64_t now, const struct tcpcore_host_id *id)
+{
+    uint32_t answer = host_refusal_by(host, id);
+    if (answer != TCPCORE_DONE)
+        return answer;
+    struct tcpcore_host_id here = *id;
+    return tcp_c_host_abort(handle_of(host), now, &here);
+}
+
+uint32_t tcpcore_host_status(const tcpcore_host *host, const struct tcpcore_host_id *id, struct tcpcore_status *status)
+{
+    struct tcpcore_status found = {0};
+    struct place place = {status, sizeof *status};
+    uint32_t refused = id ? host_refusal_with(host, NULL, 0, place) : TCPCORE_NULL, answer = refused;
+    if (refused == TCPCORE_DONE) {
+        struct handle copy = copy_in(host->opaque);
+        struct tcpcore_host_id here = *id;
+        answer = tcp_c_host_status(&copy, &here, &found);
+    }
+    put(refused, place, host_at(host), NULL, 0, &found);
+    return answer;
+}
+
+uint32_t tcpcore_host_peer(const tcpcore_host *host, const struct tcpcore_host_id *id, tcpcore_addr *addr, uint16_t *port)
+{
+    tcpcore_addr address = {{0, 0, 0, 0}};
+    uint16_t found = 0;
+    struct place where = {addr, sizeof *addr}, place = {port, sizeof *port};
+    uint32_t refused = id ? host_refusal_with_two(host, NULL, 0, where, place) : TCPCORE_NULL, answer = refused;
+    if (refused == TCPCORE_DONE) {
+        struct handle copy = copy_in(host->opaque);
+        struct tcpcore_host_id here = *id;
+        answer = tcp_c_host_peer(&copy, &here, &address, &found);
+    }
+    put(refused, where, host_at(host), NULL, 0, &address);
+    put(refused, place, host_at(host), NULL, 0, &found);
+    return answer;
+}
+#endif
+
 /* The texts, by their answers. */
 static const char *const TEXTS[] = {
     [TCPCORE_DONE] = "done",
@@ -1097,6 +1424,10 @@ static const char *const TEXTS[] = {
     [TCPCORE_NOT_TIME_WAIT] = "not in TIME-WAIT, or bytes are unread",
     [TCPCORE_EMIT_FIRST] = "a timer has expired: what is due goes out first",
     [TCPCORE_WITHHELD] = "a reset that counts as lost",
+    [TCPCORE_TAKEN] = "somebody of the host has these values already",
+    [TCPCORE_GONE] = "the connection or the listener of this name is gone",
+    [TCPCORE_BACKLOG_FULL] = "the listener's backlog is full",
+    [TCPCORE_NOBODY] = "nobody waits",
 };
 
 const char *tcpcore_strerror(uint32_t answer)

@@ -20,7 +20,7 @@ warnings="-std=c11 -g -Wall -Wextra -Wpedantic -Wcast-qual -Wconversion -Wshadow
 sanitizers="-O1 -fsanitize=address,undefined -fno-sanitize-recover=all"
 # The header's calls that are the library's; four are the layer's alone.
 calls=$(grep -o '^[a-z].* \**tcpcore_[a-z_]*(' tcpcore.h | sed -n 's/.*tcpcore_\([a-z_]*\)($/\1/p' | grep -vxE 'strerror|version|build|new_at' | sort)
-tests="examples/two_ends examples/hello tests/misuse tests/misuse_numbers tests/misuse_time_wait tests/room tests/runs tests/fields tests/answers tests/cautions tests/time_wait tests/old_names tests/reports tests/misuse_lending tests/lending tests/train tests/pacing tests/placed tests/defaults tests/connection tests/connection_train tests/connection_guard tests/connection_link tests/congestion tests/policy tests/recovery tests/hostile tests/worlds"
+tests="examples/two_ends examples/hello tests/misuse tests/misuse_numbers tests/misuse_time_wait tests/room tests/runs tests/fields tests/answers tests/cautions tests/time_wait tests/old_names tests/reports tests/misuse_lending tests/lending tests/train tests/pacing tests/placed tests/defaults tests/connection tests/connection_train tests/connection_guard tests/connection_link tests/congestion tests/policy tests/recovery tests/hostile tests/worlds tests/host tests/host_room tests/host_world"
 passed=0
 
 pass() { passed=$((passed + 1)); }
@@ -55,6 +55,14 @@ depth() {
     "$compiler" $warnings "$level" -c tcpcore.c -o "out/layer.$compiler.o"
     python3 tests/depth.py "$objdump" "$bound" "$making" "$recovery" "$(tail -n 1 out/errors)" "out/layer.$compiler.o" "$library"
     pass
+}
+
+# The echo server, whose packets are the companions' (c/companions); checks/live/run.sh runs it against this machine's kernel.
+echo_server() {
+    local compiler=$1 program=$2
+    shift 2
+    "$compiler" $warnings -I. -I../companions "$@" examples/host_echo.c ../companions/ip.c ../companions/secret.c tcpcore.c "$library" \
+        -o "out/host_echo.$program"
 }
 
 # No C library: the functions that are needed come from the program.
@@ -92,6 +100,8 @@ check_with() {
     # It takes some seconds, and what it runs of the layer the other tests run under the sanitizers.
     runs tests/blind "$compiler" -O2
     static_block "$compiler"
+    echo_server "$compiler" "$compiler" -O2
+    pass
     # The shared library: the header's calls and no other name.
     "$compiler" $warnings -O2 -shared -fPIC tcpcore.c "$library" -Wl,--exclude-libs,ALL -Wl,-z,defs \
         -o "$shared"
@@ -104,6 +114,8 @@ check_with() {
         for source in $tests; do
             runs "$source" "$compiler" $sanitizers
         done
+        echo_server "$compiler" sanitized $sanitizers
+        pass
     fi
 }
 

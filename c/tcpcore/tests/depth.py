@@ -9,7 +9,9 @@ jumps through a register stays within its function.
 The deepest sum over the functions tcpcore_* is printed, without what memcpy, memmove and memset take. It has to be at
 most BOUND, and at least MEASURED less the frame of the test and what memset takes. That of the calls that make a
 connection is printed apart, and has to be at most OF_MAKING. What runs on a connection that has a recovery alone isn't
-followed for either: with that the calls of a connection have to take at most OF_RECOVERY.
+followed for either: with that the calls of a connection, and all those of a host, have to take at most OF_RECOVERY. A
+host's go down the trees of its tables, by functions that call themselves for a node one level down: a tree of LEVELS
+levels is the deepest that is counted.
 """
 
 import re
@@ -23,6 +25,11 @@ MAKERS = {"tcpcore_connection_connect", "tcpcore_connection_listen"}
 # What gives a connection its recovery, and what runs where it has one alone.
 RECOVERY = "tcpcore_connection_set_recovery"
 RECOVERING = re.compile(r"tcp_repair::repairing::Repairing::(arrive|arrive_vouched|emit|emit_train)_repairing\b")
+HOST = "tcpcore_host_"
+# What goes down a tree. A tree with one level more has 2 * 6^LEVELS - 1 keys at least, some three million: a node has six edges or more,
+# and the root two.
+DOWN = re.compile(r"std_collections::btree::node::Node::")
+LEVELS = 8
 # What a measurement counts beside: the frame of the test, and what memset takes.
 BESIDE = 256
 HEAD = re.compile(r"^[0-9a-f]+ <(?P<name>.+)>:$")
@@ -89,8 +96,11 @@ class Reader:
         self.functions = {}
         self.machine = X86 if "elf64-x86-64" in text else Aarch64
         self.name = self.goes = None
+        # What the last instruction calls, unless a relocation behind it tells otherwise.
+        self.called = None
         for line in text.split("\n"):
             if found := HEAD.match(line):
+                self.end_call()
                 self.name = found["name"]
                 self.functions.setdefault(self.name, Function(self.machine.link))
             elif found := LINE.match(line):
@@ -98,9 +108,16 @@ class Reader:
                 self.instruction(found["word"], re.sub(r" +// .*", "", rest).strip(), place)
             elif found := RELOCATION.match(line):
                 self.relocation(plain(found["name"]))
+        self.end_call()
+
+    def end_call(self):
+        if self.called:
+            self.functions[self.name].calls.add(self.called)
+        self.called = None
 
     def instruction(self, word, rest, told):
         machine, function = self.machine, self.functions[self.name]
+        self.end_call()
         moved = machine.moved(word, rest)
         if moved is None:
             raise Fault(f"{self.name} moves the stack pointer by '{word} {rest}'")
@@ -115,14 +132,12 @@ class Reader:
             raise Fault(f"{self.name} takes the address of {place['name']}")
         # A local label (.L) stands in the function's own section.
         if place and self.goes and not place["name"].startswith(".L") and (is_call or place["name"] != self.name):
-            function.calls.add(place["name"])
+            self.called = place["name"]
 
     def relocation(self, name):
-        function = self.functions[self.name]
         if self.goes:
             # Until it is filled in the instruction itself names its own place.
-            function.calls.discard(self.name)
-            function.calls.add(name)
+            self.called = name
         elif name in self.functions or name == ".text":
             raise Fault(f"{self.name} takes the address of {name}")
 
@@ -139,16 +154,20 @@ def check_tables(text, functions):
                 raise Fault(f"{section} has the address of {name}")
 
 
-def depth(functions, machine, name, recovers, above=()):
-    """The bytes of the deepest chain from here on, and the chain; with what a recovery does, or without it."""
-    if name in above:
-        raise Fault(f"{name} is called again below itself, by {above[-1]}")
+def depth(functions, machine, name, recovers, levels=0, above=()):
+    """The bytes of the deepest chain from here on, and the chain; with what a recovery does, or without it; and down so many levels."""
     if name in OUTSIDE or not recovers and RECOVERING.match(name):
         return 0, ()
     if name not in functions:
         raise Fault(f"{name} isn't here, and {above[-1]} calls it")
-    calls = sorted(functions[name].calls)
-    bytes_, chain = max((depth(functions, machine, call, recovers, (*above, name)) for call in calls), default=(machine.below, ()))
+    if levels and DOWN.match(name) and name in functions[name].calls:
+        levels -= 1
+        calls = sorted(call for call in functions[name].calls if levels or call not in functions or call not in functions[call].calls)
+    elif name in above:
+        raise Fault(f"{name} is called again below itself, by {above[-1]}")
+    else:
+        calls = sorted(functions[name].calls)
+    bytes_, chain = max((depth(functions, machine, call, recovers, levels, (*above, name)) for call in calls), default=(machine.below, ()))
     return functions[name].frame + bytes_, (name, *chain)
 
 
@@ -161,10 +180,11 @@ def main():
         reader = Reader(told[0])
         functions.update(reader.functions)
         check_tables(told[1], reader.functions)
-    entries = [name for name in functions if name.startswith("tcpcore_") and name not in MAKERS]
+    hosts = [name for name in functions if name.startswith(HOST)]
+    entries = [name for name in functions if name.startswith("tcpcore_") and name not in MAKERS and name not in hosts]
 
-    def deepest_of(names, recovers):
-        return max(depth(functions, reader.machine, name, recovers) for name in names)
+    def deepest_of(names, recovers, levels=0):
+        return max(depth(functions, reader.machine, name, recovers, levels) for name in names)
 
     made, making = deepest_of(MAKERS, False)
     print(f"depth: {made} bytes of {of_making}: {' > '.join(making)}")
@@ -174,6 +194,11 @@ def main():
     print(f"depth: {recovered} bytes of {of_recovery} with a recovery: {' > '.join(recovering)}")
     if not any(map(RECOVERING.match, recovering)) or recovered > of_recovery:
         raise Fault(f"the depth of what finds losses by time has to be at most {of_recovery}")
+    of_host, going = deepest_of(hosts, True, LEVELS)
+    down = deepest_of([name for name in hosts if name.endswith(("_free", "_remove", "_open"))], True, LEVELS)[1]
+    print(f"depth: {of_host} bytes of {of_recovery} of a host: {' > '.join(going)}")
+    if sum(map(bool, map(DOWN.match, down))) < LEVELS or of_host > of_recovery:
+        raise Fault(f"the depth of a host's calls has to be at most {of_recovery}, and to go down its trees")
     deepest, chain = deepest_of([name for name in entries if name != RECOVERY], False)
     print(f"depth: {deepest} bytes of {bound}, {measured} measured: {' > '.join(chain)}")
     if len(entries) < 13 or not measured - BESIDE <= deepest <= bound:

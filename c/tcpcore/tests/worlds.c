@@ -13,13 +13,13 @@
  * - The world gets on: there is progress in each ten minutes, nobody is given up but who has vanished, and both ends come to the end, in
  *   order. The link does no harm once there was no progress for 100 s, so that no run of losses by chance has an end given up. All is over
  *   within twice the time that it takes without losses, two trips for each segment that is needed or harmed, and a wait for each expiry.
- * - Without losses, in order, where windows stay open and trips are even, nothing goes out again, and no timer but TIME-WAIT expires.
- * 'worlds FIRST COUNT NAME=VALUE..' runs COUNT worlds from that seed on, with words set; TRACE in the environment shows them. On stderr are
- * the worst figures.
+ * - Without losses, in order, where windows stay open and trips are even, nothing goes out again, and no timer but TIME-WAIT expires. With a
+ *   congestion window, to who has room for a few segments, at most MOST_AGAIN go out again for each that is needed, and be it a single run.
+ * 'worlds FIRST COUNT NAME=VALUE..' runs COUNT worlds from that seed on, with words set; TRACE in the environment shows them, stderr the worst.
  */
 #include "worlds.h"
 
-enum { STORM = 20 };
+enum { STORM = 20, MOST_AGAIN = 3 };
 static unsigned char text[2][TEXT];
 static uint64_t progress_at, idle, widest, clean_time;
 
@@ -427,6 +427,7 @@ static void judge(int at, uint64_t took, uint64_t needed, uint64_t waits)
     SURE(at, s->given == words[at][SIZE] && s->got == other->given && s->is_at_end, "not all was read");
     SURE(at, !is_regular() || expired - s->probes <= harmed + s->not_kept + other->not_kept, "a timer expires, and nothing was harmed");
     SURE(at, !is_clean || !is_even() || (s->again == 0 && expired + s->expired[TCPCORE_TIMER_REORDER] == 0), "text goes out again for nothing");
+    SURE(at, s->again <= MOST_AGAIN * needed || !is_wide(at), "too much goes out again");
     SURE(at, is_clean || took <= 2 * clean_time + 2 * (needed + harmed) * longest_trip() * US + waits, "it takes too long");
 }
 

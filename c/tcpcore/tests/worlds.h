@@ -422,6 +422,12 @@ static void fail(int at, const char *what)
     exit(1);
 }
 
+/* Whether a side has a congestion window, and the other one room for four of its segments. */
+static int is_wide(int at)
+{
+    return words[at][CONGESTION] != TCPCORE_CONGESTION_NONE && words[1 - at][RECV_CAP] >= 4 * lesser(words[0][MSS], words[1][MSS]);
+}
+
 #define SURE(at, is_so, what) ((is_so) ? (void)0 : fail(at, what))
 #define DONE(at, call) SURE(at, (call) == TCPCORE_DONE, #call)
 
