@@ -10,7 +10,7 @@ own=../../crates/tcp_c/out/libtcp_c.a
 library=$(realpath "${1:-$own}")
 shift || true
 compiler=${CC:-gcc}
-companions=$(printf ' ../../c/companions/%s.c' answers ethernet faults fragments icmp icmp6 ip ip6 pairs path table timers trains tun udp wheel)
+companions=$(printf ' ../../c/companions/%s.c' ethernet faults fragments icmp icmp6 ip ip6 pairs path secret trains tun udp wheel)
 seccomp=
 [[ ! -e /usr/include/seccomp.h ]] || seccomp="-DHAS_SECCOMP -lseccomp"
 flags="-std=c11 -O2 -g -Wall -Wextra -Wpedantic -Wconversion -Wshadow -Wcast-qual -Werror -I../../c -I../../c/tcpcore"
@@ -24,4 +24,4 @@ fi
 $compiler $flags "$@" usernet.c words.c loop.c conn.c host.c relays.c datagrams.c carry.c limits.c ports.c api.c json.c ipv6.c sandbox.c $companions $core \
     $seccomp -o "out/${PROGRAM:-usernet}"
 [[ -z $seccomp ]] || $compiler $flags sandbox_test.c sandbox.c $seccomp -o out/sandbox_test
-$compiler $flags fuzz.c fuzz_packets.c $(printf ' ../../c/companions/%s.c' icmp icmp6 ip ip6 table trains udp) $core -o out/fuzz
+$compiler $flags fuzz.c fuzz_packets.c $(printf ' ../../c/companions/%s.c' icmp icmp6 ip ip6 secret trains udp) $core -o out/fuzz

@@ -7,14 +7,16 @@
 #include <sys/socket.h>
 #include <sys/uio.h>
 
-/* The client learns of the room, where its window has become small and has grown by a segment (RFC 9293, 3.8.6.2.2). */
+/* The client learns of the room, where its window has become small and has grown by a segment (RFC 9293, 3.8.6.2.2). One that is shut opens by
+   more than that: a socket of the host's that has taken no more can be written to again once much of its buffer is free. */
 static void report_window(const struct usernet *net, struct conn *conn)
 {
     struct tcpcore_status status;
-    tcpcore_status(&conn->end, &status);
-    uint64_t edge = conn->answers.edge, reported = edge > status.rcv_position ? edge - status.rcv_position : 0;
-    if (2 * reported < conn->capacity && edge_of(conn, &status) >= edge + step_of(net, conn))
-        tcpcore_acknowledge(&conn->end);
+    tcpcore_connection_status(&conn->end, &status);
+    uint64_t left = conn->edge > status.rcv_position ? conn->edge - status.rcv_position : 0;
+    uint64_t step = net->mss < conn->capacity / 2 ? net->mss : conn->capacity / 2;
+    if (2 * left < conn->capacity && status.rcv_position + status.rcv_wnd >= conn->edge + step)
+        tcpcore_connection_acknowledge(&conn->end, time_of(net));
 }
 
 /* What the client sent goes to the host's socket from where it lies, as far as that takes it; 0 where the connection can't go on. */
@@ -22,7 +24,7 @@ int carry_up(struct usernet *net, struct conn *conn)
 {
     struct tcpcore_lent lent;
     uint32_t answer = TCPCORE_DONE;
-    while (conn->can_write && !conn->client_done && (answer = tcpcore_peek(&conn->end, &lent)) == TCPCORE_DONE) {
+    while (conn->can_write && !conn->client_done && (answer = tcpcore_connection_peek(&conn->end, &lent)) == TCPCORE_DONE) {
         size_t length = lent.first.length + lent.second.length, taken;
         struct iovec pieces[2];
         memcpy(&pieces[0], &lent.first, sizeof pieces[0]);
@@ -30,7 +32,7 @@ int carry_up(struct usernet *net, struct conn *conn)
         ssize_t sent = sendmsg(conn->socket, &(struct msghdr){.msg_iov = pieces, .msg_iovlen = 2}, MSG_NOSIGNAL);
         if (sent < 0 && errno != EAGAIN)
             return 0;
-        tcpcore_consume(&conn->end, sent > 0 ? (size_t)sent : 0, &taken);
+        tcpcore_connection_consume(&conn->end, time_of(net), sent > 0 ? (size_t)sent : 0, &taken);
         report_window(net, conn);
         conn->carried += taken;
         count(net, UP, taken);
@@ -46,7 +48,7 @@ int carry_down(struct usernet *net, struct conn *conn)
 {
     while (conn->can_read && !conn->host_done) {
         struct tcpcore_status status;
-        tcpcore_status(&conn->end, &status);
+        tcpcore_connection_status(&conn->end, &status);
         size_t room = (size_t)status.room, taken = 0;
         ssize_t got = room == 0 ? 0 : recv(conn->socket, net->text, room, 0);
         if (room == 0 || (got < 0 && errno == EAGAIN)) {
@@ -55,8 +57,8 @@ int carry_down(struct usernet *net, struct conn *conn)
         }
         if (got == 0) {
             conn->host_done = 1;
-            tcpcore_close(&conn->end);
-        } else if (got < 0 || tcpcore_send(&conn->end, net->text, (size_t)got, &taken) != TCPCORE_DONE) {
+            tcpcore_connection_close(&conn->end, time_of(net));
+        } else if (got < 0 || tcpcore_connection_send(&conn->end, time_of(net), net->text, (size_t)got, &taken) != TCPCORE_DONE) {
             return 0;
         }
         conn->carried += taken;

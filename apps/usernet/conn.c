@@ -4,6 +4,7 @@
 #include "companions/segment.h"
 
 #include <errno.h>
+#include <limits.h>
 #include <malloc.h>
 #include <netinet/tcp.h>
 #include <stdlib.h>
@@ -12,9 +13,11 @@
 #include <sys/socket.h>
 #include <unistd.h>
 
-static const struct timers_rules RULES = {
-    .first_rto = 1000, .least_rto = 200, .greatest_rto = 60000, .granularity = 1, .time_wait = 2000,
-    .r1 = 3, .r2 = 924600, .syn_limit = 180000, .syn_ack_limit = 60000};
+/* The times of an end, in microseconds: those of the standards, but for the least timeout, TIME-WAIT, and a user timeout as long as Linux's.
+   An end that a client calls is given a minute for the handshake, and one that calls a client three. */
+#define RULES(limit) {.first = 1000000, .least = 200000, .greatest = 60000000, .granularity = 1000, .after_syn = 3000000, .time_wait = 2000000, \
+                      .handshake = (limit), .user = 924600000, .fin_wait_2 = TCPCORE_NEVER, .suspect_after = 3, .guard = TCPCORE_GUARD}
+static const struct tcpcore_connection_rules CALLED = RULES(60000000), CALLING = RULES(180000000);
 
 /* The allocator keeps what is freed for what comes next, which is quick, and the system is given back what is free once so many bytes were used
    up: all at once takes less time than one by one. OWN_PAGES: what an end touches of its block before text comes. */
@@ -23,10 +26,17 @@ enum { GIVEN_BACK = 4 << 20, OWN_PAGES = 8192 };
 /* A pair is its connection's first field. */
 static struct conn *conn_of(struct pair *pair) { return (struct conn *)(void *)pair; }
 
+/* The milliseconds until a time, below 0 where there is none. */
+static int wait_for(const struct usernet *net, uint64_t at)
+{
+    uint64_t left = at > time_of(net) ? (at - time_of(net) + 999) / 1000 : 0;
+    return at == TCPCORE_NEVER ? -1 : left < INT_MAX ? (int)left : INT_MAX;
+}
+
 static struct tcpcore_status status_of(const struct conn *conn)
 {
     struct tcpcore_status status;
-    tcpcore_status(&conn->end, &status);
+    tcpcore_connection_status(&conn->end, &status);
     return status;
 }
 
@@ -37,8 +47,6 @@ static struct conn *conn_new(struct usernet *net, const struct pair *key, int so
     if (!conn)
         return NULL;
     *conn = (struct conn){.pair = *key, .socket = socket, .capacity = capacity};
-    timers_init(&conn->timers, &RULES);
-    answers_init(&conn->answers, (uint32_t)net->limits.quiet);
     pairs_add(&net->pairs, &conn->pair);
     v6_hold(net, &conn->pair, 1);
     limits_enter(net, conn);
@@ -71,7 +79,7 @@ void drop(struct usernet *net, struct conn *conn, int resets)
         close_socket(conn->socket, resets);
     if (conn->is_open) {
         net->used_up += touched(conn);
-        tcpcore_free(&conn->end);
+        tcpcore_connection_free(&conn->end);
     }
     free(conn->block);
     conn->block = NULL, conn->is_open = 0, conn->socket = -1;
@@ -93,29 +101,28 @@ void free_dropped(struct usernet *net)
     }
 }
 
-uint64_t edge_of(const struct conn *conn, const struct tcpcore_status *status)
+uint64_t edge_of(const struct conn *conn)
 {
-    return status->rcv_position + conn->capacity - status->unread;
+    struct tcpcore_status status = status_of(conn);
+    return status.rcv_position + status.rcv_wnd;
 }
 
-uint64_t step_of(const struct usernet *net, const struct conn *conn)
-{
-    return net->mss < conn->capacity / 2 ? net->mss : conn->capacity / 2;
-}
-
-/* Whether a segment that was written goes out: not where it says once more what was just said. */
-static int goes(struct usernet *net, struct conn *conn, const struct tcpcore_transmit *sent)
+/* Whether a segment that was written goes out. What the end refuses brought it nothing: an answer to that which says once more what was
+   said, or resets, goes out once in a while, whatever the refused segment had in it (RFC 5961, 7; the end's own limit is on answers to
+   segments without text). To the end what doesn't go out is lost. */
+static int goes(struct usernet *net, struct conn *conn, size_t length, int is_refused)
 {
     const uint8_t *segment = segment_place(net);
-    struct tcpcore_status status = status_of(conn);
-    uint64_t edge = edge_of(conn, &status);
-    if (!answers_may_go(&conn->answers, segment, (size_t)sent->length, status.phase, edge, step_of(net, conn), net->now)) {
+    int resets = bits_of(segment, RST) != 0, is_bare = length == header_of(segment) && !bits_of(segment, SYN | FIN);
+    int is_said = resets || (read32(segment + AT_ACK) == conn->ack && read16(segment + AT_WINDOW) == conn->window);
+    if (is_refused && is_bare && is_said && net->now < conn->quiet_until) {
         count(net, UNSAID, 1);
         return 0;
     }
-    timers_sent(&conn->timers, sent, net->now);
-    if (bits_of(segment, ACK))
-        answers_sent(&conn->answers, segment, edge);
+    if (is_refused && is_bare && is_said)
+        conn->quiet_until = net->now + net->limits.quiet;
+    if (!is_said)
+        conn->ack = read32(segment + AT_ACK), conn->window = read16(segment + AT_WINDOW), conn->edge = edge_of(conn);
     return 1;
 }
 
@@ -130,12 +137,12 @@ static void send_pieces(struct usernet *net, const struct conn *conn, size_t len
 }
 
 /* Emits the segment that is due, summed; whether there was one. */
-static int emit_segment(struct usernet *net, struct conn *conn)
+static int emit_segment(struct usernet *net, struct conn *conn, int is_refused)
 {
-    struct tcpcore_transmit sent;
-    if (tcpcore_transmit(&conn->end, segment_place(net), TCPCORE_EMIT_ROOM, &sent) != TCPCORE_DONE)
+    struct tcpcore_connection_segment sent;
+    if (tcpcore_connection_emit(&conn->end, time_of(net), UINT64_MAX, segment_place(net), TCPCORE_EMIT_ROOM, &sent) != TCPCORE_DONE)
         return 0;
-    if (!goes(net, conn, &sent))
+    if (!goes(net, conn, (size_t)sent.length, is_refused))
         return 1;
     size_t length = (size_t)sent.length, packet = IP_HEADER + length;
     path_sent(&conn->path, sent.position + sent.count, packet < conn->path.mtu ? packet : conn->path.mtu);
@@ -157,12 +164,12 @@ static void fit(const struct path *path, struct tcpcore_train *train)
 }
 
 /* Emits as many segments as go together, which a device with offloads cuts and sums; whether there was any. */
-static int emit_train(struct usernet *net, struct conn *conn)
+static int emit_train(struct usernet *net, struct conn *conn, int is_refused)
 {
     struct tcpcore_train train;
-    if (tcpcore_emit_train(&conn->end, segment_place(net), TCPCORE_TRAIN_ROOM, SIZE_MAX, &train) != TCPCORE_DONE)
+    if (tcpcore_connection_emit_train(&conn->end, time_of(net), UINT64_MAX, segment_place(net), TCPCORE_TRAIN_ROOM, SIZE_MAX, &train) != TCPCORE_DONE)
         return 0;
-    if (!goes(net, conn, &train.whole))
+    if (!goes(net, conn, (size_t)train.whole.length, is_refused))
         return 1;
     fit(&conn->path, &train);
     uint64_t text = train.segments > 1 ? train.each : train.whole.count;
@@ -171,34 +178,40 @@ static int emit_train(struct usernet *net, struct conn *conn)
     return 1;
 }
 
-/* Emits all that is due. */
-static void emit(struct usernet *net, struct conn *conn)
+/* Emits all that is due: behind a segment that the end has refused where `is_refused`. */
+static void emit(struct usernet *net, struct conn *conn, int is_refused)
 {
-    while (net->offloads && !conn->path.may_be_cut ? emit_train(net, conn) : emit_segment(net, conn))
+    while (net->offloads && !conn->path.may_be_cut ? emit_train(net, conn, is_refused) : emit_segment(net, conn, is_refused))
         ;
 }
 
 void cut(struct usernet *net, struct conn *conn)
 {
-    if (conn->is_open && tcpcore_abort(&conn->end) == TCPCORE_DONE)
-        emit(net, conn);
+    if (conn->is_open && tcpcore_connection_abort(&conn->end, time_of(net)) == TCPCORE_DONE)
+        emit(net, conn, 0);
     drop(net, conn, 1);
 }
 
-/* Makes the connection's end, CLOSED; whether it could. */
-static int make_end(struct usernet *net, struct conn *conn)
+/* Makes the connection's end, which calls the client or waits for its SYN; whether it could. An acknowledgement waits for the rest of the batch
+   that it came with, and for nothing else. Text doesn't wait: where it may, the last bytes of what is queued go apart from the train before. */
+static int make_end(struct usernet *net, struct conn *conn, int calls)
 {
-    size_t room = TCPCORE_MEMORY_RUNS(conn->capacity, conn->capacity, RUNS);
-    uint32_t isn = (uint32_t)(250 * net->now + pairs_secret(&net->pairs, &conn->pair));
+    size_t room = TCPCORE_CONNECTION_MEMORY_RUNS(conn->capacity, conn->capacity, RUNS);
+    uint32_t isn = (uint32_t)(250 * net->now + pairs_secret(&net->pairs, &conn->pair)), answer = TCPCORE_NO_MEMORY;
     uint16_t mss = (uint16_t)(net->mss - (ip6_is_surrogate(conn->pair.client) ? IP6_MORE : 0));
     tcpcore_config config = {.addr = conn->pair.server, .port = conn->pair.server_port, .mss = mss, .isn = isn,
                              .send_capacity = conn->capacity, .recv_capacity = conn->capacity, .limit = UINT64_C(1) << 62,
                              .window_shift = SHIFT, .scales = 1, .sack = 1, .runs = RUNS};
+    struct tcpcore_policy policy = {.override_timeout = TCPCORE_NEVER, .answer_interval = 1000 * net->limits.quiet};
     path_init(&conn->path, isn, mss + (uint32_t)HEADERS);
     conn->block = malloc(room);
-    conn->end = (tcpcore_end)TCPCORE_END_INIT;
-    conn->is_open = conn->block && tcpcore_new(&conn->end, &config, conn->block, room) == TCPCORE_DONE;
-    return conn->is_open;
+    conn->end = (tcpcore_connection)TCPCORE_CONNECTION_INIT;
+    if (conn->block && calls)
+        answer = tcpcore_connection_connect(&conn->end, &config, &CALLING, conn->pair.client, conn->pair.client_port, time_of(net), conn->block, room);
+    else if (conn->block)
+        answer = tcpcore_connection_listen(&conn->end, &config, &CALLED, time_of(net), conn->block, room);
+    conn->is_open = answer == TCPCORE_DONE;
+    return conn->is_open && tcpcore_connection_set_policy(&conn->end, &policy) == TCPCORE_DONE;
 }
 
 /* Whether what came is a segment (RFC 9293, 3.1), of whichever connection. */
@@ -248,9 +261,9 @@ static int watch(struct usernet *net, struct conn *conn)
 /* The client's SYN opens the end; whether it did. */
 static int open_end(struct usernet *net, struct conn *conn)
 {
-    if (!make_end(net, conn) || tcpcore_listen(&conn->end) != TCPCORE_DONE)
-        return 0;
-    return tcpcore_arrive(&conn->end, conn->pair.client, conn->pair.server, conn->syn, conn->syn_length) == TCPCORE_DONE;
+    struct tcpcore_arrive_report taken;
+    return make_end(net, conn, 0) && tcpcore_connection_arrive(&conn->end, time_of(net), conn->pair.client, conn->pair.server, conn->syn,
+                                                               conn->syn_length, &taken) == TCPCORE_DONE;
 }
 
 /* The host's socket answered: the namespace sees ESTABLISHED, or a reset. Whether there is an end now. */
@@ -299,8 +312,7 @@ void conn_publish(struct usernet *net, int socket, const struct published *publi
     uint32_t capacity = ports_deal(net, &net->pairs, &key) ? limits_admit(net, &key) : 0;
     struct conn *conn = capacity ? conn_new(net, &key, socket, capacity) : NULL;
     count(net, FULL, capacity == 0);
-    if (conn && make_end(net, conn) && watch(net, conn)) {
-        tcpcore_connect(&conn->end, conn->pair.client, conn->pair.client_port);
+    if (conn && make_end(net, conn, 1) && watch(net, conn)) {
         count(net, PUBLISHED, 1);
         wheel_wake(&net->wheel, &conn->node);
         return;
@@ -320,36 +332,19 @@ static int reopens(const struct conn *conn, const uint8_t *bytes)
     return status.phase == TCPCORE_PHASE_TIME_WAIT && after < UINT32_C(1) << 31;
 }
 
-/* Whether a segment is answered before the others of its batch are read. What the end refuses brought it nothing: with text or
-   without, it is answered once in a while. */
-static int may_answer(struct usernet *net, struct conn *conn, const struct ip_packet *packet, const struct tcpcore_arrive_report *taken)
-{
-    uint8_t bare[SEGMENT_HEADER];
-    if (taken->rule < TCPCORE_RULE_UNACCEPTABLE || taken->rule >= TCPCORE_RULE_TAKEN)
-        return answers_arrived(&conn->answers, packet->segment, packet->length, taken->at_once, net->now);
-    memcpy(bare, packet->segment, sizeof bare);
-    bare[AT_OFFSET] = SEGMENT_HEADER / 4 << 4;
-    bare[AT_BITS] &= (uint8_t)~FIN;
-    return answers_arrived(&conn->answers, bare, sizeof bare, taken->at_once, net->now);
-}
-
 /* A segment of a connection that has an end. */
 static void take(struct usernet *net, struct conn *conn, const struct ip_packet *packet, int vouched)
 {
-    struct tcpcore_status before = status_of(conn);
     struct tcpcore_arrive_report taken;
-    if (withholds_reset(&before, packet->segment, packet->length))
-        return; /* what the client has sent goes to the host first */
-    struct tcpcore_intake intake = {.guard = TCPCORE_GUARD, .is_vouched = (uint32_t)vouched};
-    uint32_t answer = tcpcore_arrive_by(&conn->end, packet->src, packet->dst, packet->segment, packet->length, &intake, &taken);
+    uint32_t answer = (vouched ? tcpcore_connection_arrive_vouched : tcpcore_connection_arrive)(&conn->end, time_of(net), packet->src, packet->dst,
+                                                                                                packet->segment, packet->length, &taken);
     if (taken.rule == TCPCORE_RULE_NONE) {
         count(net, MALFORMED, answer >= TCPCORE_TOO_SHORT && answer <= TCPCORE_BAD_PADDING);
         return;
     }
-    timers_arrived_with_report(&conn->timers, &conn->end, &taken, net->now);
     limits_touch(net, conn);
-    if (may_answer(net, conn, packet, &taken))
-        emit(net, conn); /* out of order, or a gap was filled (RFC 5681, 4.2) */
+    if (taken.at_once)
+        emit(net, conn, answer == TCPCORE_DROPPED); /* out of order, or a gap was filled (RFC 5681, 4.2) */
     wheel_wake(&net->wheel, &conn->node);
 }
 
@@ -388,32 +383,38 @@ void conn_error(struct usernet *net, const struct icmp_error *error)
     count(net, ERRORS, found != PATH_NOTHING);
     count(net, NARROWED, found == PATH_NARROWER);
     if (found == PATH_HARD)
-        tcpcore_abort(&conn->end);
+        tcpcore_connection_abort(&conn->end, time_of(net));
     else if (found == PATH_NARROWER)
-        tcpcore_resend_first(&conn->end);
+        tcpcore_connection_resend_first(&conn->end, time_of(net));
     wheel_wake(&net->wheel, &conn->node);
 }
 
-/* The timers' times have come, and what they say of the path. */
-static void run_times(struct usernet *net, struct conn *conn)
+/* Emits all that is due, also by the times that have come, and hears what they say of the path; answers the time of the next one. SND.UNA is
+   `una`. Nothing that was due behind a timer is left, so that what arrives is never to wait for it (TCPCORE_EMIT_FIRST). */
+static uint64_t run_times(struct usernet *net, struct conn *conn, uint64_t una)
 {
-    uint32_t found = timers_run(&conn->timers, &conn->end, net->now);
-    count(net, ABANDONED, (found & TIMERS_ABORTED) != 0);
-    count(net, NARROWED, (uint64_t)path_run(&conn->path, conn->timers.snd_una, (found & TIMERS_TIMED_OUT) != 0, net->now));
+    uint64_t next;
+    uint32_t timer;
+    count(net, NARROWED, (uint64_t)path_run(&conn->path, una, 0, net->now));
+    emit(net, conn, 0);
+    while (tcpcore_connection_tick(&conn->end, time_of(net), &timer, &next) == TCPCORE_DONE) {
+        count(net, ABANDONED, timer == TCPCORE_TIMER_USER);
+        count(net, NARROWED, (uint64_t)path_run(&conn->path, una, timer == TCPCORE_TIMER_RETRANSMIT, net->now));
+        emit(net, conn, 0);
+    }
+    return next;
 }
 
-/* Looks at one connection: its timers, both ways, what is due, and whether it has ended. */
+/* Looks at one connection: both ways, what is due, its times, and whether it has ended. */
 static void turn(struct usernet *net, struct conn *conn)
 {
     if (!conn->is_open && !host_answered(net, conn))
         return;
-    run_times(net, conn);
-    if (conn->socket >= 0 && conn->timers.phase >= TCPCORE_PHASE_ESTABLISHED &&
-        (!carry_up(net, conn) || !carry_down(net, conn)))
-        tcpcore_abort(&conn->end);
-    emit(net, conn);
-    timers_run(&conn->timers, &conn->end, net->now);
     struct tcpcore_status status = status_of(conn);
+    if (conn->socket >= 0 && status.phase >= TCPCORE_PHASE_ESTABLISHED && (!carry_up(net, conn) || !carry_down(net, conn)))
+        tcpcore_connection_abort(&conn->end, time_of(net));
+    uint64_t next = run_times(net, conn, status.snd_una);
+    status = status_of(conn);
     int is_orderly = status.ending == TCPCORE_ENDING_ORDERLY;
     if (is_orderly && conn->socket >= 0)
         carry_up(net, conn); /* what came with the last acknowledgement */
@@ -423,7 +424,7 @@ static void turn(struct usernet *net, struct conn *conn)
     if (status.phase == TCPCORE_PHASE_CLOSED && (!is_orderly || conn->socket < 0))
         drop(net, conn, !is_orderly);
     else
-        wheel_put(&net->wheel, &conn->node, net->now, timers_wait(&conn->timers, net->now));
+        wheel_put(&net->wheel, &conn->node, net->now, wait_for(net, next));
 }
 
 void turn_all(struct usernet *net)

@@ -290,7 +290,7 @@ static struct pair outer_of(struct usernet *net, uint64_t place, const union pla
     struct ip6_addr v6;
     if (from->any.sa_family == AF_INET6) {
         memcpy(&v6, &from->v6.sin6_addr, sizeof v6);
-        outer.client = ip6_surrogate(v6, net->pairs.secret.secret), outer.client_port = ntohs(from->v6.sin6_port);
+        outer.client = ip6_surrogate(v6, net->pairs.secret), outer.client_port = ntohs(from->v6.sin6_port);
     } else {
         memcpy(&outer.client, &from->v4.sin_addr, sizeof outer.client);
         outer.client_port = ntohs(from->v4.sin_port);

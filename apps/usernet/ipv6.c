@@ -51,7 +51,7 @@ static struct v6_entry *place_for(struct usernet *net, const struct ip6_addr *ad
 
 int v6_enter(struct usernet *net, const struct ip6_addr *addr, tcpcore_addr *surrogate)
 {
-    *surrogate = ip6_surrogate(*addr, net->pairs.secret.secret);
+    *surrogate = ip6_surrogate(*addr, net->pairs.secret);
     struct v6_entry *place = place_for(net, addr, *surrogate);
     if (!place)
         return 0;
@@ -119,7 +119,7 @@ static int join(struct usernet *net, const uint8_t *bytes, struct ip6_packet *pa
     struct ip_choices choices = {.may_be_cut = 1, .id = (uint16_t)(read16(at + 4) ^ read16(at + 6))};
     memcpy(&packet->src, bytes + 8, sizeof packet->src);
     memcpy(&packet->dst, bytes + 24, sizeof packet->dst);
-    tcpcore_addr src = ip6_surrogate(packet->src, net->pairs.secret.secret), dst = ip6_surrogate(packet->dst, net->pairs.secret.secret);
+    tcpcore_addr src = ip6_surrogate(packet->src, net->pairs.secret), dst = ip6_surrogate(packet->dst, net->pairs.secret);
     length = ip_write_chosen(net->text, src, dst, told - FRAGMENT_HEADER, at[0], &choices);
     if (length == 0)
         return 0;
@@ -154,8 +154,8 @@ int v6_read_error(struct usernet *net, struct icmp_error *error)
     struct ip6_addr src, dst;
     if (!icmp6_read_error(&net->v6_packet, error, &src, &dst))
         return 0;
-    error->src = ip6_surrogate(src, net->pairs.secret.secret);
-    error->dst = ip6_surrogate(dst, net->pairs.secret.secret);
+    error->src = ip6_surrogate(src, net->pairs.secret);
+    error->dst = ip6_surrogate(dst, net->pairs.secret);
     return 1;
 }
 

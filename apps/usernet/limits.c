@@ -63,7 +63,7 @@ static int has_place(struct usernet *net, const struct queue *queue, uint64_t li
     return queue->count < limit || oldest_goes(net, queue, GRACE, conn_of);
 }
 
-static uint64_t room_of(uint32_t capacity) { return TCPCORE_MEMORY_RUNS(capacity, capacity, RUNS) + sizeof(struct conn); }
+static uint64_t room_of(uint32_t capacity) { return TCPCORE_CONNECTION_MEMORY_RUNS(capacity, capacity, RUNS) + sizeof(struct conn); }
 
 /* What a new connection would keep for each direction. */
 static uint32_t capacity_now(const struct usernet *net)

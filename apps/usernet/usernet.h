@@ -7,7 +7,6 @@
 #ifndef USERNET_H
 #define USERNET_H
 
-#include "companions/answers.h"
 #include "companions/ethernet.h"
 #include "companions/faults.h"
 #include "companions/fragments.h"
@@ -17,7 +16,6 @@
 #include "companions/ip6.h"
 #include "companions/pairs.h"
 #include "companions/path.h"
-#include "companions/timers.h"
 #include "companions/trains.h"
 #include "companions/udp.h"
 #include "companions/wheel.h"
@@ -36,6 +34,9 @@ enum { LISTENERS = 256, PLACES = 4096 };
 
 /* The IPv6 addresses that are known at once: in so many sets, of so many each. */
 enum { V6_SETS = 16384, V6_WAYS = 4 };
+
+/* For so many milliseconds one answer to what a connection refuses is enough, as Linux has it (tcp_invalid_ratelimit). */
+enum { QUIET = 500 };
 
 /* The packets that are put together from their pieces at once. */
 enum { CUT = 8 };
@@ -60,16 +61,18 @@ static inline socklen_t place_length(const union place *place) { return place->a
 struct link { struct link *older, *newer; struct queue *queue; };
 struct queue { struct link *oldest, *newest; uint32_t count; };
 
-/* One connection of the namespace: an end of ours, and the host's socket behind it. */
+/* One connection of the namespace: an end of ours with its clock, and the host's socket behind it. */
 struct conn {
     struct pair pair;               /* as the namespace has it: its own address is the client's */
     struct wheel_node node;         /* its next deadline */
     struct link order, place;       /* among those of its phase; among those half-open to one destination */
     struct conn *next;              /* of those that were dropped */
-    tcpcore_end end;                /* the namespace's peer; none before the host's socket is connected */
-    struct timers timers;
-    struct answers answers;
+    tcpcore_connection end;         /* the namespace's peer; none before the host's socket is connected */
     struct path path;
+    uint64_t quiet_until;           /* before that no answer to what was refused goes out that says what was said */
+    uint32_t ack;                   /* what was said: the acknowledgement number and the window of what went out last, */
+    uint16_t window;
+    uint64_t edge;                  /* and its right edge, as a position of the client's direction */
     void *block;                    /* the memory of the end, for as long as there is one */
     uint32_t capacity;              /* bytes kept for each direction */
     int socket;                     /* the host's, or -1 once both directions are done */
@@ -138,7 +141,7 @@ struct limits {
     uint64_t ports;        /* of the gateway's, from which connections are carried in */
     uint64_t flows;        /* of datagrams and echoes */
     uint64_t strays;       /* resets in a second for what no connection takes */
-    uint64_t quiet;        /* milliseconds for which a connection repeats no answer (companions/answers.h) */
+    uint64_t quiet;        /* milliseconds for which a connection repeats no answer (RFC 5961, 7) */
 };
 
 /* A port of the host's, and the place in the namespace that it leads to. */
@@ -209,6 +212,9 @@ struct usernet {
 };
 
 static inline void count(struct usernet *net, enum counter which, uint64_t number) { net->counters[which] += number; }
+
+/* What ends are told that the time is, in microseconds. */
+static inline uint64_t time_of(const struct usernet *net) { return 1000 * net->now; }
 
 /* loop.c: a segment for the namespace is written to segment_place, then sent: summed and of `length` bytes, or what tcpcore_emit_train wrote. */
 static inline uint8_t *segment_place(struct usernet *net) { return net->packet + ETHERNET_HEADER + IP6_MORE + TRAINS_FRONT; }
@@ -341,9 +347,8 @@ void relays_end(struct usernet *net);
 int carry_up(struct usernet *net, struct conn *conn);
 int carry_down(struct usernet *net, struct conn *conn);
 
-/* The right edge of the window that the end would advertise, and what it has to grow by to be told (RFC 9293, 3.8.6.2.2). */
-uint64_t edge_of(const struct conn *conn, const struct tcpcore_status *status);
-uint64_t step_of(const struct usernet *net, const struct conn *conn);
+/* conn.c: the right edge of the window that the end would advertise. */
+uint64_t edge_of(const struct conn *conn);
 
 /* limits.c: the bytes that a new connection to this destination keeps for each direction, or 0 where there may be none. Ones that have
    been half-open or silent for some time, or are in TIME-WAIT, make way for it. */

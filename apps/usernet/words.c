@@ -229,7 +229,7 @@ int words_read(int number, char **words, struct words *options, struct usernet *
     *options = (struct words){.device = {.name = "tun0", .prefix = 24, .offloads = 1}, .network = 0x0a000200, .mtu = 1500,
                            .ready = NO_DESCRIPTOR, .exits = NO_DESCRIPTOR,
                            .limits = {.connections = 4096, .half_open = 1024, .each = 256, .memory = 1024, .ports = 32768, .flows = 1024,
-                                      .strays = 1000, .quiet = ANSWERS_QUIET}};
+                                      .strays = 1000, .quiet = QUIET}};
     net->has_loopback = net->has_dns = 1;
     int status = read_options(number, words, options, net);
     if (status >= 0)

@@ -1,6 +1,7 @@
 # shellcheck shell=bash
 # What the scripts of this folder share: `top` is the repository's folder, the working directory is checks/peers/out, `library` is the
-# static library and `words` what the programs are run with, both from the script's own words; `only_builds` is set by --build.
+# static library, or release/tcpcore.c, and `words` what the programs are run with, both from the script's own words; `only_builds` is set
+# by --build.
 top=$(realpath ../..)
 library=$top/crates/tcp_c/out/libtcp_c.a
 words=() only_builds=
@@ -28,17 +29,32 @@ objects() {
     (cd "$folder" && gcc "$@")
 }
 
-# What all programs have of ours.
+# What all programs have of ours: the library's layer, which release/tcpcore.c has in it, and companions.
 common_objects() {
-    objects common $warnings $ours -c "$top"/c/companions/{answers,congestion,cubic,delayed_ack,flow,ip,keep_alive,loss_recovery,silly_window,timers}.c "$top/c/tcpcore/tcpcore.c"
+    objects common $warnings $ours -c "$top"/c/companions/ip.c
+    if [[ $library == *.c ]]; then
+        objects layer -std=c99 -O2 -c "$library" # it isn't written for our warnings
+        library=
+    else
+        objects layer $warnings $ours -c "$top/c/tcpcore/tcpcore.c"
+    fi
+    objects flow $warnings $ours -c "$top"/c/companions/{answers,congestion,cubic,delayed_ack,flow,keep_alive,loss_recovery,silly_window,timers}.c
 }
 
-# A program of ours against the peer that these words make. own.c stands between an end's companions and its arrivals, and counts what the
-# guard keeps out.
+# A program of ours against the peer that these words make: by an end with its companions. own.c stands between these and its arrivals, and
+# counts what the guard keeps out.
 program() {
     local name=$1
     shift
-    gcc $warnings $ours "$top"/checks/peers/{cases,wire,own}.c common/*.o "$@" "$library" -Wl,--wrap=tcpcore_arrive_by -o "$name"
+    gcc $warnings $ours "$top"/checks/peers/{cases,wire,own}.c common/*.o layer/*.o flow/*.o "$@" ${library:+"$library"} \
+        -Wl,--wrap=tcpcore_arrive_by -o "$name"
+}
+
+# The same by a connection.
+connection() {
+    local name=$1
+    shift
+    gcc $warnings $ours "$top"/checks/peers/{cases,wire,own_connection}.c common/*.o layer/*.o "$@" ${library:+"$library"} -o "$name"
 }
 
 # Adds up what a program said in its last line.

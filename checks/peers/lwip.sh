@@ -1,6 +1,7 @@
 #!/usr/bin/env bash
 # One end of ours, with its companions, against lwIP 2.1.3 in four builds and against another end of ours, in one process each, on a
-# clock and over a wire of the driver's: checks/peers/lwip.sh [LIBRARY] [--long]. Sizes, openings and closes of all kinds, the k-th
+# clock and over a wire of the driver's: checks/peers/lwip.sh [LIBRARY] [--long]. And a connection against the build with blocks, and
+# against another connection; without blocks it finds losses later than the companions do. Sizes, openings and closes of all kinds, the k-th
 # segment lost, losses, repeats, reordering and damage, slow readers, aborts, numbers that wrap, a peer that vanishes, and how long
 # 2 MB take where 2 percent are lost. Every byte is compared. --long has more of the random ones, and 20 MB. Last come the means of ten
 # runs of 20 MB at 2 percent loss: without blocks, and where nothing is kept out of order, they take no longer than 1.5 times of what
@@ -18,13 +19,17 @@ lwip=$out/lwip-2.1.3/src
 
 common_objects
 program second "$top/checks/peers/second.c"
-programs=(second)
+connection second.connection "$top/checks/peers/second.c"
+programs=(second second.connection)
 for build in SHIPPED BLOCKS TINY BARE; do
     objects "$build" -O2 -w -DBUILD="$build" -I"$top/checks/peers" -I"$top/bench/peer" -I"$lwip/include" -c "$lwip"/core/*.c \
         "$lwip"/core/ipv4/{ip4,ip4_addr,ip4_frag,icmp}.c
-    program "lwip.$build" -DBUILD="$build" -I"$top/bench/peer" -isystem "$lwip/include" "$top/checks/peers/lwip.c" "$build"/*.o
+    against=(-DBUILD="$build" -I"$top/bench/peer" -isystem "$lwip/include" "$top/checks/peers/lwip.c" "$build"/*.o)
+    program "lwip.$build" "${against[@]}"
     programs+=("lwip.$build")
+    [[ $build != BLOCKS ]] || connection lwip.BLOCKS.connection "${against[@]}"
 done
+programs+=(lwip.BLOCKS.connection)
 [[ -z $only_builds ]] || exit 0
 for program in "${programs[@]}"; do
     "./$program" "${words[@]}" >"$program.log" || true

@@ -2,6 +2,7 @@
 #include "peer.h"
 #include "flow.h"
 
+#include <limits.h>
 #include <stdio.h>
 #include <stdlib.h>
 #include <string.h>
@@ -17,6 +18,9 @@ static struct own {
 } owns[2];
 
 static uint64_t came, kept_out;
+
+const char *const OWN_NAME = "";
+const int OWN_SYN_ACKS = INT_MAX; /* a SYN that comes again is answered by another one */
 
 uint32_t __real_tcpcore_arrive_by(tcpcore_end *end, tcpcore_addr src, tcpcore_addr dst, const void *bytes, size_t length,
                                   const struct tcpcore_intake *intake, struct tcpcore_arrive_report *report);

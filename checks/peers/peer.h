@@ -1,7 +1,8 @@
 /*
- * peer.h: one end of ours with its companions against another stack, in one process, on a clock and over a wire of the driver's:
- * the same numbers at first give the same run. What a program is linked from: cases.c (the cases), wire.c, own.c (our side), and
- * one file for the other side: lwip.c, slirp.c, gvisor.c, kernel.c, or second.c, an end of ours. The kernel's clock is the machine's.
+ * peer.h: a side of ours against another stack, in one process, on a clock and over a wire of the driver's: the same numbers at first
+ * give the same run. What a program is linked from: cases.c (the cases), wire.c, one file for our side, own.c (an end with its
+ * companions) or own_connection.c (a connection), and one for the other side: lwip.c, slirp.c, gvisor.c, kernel.c, or second.c, a side
+ * of ours. The kernel's clock is the machine's.
  */
 #ifndef CHECKS_PEER_H
 #define CHECKS_PEER_H
@@ -78,7 +79,7 @@ int wire_carry(void);
 uint64_t wire_next(void);
 uint64_t wire_count(int side);
 
-/* own.c: our end, numbered as it stands in the trial. */
+/* own.c, own_connection.c: our end, numbered as it stands in the trial. */
 void own_begin(int side);
 void own_arrive(int side, const uint8_t *segment, size_t length);
 void own_turn(int side);
@@ -88,6 +89,8 @@ const char *own_fault(int side);
 void own_report(int side);
 uint64_t own_resent(int side); /* segments that it sent again, as its emissions were reported */
 uint64_t own_timeouts(int side);
+extern const char *const OWN_NAME; /* it stands behind the peer's name */
+extern const int OWN_SYN_ACKS; /* so many of its SYN,ACKs may be lost, one after another */
 uint64_t own_came(void);       /* segments that came in all cases */
 uint64_t own_kept_out(void);   /* and of these those that the guard kept out, and that would be taken without it */
 
