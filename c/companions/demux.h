@@ -10,7 +10,7 @@
  * milliseconds at most. `now` is a count of milliseconds that never goes back.
  *
  * Where nothing is under way no timer runs: an end whose peer vanished then stays until its user aborts it, or `keep` asks
- * (RFC 9293, 3.8.4). examples/echo.c is a whole program on all companions.
+ * (RFC 9293, 3.8.4). A host of tcpcore.h serves many ports: ../tcpcore/examples/host_echo.c is a whole program on one.
  */
 #ifndef TCPCORE_DEMUX_H
 #define TCPCORE_DEMUX_H

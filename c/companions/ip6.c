@@ -1,7 +1,7 @@
 /* The IPv6 header, and addresses in IPv6's place (see ip6.h). C over tcpcore.h, tested and not proved. */
 #include "ip6.h"
+#include "secret.h"
 #include "segment.h"
-#include "table.h"
 
 #include <string.h>
 
@@ -72,19 +72,10 @@ uint16_t ip6_sum(const struct ip6_packet *packet)
     return words_sum(packet->segment, packet->length, front + packet->length);
 }
 
-/* Four blocks one after another, each with all 64 bits of what the one before made. */
 tcpcore_addr ip6_surrogate(struct ip6_addr addr, const uint8_t secret[16])
 {
-    struct table table = {0};
-    uint64_t state = 0;
-    memcpy(table.secret, secret, sizeof table.secret);
-    for (size_t at = 0; at < sizeof addr.byte; at += sizeof(tcpcore_addr)) {
-        uint32_t word = read32(addr.byte + at) ^ (uint32_t)state;
-        tcpcore_addr block = {{(uint8_t)(word >> 24), (uint8_t)(word >> 16), (uint8_t)(word >> 8), (uint8_t)word}};
-        table.port = (uint16_t)(state >> 48);
-        state = table_secret(&table, block, (uint16_t)(state >> 32));
-    }
-    return (tcpcore_addr){{(uint8_t)(0xf0 | (state >> 24 & 15)), (uint8_t)(state >> 16), (uint8_t)(state >> 8), (uint8_t)state}};
+    uint64_t hash = secret_hash(secret, addr.byte, sizeof addr.byte);
+    return (tcpcore_addr){{(uint8_t)(0xf0 | (hash >> 24 & 15)), (uint8_t)(hash >> 16), (uint8_t)(hash >> 8), (uint8_t)hash}};
 }
 
 int ip6_is_surrogate(tcpcore_addr addr) { return addr.byte[0] >= 0xf0; }

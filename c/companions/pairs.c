@@ -1,4 +1,4 @@
-/* Connections by both addresses and both ports (see pairs.h). C beside table.h, tested and not proved. */
+/* Connections by both addresses and both ports (see pairs.h). C beside secret.h, tested and not proved. */
 #include "pairs.h"
 
 #include <string.h>
@@ -6,20 +6,22 @@
 void pairs_init(struct pairs *pairs, struct pair **buckets, uint32_t count, const uint8_t secret[16])
 {
     *pairs = (struct pairs){.buckets = buckets, .count = count};
-    memcpy(pairs->secret.secret, secret, sizeof pairs->secret.secret);
+    memcpy(pairs->secret, secret, sizeof pairs->secret);
     for (uint32_t at = 0; at < count; at++)
         buckets[at] = NULL;
 }
 
-/* Of both halves by themselves; 31 keeps two equal ones from leaving nothing. */
-uint64_t pairs_secret(struct pairs *pairs, const struct pair *pair)
+uint64_t pairs_secret(const struct pairs *pairs, const struct pair *pair)
 {
-    pairs->secret.port = pair->server_port;
-    return 31 * table_secret(&pairs->secret, pair->client, pair->client_port) +
-           table_secret(&pairs->secret, pair->server, pair->client_port);
+    uint8_t bytes[12] = {0};
+    memcpy(bytes, pair->client.byte, 4);
+    memcpy(bytes + 4, pair->server.byte, 4);
+    bytes[8] = (uint8_t)(pair->client_port >> 8), bytes[9] = (uint8_t)pair->client_port;
+    bytes[10] = (uint8_t)(pair->server_port >> 8), bytes[11] = (uint8_t)pair->server_port;
+    return secret_hash(pairs->secret, bytes, sizeof bytes);
 }
 
-static struct pair **bucket_of(struct pairs *pairs, const struct pair *pair)
+static struct pair **bucket_of(const struct pairs *pairs, const struct pair *pair)
 {
     return &pairs->buckets[(pairs_secret(pairs, pair) >> 32) % pairs->count];
 }
@@ -30,7 +32,7 @@ static int is_same(const struct pair *a, const struct pair *b)
            memcmp(&a->client, &b->client, sizeof a->client) == 0 && memcmp(&a->server, &b->server, sizeof a->server) == 0;
 }
 
-struct pair *pairs_find(struct pairs *pairs, const struct pair *key)
+struct pair *pairs_find(const struct pairs *pairs, const struct pair *key)
 {
     struct pair *pair = *bucket_of(pairs, key);
     while (pair && !is_same(pair, key))

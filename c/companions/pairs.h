@@ -1,13 +1,13 @@
 /*
  * pairs.h: connections by both addresses and both ports (a pair of sockets identifies a connection: RFC 9293, 4).
  *
- * This is C beside tcpcore.h and table.h, tested and not proved. Nodes are in the structs of their connections, the
+ * This is C beside tcpcore.h and secret.h, tested and not proved. Nodes are in the structs of their connections, the
  * buckets are the caller's. Nobody outside can choose who shares a bucket, since that is up to a secret.
  */
 #ifndef TCPCORE_PAIRS_H
 #define TCPCORE_PAIRS_H
 
-#include "table.h"
+#include "secret.h"
 
 /* A pair of sockets, and its place. */
 struct pair {
@@ -17,20 +17,20 @@ struct pair {
 };
 
 struct pairs {
-    struct table secret;   /* for its secret alone */
     struct pair **buckets;
-    uint32_t count;        /* buckets */
-    uint32_t used, most;   /* pairs, and the most there were at once */
+    uint32_t count;      /* buckets */
+    uint32_t used, most; /* pairs, and the most there were at once */
+    uint8_t secret[16];
 };
 
 /* No pairs, in `count` buckets, at least 1. */
 void pairs_init(struct pairs *pairs, struct pair **buckets, uint32_t count, const uint8_t secret[16]);
 
 /* 64 secret bits of a pair; the lower half is good for an initial sequence number (RFC 9293, 3.4.1). */
-uint64_t pairs_secret(struct pairs *pairs, const struct pair *pair);
+uint64_t pairs_secret(const struct pairs *pairs, const struct pair *pair);
 
 /* The pair of these sockets, or NULL. */
-struct pair *pairs_find(struct pairs *pairs, const struct pair *key);
+struct pair *pairs_find(const struct pairs *pairs, const struct pair *key);
 
 /* Adds a pair that isn't there; it stays where it is until it is removed. */
 void pairs_add(struct pairs *pairs, struct pair *pair);

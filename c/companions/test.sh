@@ -1,8 +1,7 @@
 #!/usr/bin/env bash
 # Builds the companions and their tests with gcc and clang over a static library (the first argument, or crates/tcp_c's
-# own), and runs them, also under sanitizers and valgrind. It builds the echo server on them, too, which checks/live/run.sh runs
-# against this machine's kernel. It installs clang, valgrind and the sanitizers by apt-get where this machine lacks them;
-# where that fails it fails, or, with LEAVE_OUT=1 in the environment, says what it leaves out.
+# own), and runs them, also under sanitizers and valgrind. It installs clang, valgrind and the sanitizers by apt-get where
+# this machine lacks them; where that fails it fails, or, with LEAVE_OUT=1 in the environment, says what it leaves out.
 # Stops at the first failure.
 set -euo pipefail
 cd "$(dirname "$0")"
@@ -12,7 +11,7 @@ library=$(realpath -m "${1:-../../crates/tcp_c/out/libtcp_c.a}")
 warnings="-std=c11 -g -Wall -Wextra -Wpedantic -Werror"
 stricter="-Wcast-qual -Wconversion -Wshadow -Wstrict-prototypes"
 sanitizers="-O1 -fsanitize=address,undefined -fno-sanitize-recover=all"
-tests="timers congestion cubic answers flow recovery resets losses fuzz ip datagrams table demux crowd faults fragments ip6 pairs path trains wheel old_names"
+tests="timers congestion cubic answers flow recovery resets losses fuzz ip datagrams table demux crowd faults fragments ip6 pairs path trains wheel secret old_names"
 passed=0
 
 pass() { passed=$((passed + 1)); }
@@ -55,15 +54,15 @@ check_file() {
     no_names "global state" "out/$name.o" 'NF == 3 && $2 ~ /[BbCDd]/'
     no_names "other names" "out/$name.o" "NF == 3 && \$2 ~ /[A-Z]/ && tolower(\$3) !~ /^${name}_/"
     no_names "what it needs" "out/$name.o" \
-        '$1 == "U" && $2 !~ /^(tcpcore|timers|congestion|cubic|loss_recovery|delayed_ack|silly_window|keep_alive|answers|flow|icmp|ip6?|table)_|^TIMERS_RULES$|^mem(cpy|move|set|cmp)$/'
+        '$1 == "U" && $2 !~ /^(tcpcore|timers|congestion|cubic|loss_recovery|delayed_ack|silly_window|keep_alive|answers|flow|icmp|ip6?|secret|table)_|^TIMERS_RULES$|^mem(cpy|move|set|cmp)$/'
 }
 
-# All under sanitizers, and the echo server.
-sanitized() { objects "$1" "$1" $sanitizers && build "$1" examples/echo.c echo.sanitized "$1" $sanitizers; }
+# All under sanitizers, and a test of them.
+sanitized() { objects "$1" "$1" $sanitizers && build "$1" tests/ip.c ip.sanitized "$1" $sanitizers; }
 
 check_with() {
     local compiler=$1 package=$2 name level
-    for name in timers congestion cubic loss_recovery delayed_ack silly_window keep_alive answers flow ip ethernet icmp udp table demux faults fragments ip6 icmp6 pairs path trains wheel; do
+    for name in timers congestion cubic loss_recovery delayed_ack silly_window keep_alive answers flow ip ethernet icmp udp table demux faults fragments ip6 icmp6 pairs path trains wheel secret; do
         check_file "$compiler" "$name"
     done
     # What it needs is the system's; ../../apps/usernet runs it.
@@ -75,8 +74,6 @@ check_with() {
             runs "out/$name$level.$compiler"
         done
     done
-    build "$compiler-O2" examples/echo.c "echo.$compiler" "$compiler" $stricter -Wno-cast-qual -O2
-    pass
     if has "$package" sanitized "$compiler"; then
         for name in $tests; do
             build "$compiler" "tests/$name.c" "$name.sanitized" "$compiler" $sanitizers

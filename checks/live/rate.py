@@ -1,4 +1,4 @@
-"""c/companions/examples/echo.c through a link of 100 Mbit/s with a queue of 150 kB: python3 checks/live/rate.py PROGRAM [--only WORD]
+"""c/tcpcore/examples/host_echo.c through a link of 100 Mbit/s with a queue of 150 kB: python3 checks/live/rate.py PROGRAM [--only WORD]
 
 The program's ends send through a router, whose link to the kernel's client is slowed down by tbf. Measured are the
 bytes of text a second that came back, and how many segments went out again: alone, where the program loses 1 percent

@@ -1,8 +1,8 @@
 #!/usr/bin/env bash
 # The library against this machine's Linux kernel, and the second program of checks/differential/ in its place. It wants root,
 # network namespaces and /dev/net/tun, and installs iproute2 by apt-get; where one is missing it fails, or, with LEAVE_OUT=1
-# in the environment, says so and leaves the run out. c/tcpcore/test.sh makes the shared library, and c/companions/test.sh the
-# echo server. Words are live.py's, which runs alone then.
+# in the environment, says so and leaves the run out. c/tcpcore/test.sh makes the shared library and the echo server. Words are
+# live.py's, which runs alone then.
 set -euo pipefail
 cd "$(dirname "$0")"
 test=live
@@ -19,9 +19,9 @@ if [[ ! -e ${LIBTCPCORE:-../../c/tcpcore/out/libtcpcore.so} ]]; then
     echo "live: no c/tcpcore/out/libtcpcore.so: run c/tcpcore/test.sh first"
     exit 1
 fi
-echo=../../c/companions/out/echo
+echo=../../c/tcpcore/out/host_echo
 if [[ ! -e $echo.gcc ]]; then
-    echo "live: no c/companions/out/echo.gcc: run c/companions/test.sh first"
+    echo "live: no c/tcpcore/out/host_echo.gcc: run c/tcpcore/test.sh first"
     exit 1
 fi
 if (($#)); then

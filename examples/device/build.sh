@@ -5,8 +5,6 @@ set -euo pipefail
 here=$(cd "$(dirname "$0")" && pwd)
 top=$here/../..
 elf=$1 library=${2:-$top/release}
-companions=()
-for name in demux table flow loss_recovery delayed_ack silly_window keep_alive timers congestion cubic answers ip; do companions+=("$top/c/companions/$name.c"); done
 arm-none-eabi-gcc -std=c11 -Os -mcpu=cortex-m3 -mthumb -ffreestanding -nostdlib -Wall -Wextra -Wno-unused-parameter \
     -ffunction-sections -fdata-sections -fno-tree-loop-distribute-patterns -Wl,--gc-sections -Wl,-T,"$here/device.ld" \
-    -I"$here" -I"$library" -I"$top/c/companions" "$here"/*.c "${companions[@]}" "$library/tcpcore.c" -lgcc -o "$elf"
+    -I"$here" -I"$library" -I"$top/c/companions" "$here"/*.c "$top/c/companions/ip.c" "$top/c/companions/secret.c" "$library/tcpcore.c" -lgcc -o "$elf"
