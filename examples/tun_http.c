@@ -52,6 +52,7 @@ static tcpcore_host host;
 static struct tcpcore_host_id listener;
 static struct client clients[CLIENTS], *by_slot[CLIENTS];
 static unsigned char tables[TCPCORE_HOST_MEMORY(CLIENTS, RECORDS, 1, BACKLOG)];
+static size_t records; /* how many there are */
 static tcpcore_config config = TCPCORE_CONFIG_DEFAULT;
 static struct tcpcore_connection_rules rules = TCPCORE_CONNECTION_RULES_DEFAULT;
 static struct tcpcore_policy policy = TCPCORE_POLICY_DEFAULT;
@@ -94,11 +95,15 @@ static void settle(struct client *client)
 {
     tcpcore_connection connection = TCPCORE_CONNECTION_INIT;
     struct tcpcore_status status;
-    tcpcore_host_status(&host, &client->id, &status);
-    uint32_t answer = tcpcore_host_retire(&host, &client->id, &connection);
+    if (tcpcore_host_status(&host, &client->id, &status) != TCPCORE_DONE)
+        return;
+    /* One that finds no room for its record leaves without one. */
+    int is_full = records == RECORDS && status.phase == TCPCORE_PHASE_TIME_WAIT;
+    uint32_t answer = is_full ? TCPCORE_NO_MEMORY : tcpcore_host_retire(&host, &client->id, &connection);
     if (answer == TCPCORE_DONE) {
         tcpcore_connection_free(&connection);
         client->is_used = 0;
+        records++;
     } else if (answer == TCPCORE_NO_MEMORY || status.phase == TCPCORE_PHASE_CLOSED || status.phase == TCPCORE_PHASE_LISTEN) {
         leave(client);
     }
@@ -230,7 +235,7 @@ static void run_times(uint64_t now)
 {
     struct tcpcore_host_told told;
     while (tcpcore_host_timeout(&host, now, &told) == TCPCORE_DONE)
-        continue;
+        records -= told.place == TCPCORE_PLACE_RECORD;
     for (struct client *client = clients; client < clients + CLIENTS; client++)
         if (client->is_used && client->is_open && now - client->heard > PATIENCE)
             tcpcore_host_abort(&host, now, &client->id);

@@ -1312,7 +1312,8 @@ typedef struct tcpcore_host {
 /* No host. */
 #define TCPCORE_HOST_INIT {{0, 0, 0}}
 
-/* The name of a connection or of a listener in a host: no other one has it or had it. */
+/* The name of a connection or of a listener in a host: no other connection, or listener, has it or had it. Numbers begin at 0, so that zeros
+   are a name, too: go by the answers and by `place`. */
 struct tcpcore_host_id {
     /* Its number, in the order in which they came. */
     uint64_t number;
@@ -1332,7 +1333,7 @@ struct tcpcore_host_arrived {
 
 /* What tcpcore_host_emit reports of the segment that it wrote. */
 struct tcpcore_host_sent {
-    /* The end whose turn it was; zero of a TIME-WAIT record. */
+    /* The end whose turn it was; zero of a TIME-WAIT record, and of an end that was moved out before its turn. */
     struct tcpcore_host_id id;
     /* Its length in bytes, with its header. */
     uint64_t length;
@@ -1364,8 +1365,10 @@ struct tcpcore_host_told {
 };
 
 /* How many bytes of a block are enough for a host of so many connections, TIME-WAIT records and listeners at any time, and of so many in
-   all backlogs together. The tables double where they grow, and what is left of them is used again, that of a listener by one with the same
-   backlog. It is measured by the tests (tests/host_room.c), not proved. */
+   all backlogs together. It is measured by the tests (tests/host_room.c) for listeners of one backlog, not proved. The tables double where
+   they grow, and what one has taken no other one gets back; what a listener leaves is used again by one with the same backlog. So count your
+   connections and your records, and keep no more of either than the block was made for: with tcpcore_host_remove one in TIME-WAIT leaves
+   without a record. */
 #define TCPCORE_HOST_MEMORY(connections, records, listeners, backlogs) \
     ((size_t)4096 + 512 * (size_t)(connections) + 800 * (size_t)(records) + 448 * (size_t)(listeners) + 16 * (size_t)(backlogs))
 
@@ -1464,8 +1467,8 @@ uint32_t tcpcore_host_stray(tcpcore_host *host, uint64_t now, tcpcore_addr src, 
 /*
  * Whose turn it is has its turn at `now`: TIME-WAIT records first, then each connection, which writes what may go out within `window` as
  * tcpcore_connection_emit does; UINT64_MAX for no window of the caller's own. Who has sent waits behind all others for its next turn.
- *   DONE: send what was written, from `from` to `to`. NOT_DUE: whose turn it was, as `id` and `place` say, has nothing to send; call again.
- *   NOBODY waits. ROOM: `room` is below TCPCORE_EMIT_ROOM. NO_END; NULL; LENGTH; OVERLAP; COPIED.
+ *   DONE: send what was written, from `from` to `to`. NOT_DUE: whose turn it was, as `id` and `place` say, has nothing to send, or was moved out
+ *   (its `id` is 0 then); call again. NOBODY waits. ROOM: `room` is below TCPCORE_EMIT_ROOM. NO_END; NULL; LENGTH; OVERLAP; COPIED.
  */
 uint32_t tcpcore_host_emit(tcpcore_host *host, uint64_t now, uint64_t window, void *out, size_t room, struct tcpcore_host_sent *sent);
 

@@ -41,6 +41,7 @@ static struct client clients[CLIENTS], *by_slot[CLIENTS];
 static unsigned char tables[TCPCORE_HOST_MEMORY(CLIENTS, RECORDS, 1, BACKLOG)];
 static unsigned char memory[CLIENTS * TCPCORE_CONNECTION_MEMORY(CAPACITY, CAPACITY)];
 static size_t room, places; /* what a connection takes of it, and how many have room */
+static size_t records;      /* of those in TIME-WAIT: the tables have room for RECORDS */
 static tcpcore_config config = TCPCORE_CONFIG_DEFAULT;
 static struct tcpcore_connection_rules rules = TCPCORE_CONNECTION_RULES_DEFAULT;
 static struct tcpcore_policy policy = TCPCORE_POLICY_DEFAULT;
@@ -94,8 +95,10 @@ static void settle(struct client *client)
 {
     tcpcore_connection connection = TCPCORE_CONNECTION_INIT;
     struct tcpcore_status status;
-    tcpcore_host_status(&host, &client->id, &status);
-    uint32_t answer = tcpcore_host_retire(&host, &client->id, &connection);
+    if (tcpcore_host_status(&host, &client->id, &status) != TCPCORE_DONE)
+        return;
+    uint32_t answer = records < RECORDS ? tcpcore_host_retire(&host, &client->id, &connection) : TCPCORE_NO_MEMORY;
+    records += answer == TCPCORE_DONE;
     orderly += answer == TCPCORE_DONE || status.ending == TCPCORE_ENDING_ORDERLY;
     if (answer == TCPCORE_DONE) {
         tcpcore_connection_free(&connection);
@@ -249,8 +252,10 @@ static void read_device(uint64_t now)
 static void run_times(uint64_t now)
 {
     struct tcpcore_host_told told;
-    while (tcpcore_host_timeout(&host, now, &told) == TCPCORE_DONE)
+    while (tcpcore_host_timeout(&host, now, &told) == TCPCORE_DONE) {
         abandoned += told.timer == TCPCORE_TIMER_USER;
+        records -= told.place == TCPCORE_PLACE_RECORD;
+    }
 }
 
 /* For so many milliseconds there is nothing to do but wait, 100 at most: a signal may come just before. */

@@ -83,6 +83,14 @@ impl Store {
         None
     }
 
+    /// Whether so many bytes were never handed out.
+    fn has_room(&self, size: usize) -> bool {
+        match &self.rest {
+            Some(block) => block.size >= size,
+            None => false,
+        }
+    }
+
     /// There is room for a size more.
     fn grow(&mut self) -> Option<()> {
         if self.shelves.len() < self.shelves.capacity() {
@@ -96,10 +104,13 @@ impl Store {
         Some(())
     }
 
-    /// The place of the pieces of a size.
+    /// The place of the pieces of a size, for which there is one where there are none yet only if a piece fits.
     fn shelf(&mut self, size: usize) -> Option<usize> {
         if let Some(at) = self.find(size) {
             return Some(at);
+        }
+        if !self.has_room(size) {
+            return None;
         }
         self.grow()?;
         let region = carve(&mut self.rest, 0)?;
@@ -119,6 +130,7 @@ impl Store {
         ensures { IfSome result (λ b. b.size ≡ size) }
     {
         let at = self.shelf(size)?;
+        let fits = self.has_room(size);
         let shelf = self.shelves.get_mut(at)?;
         if let Some(piece) = shelf.free.pop() {
             return if piece.size == size {
@@ -127,8 +139,15 @@ impl Store {
                 None
             };
         }
+        // What is refused takes nothing, so that it can be asked for as often as one likes.
+        if !fits {
+            return None;
+        }
         shelf.count_one(&mut self.rest)?;
-        let region = carve(&mut self.rest, size)?;
+        let Some(region) = carve(&mut self.rest, size) else {
+            shelf.count = shelf.count.saturating_sub(1);
+            return None;
+        };
         Bytes::of(&region, size)
     }
 

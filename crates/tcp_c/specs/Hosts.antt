@@ -283,7 +283,7 @@ abbrev pub place_told : Hosted → Bool → Arrived (Taken reports.Taken) → CH
 place_told h asking (came.Taken slot found) = at_place (id_told (id_at h.ends slot)) 1
 place_told h asking (came.Late slot answer) = at_place no_id 2
 place_told h asking (came.Listening slot) = if asking then at_place (id_told (id_at h.listeners slot)) 3 else at_place no_id 5
-place_told h asking (came.Full slot) = at_place (id_told (id_at h.listeners slot)) 4
+place_told h asking (came.Full slot) = if asking then at_place (id_told (id_at h.listeners slot)) 4 else at_place no_id 5
 place_told h asking came.Stray = at_place no_id 5
 place_told h asking came.Short = at_place no_id 0
 

@@ -80,7 +80,13 @@ impl Lodging {
                     at_place(no_id(), PLACE_STRAY)
                 }
             }
-            Arrived::Full(slot) => at_place(id_told(self.host.listener_id(*slot)), PLACE_FULL),
+            Arrived::Full(slot) => {
+                if is_asking {
+                    at_place(id_told(self.host.listener_id(*slot)), PLACE_FULL)
+                } else {
+                    at_place(no_id(), PLACE_STRAY)
+                }
+            }
             Arrived::Stray => at_place(no_id(), PLACE_STRAY),
             Arrived::Short => at_place(no_id(), PLACE_NONE),
         }
