@@ -145,8 +145,8 @@ def reached(declared, body, roots):
     return "".join(lines), "".join(text for name, text in each.items() if name in found)
 
 
-def functions(text, module, roots):
-    """wasm2c's functions of a module that these need, and their declarations. What is in its memory from the start is `table_of`'s."""
+def functions(text, module, roots=None):
+    """wasm2c's functions of a module, or those that these need, and their declarations. What is in its memory from the start is `table_of`'s."""
     instance = f"Z_{module}_instance_t\\*"
     globals_of, memories = (made_of(text, instance, what) for what in ("globals", "memories"))
     named = re.findall(r"instance->(\w+) = (\w+);\n", globals_of[1])
@@ -159,7 +159,9 @@ def functions(text, module, roots):
         stop("the module has a table")
     declared = text[text.index("static u32 w2c___rattle_enter(") : globals_of.start()]
     start = re.search(rf"^static u32 w2c___rattle_enter\({instance} instance\)", text, re.M).start()
-    declared, body = reached(declared, text[start : text.index("/* export: ")], roots)
+    body = text[start : text.index("/* export: ")]
+    if roots is not None:
+        declared, body = reached(declared, body, roots)
     names = set(re.findall(rf"^static (?:u32|u64|void) (w2c_\w+)\({instance}", declared, re.M))
     unknown = set(re.findall(r"\b([A-Za-z_]\w*)\(", body)) - names - KNOWN
     # REM_U of memory.c is of 32 bits, DIV_U of 64, which are enough for 32.
