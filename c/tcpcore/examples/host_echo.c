@@ -263,7 +263,8 @@ static int quiet_for(uint64_t now)
 {
     uint64_t at;
     tcpcore_host_poll_at(&host, &at);
-    return at <= now ? 0 : at - now < 100 * MILLISECOND ? (int)((at - now) / MILLISECOND + 1) : 100;
+    uint64_t left = at > now ? (at - now + MILLISECOND - 1) / MILLISECOND : 0;
+    return left < 100 ? (int)left : 100;
 }
 
 static void report_counts(void)
