@@ -2,8 +2,8 @@
  * tcpcore.h: one end of one TCP connection, as a value (RFC 9293; window scale of RFC 7323; selective
  * acknowledgement of RFC 2018). IPv4.
  *
- * It is one C99 file for any machine, release/tcpcore.c: the proved machine code for x86-64 and aarch64 on Linux, and the same code translated
- * to C for any other machine, of 32 bits too and of either order of bytes; or a library of that machine code.
+ * It is one C99 file for any machine, release/tcpcore.c: the proved machine code for x86-64 and aarch64 on Linux, and the same code
+ * translated to C for any other machine, of 32 bits too and of either order of bytes; or a library of that machine code.
  *
  * Of the file x86-64's code of level v2 is taken where the compiler makes code for such processors (-march=x86-64-v2 or later ones), and
  * else the code that any x86-64 runs; with -DTCPCORE_PORTABLE the C. The library that 'rt lib' builds needs a processor of level v2, and
@@ -74,10 +74,11 @@
  *
  * STACK
  *   A call takes less than TCPCORE_STACK bytes, one that makes a connection less than TCPCORE_CONNECTION_STACK, and
- *   tcpcore_connection_set_recovery, and any call of a connection behind that, less than TCPCORE_RECOVERY_STACK. That isn't proved: the
- *   tests read it from the disassembly (tests/depth.py: nothing calls through a pointer, and nothing calls itself) and measure the
- *   first (tests/stack.c). In the portable file it is TCPCORE_PORTABLE_STACK, and TCPCORE_PORTABLE_CONNECTION_STACK for any call of
- *   a connection, as gcc tells it for x86-64 (c/portable/tests/depth.py).
+ *   tcpcore_connection_set_recovery, any call of a connection behind that, and any of a host, less than TCPCORE_RECOVERY_STACK. That
+ *   isn't proved: the tests read it from the disassembly (tests/depth.py: nothing calls through a pointer, and nothing calls itself but
+ *   what goes down the trees of a host's tables) and measure the first (tests/stack.c). In the portable file it is
+ *   TCPCORE_PORTABLE_STACK, and TCPCORE_PORTABLE_CONNECTION_STACK for any call of a connection, as gcc tells it for x86-64
+ *   (c/portable/tests/depth.py).
  *
  * THREADS
  *   None is started. One end is used by one thread at a time: two calls of one end at once are undefined behaviour and
@@ -103,9 +104,9 @@
  *   over tcpcore_emit that goes on while it answers TCPCORE_DONE ends, and a caller that looks for TCPCORE_NOT_DUE, or TCPCORE_NO_RULE
  *   of a timer, sees the difference. A refusal changes no end. What a call writes through a pointer
  *   (a count, an address, timers, a status) is written at every answer, and is all 0 unless the answer is TCPCORE_DONE,
- *   but for what an arrival reports beside TCPCORE_DROPPED; buffers stay as they are then. Such a pointer may not be over
- *   the struct, over the buffer of the same call, or over another such pointer: the answer is TCPCORE_OVERLAP, and
- *   nothing is written there. A buffer may be NULL where its length is 0.
+ *   but for what an arrival reports beside TCPCORE_DROPPED, and whose turn it was beside TCPCORE_NOT_DUE of tcpcore_host_emit; buffers
+ *   stay as they are then. Such a pointer may not be over the struct, over the buffer of the same call, or over another such pointer: the
+ *   answer is TCPCORE_OVERLAP, and nothing is written there. A buffer may be NULL where its length is 0.
  *
  * WHAT IS TRUSTED
  *   What a call does to an end is proved of the library. Not proved: tcpcore.c, the C compiler, the three functions of the
@@ -134,7 +135,23 @@ extern "C" {
 #endif
 
 /* The version of this header: it grows with each change of a struct, a call or an answer. */
-#define TCPCORE_VERSION 18
+#define TCPCORE_VERSION 19
+
+/* Whether there are hosts (HOSTS, below): where tcpcore.c takes machine code, by the rule that stands at its top. */
+#if !defined(TCPCORE_HAS_HOSTS) && !defined(TCPCORE_PORTABLE) && defined(__GNUC__) && !defined(__TINYC__) && defined(__linux__) && \
+    defined(__ELF__) && defined(__SIZEOF_POINTER__) && !defined(__code_model_large__)
+#if __SIZEOF_POINTER__ == 8 && defined(__x86_64__) && defined(__SSE2__)
+#define TCPCORE_HAS_HOSTS 1
+#elif __SIZEOF_POINTER__ == 8 && defined(__aarch64__) && defined(__AARCH64EL__) && defined(__ARM_NEON) && \
+    !defined(__ARM_FEATURE_BTI_DEFAULT) && !defined(__AARCH64_CMODEL_LARGE__) && !defined(__ANDROID__)
+#define TCPCORE_HAS_HOSTS 1
+#endif
+#ifdef __has_feature
+#if __has_feature(memory_sanitizer) || __has_feature(shadow_call_stack)
+#undef TCPCORE_HAS_HOSTS
+#endif
+#endif
+#endif
 
 /* The answers; tcpcore_strerror has a text for each. */
 enum {
@@ -177,8 +194,8 @@ enum {
     /* The call was made and found this. */
     TCPCORE_NOTHING = 51,       /* tcpcore_receive: nothing to read yet */
     TCPCORE_END_OF_STREAM = 52, /* tcpcore_receive: the peer closed, and all its bytes were delivered */
-    TCPCORE_NOT_DUE = 53,       /* no segment is due; tcpcore_stray_reset: no reset answers the bytes; tcpcore_connection_timeout: no timer has
-                                   expired */
+    TCPCORE_NOT_DUE = 53,       /* no segment is due; tcpcore_stray_reset: no reset answers the bytes; tcpcore_connection_timeout: no
+                                   timer has expired */
     TCPCORE_NO_RULE = 54,       /* tcpcore_timer: the timer's bit was clear; tcpcore_connection_set_congestion and
                                    tcpcore_connection_set_recovery: text was sent already; nothing changed */
     TCPCORE_DROPPED = 55,       /* an arrival: the segment was dropped; an answer to it may be due */
@@ -186,7 +203,13 @@ enum {
     TCPCORE_NOT_TIME_WAIT = 57,   /* tcpcore_time_wait: the end isn't in TIME-WAIT, or has bytes unread */
     TCPCORE_EMIT_FIRST = 58,    /* tcpcore_connection_arrive: a timer has expired, and what was due then has to go out first; nothing
                                    changed: emit until TCPCORE_NOT_DUE, and hand the segment in again */
-    TCPCORE_WITHHELD = 59       /* tcpcore_connection_arrive: a reset that counts as lost; nothing changed, and nothing is to be done */
+    TCPCORE_WITHHELD = 59,      /* tcpcore_connection_arrive: a reset that counts as lost; nothing changed, and nothing is to be done */
+    /* A host refuses, or has nobody; nothing changed. */
+    TCPCORE_TAKEN = 60,         /* tcpcore_host_..: somebody has these values already */
+    TCPCORE_GONE = 61,          /* tcpcore_host_..: the connection, or the listener, of this name is gone */
+    TCPCORE_BACKLOG_FULL = 62,  /* tcpcore_host_admit: the listener has as many connections in its backlog as it may */
+    TCPCORE_NOBODY = 63         /* tcpcore_host_emit: nobody waits for a turn; tcpcore_host_timeout: nobody is due; tcpcore_host_accept:
+                                   no connection waits to be accepted */
 };
 
 /* The phases (RFC 9293, 3.3.2). */
@@ -217,7 +240,18 @@ enum {
     TCPCORE_TIMER_RETRANSMIT = 0, /* the retransmission timeout (RFC 9293, 3.8.1) */
     TCPCORE_TIMER_REORDER = 1,    /* what the peer's blocks passed over is taken for lost */
     TCPCORE_TIMER_TIME_WAIT = 2,  /* the TIME-WAIT timeout (RFC 9293, 3.10.8) */
-    TCPCORE_TIMER_USER = 3        /* of a connection alone: the user timeout (RFC 9293, 3.8.3), or the limit of FIN-WAIT-2 */
+    TCPCORE_TIMER_USER = 3,       /* of a connection alone: the user timeout (RFC 9293, 3.8.3), or the limit of FIN-WAIT-2 */
+    TCPCORE_TIMER_NONE = 4        /* what tcpcore_host_timeout reports where none has expired: what was held back may go out */
+};
+
+/* Where something is in a host. */
+enum {
+    TCPCORE_PLACE_NONE = 0,     /* nowhere: too short for ports, or nobody */
+    TCPCORE_PLACE_END = 1,      /* at a connection */
+    TCPCORE_PLACE_RECORD = 2,   /* at a TIME-WAIT record */
+    TCPCORE_PLACE_LISTENER = 3, /* at a listener that it asks for a connection */
+    TCPCORE_PLACE_FULL = 4,     /* the same, but as many wait there as may: it is dropped */
+    TCPCORE_PLACE_STRAY = 5     /* nobody's */
 };
 
 /* The congestion window of a connection, which tcpcore_connection_set_congestion chooses. */
@@ -252,7 +286,8 @@ enum {
 #define TCPCORE_CONNECTION_STACK 5632
 #define TCPCORE_PORTABLE_CONNECTION_STACK 12288
 
-/* The bytes of stack that tcpcore_connection_set_recovery, and a call of a connection that has a recovery, take at most. */
+/* The bytes of stack that tcpcore_connection_set_recovery, a call of a connection that has a recovery, and any call of a host take at most;
+   of a host with fewer than three million connections, records and listeners each, since it goes down the trees of its tables. */
 #define TCPCORE_RECOVERY_STACK 4608
 
 /* The room that tcpcore_emit wants, in bytes: more than the longest segment of an end. */
@@ -777,10 +812,10 @@ uint32_t tcpcore_emit_acknowledgement(tcpcore_end *end, void *out, size_t room, 
 uint32_t tcpcore_resend_first(tcpcore_end *end);
 
 /*
- * Of what is in flight, what lies from the position `from` on and before `to` must be sent again before new data, and nothing else of it: for
- * a caller who knows which stretch of the stream is lost (RFC 6675, 5; RFC 8985, 6.2). What the peer has reported in blocks isn't sent again.
- * Positions are those of tcpcore_transmit: the SYN is at 0, byte i at 1 + i, and the FIN behind the last byte. As tcpcore_resend_first it
- * takes the place of what was to be sent again until now. Of version 17.
+ * Of what is in flight, what lies from the position `from` on and before `to` must be sent again before new data, and nothing else of it:
+ * for a caller who knows which stretch of the stream is lost (RFC 6675, 5; RFC 8985, 6.2). What the peer has reported in blocks isn't sent
+ * again. Positions are those of tcpcore_transmit: the SYN is at 0, byte i at 1 + i, and the FIN behind the last byte. As
+ * tcpcore_resend_first it takes the place of what was to be sent again until now. Of version 17.
  *   DONE: emit. NO_RULE: nothing in flight lies there; nothing changed. NO_END; NULL; COPIED.
  */
 uint32_t tcpcore_resend(tcpcore_end *end, uint64_t from, uint64_t to);
@@ -1200,11 +1235,12 @@ uint32_t tcpcore_connection_set_congestion(tcpcore_connection *connection, uint3
 uint32_t tcpcore_connection_congestion(const tcpcore_connection *connection, struct tcpcore_congestion *congestion);
 
 /*
- * Chooses when an acknowledgement and a small segment go out (RFC 9293, 3.7.4 and 3.8.6; RFC 5961, 7): at once where this isn't called. From
- * then on an emission answers NOT_DUE while what is due waits, and tcpcore_connection_poll_at reports when it no longer does: emit then.
+ * Chooses when an acknowledgement and a small segment go out (RFC 9293, 3.7.4 and 3.8.6; RFC 5961, 7): at once where this isn't called.
+ * From then on an emission answers NOT_DUE while what is due waits, and tcpcore_connection_poll_at reports when it no longer does: emit
+ * then.
  *   An acknowledgement waits for a second full segment, for text that takes it along, or for `ack_delay`; not where its arrival has to be
- *   answered at once. Text waits that neither fills a segment, nor is all that is queued, nor half of the greatest window, and with `nagle`
- *   while anything is in flight; for `override_timeout`, which begins anew behind whatever else goes out. What goes out
+ *   answered at once. Text waits that neither fills a segment, nor is all that is queued, nor half of the greatest window, and with
+ *   `nagle` while anything is in flight; for `override_timeout`, which begins anew behind whatever else goes out. What goes out
  *   again, a SYN, a FIN, a reset, a probe of a zero window, and all that is due behind a timer's expiry never wait.
  *   A window that reading has opened by a segment, or by half of the receive capacity, is advertised where the peer has less than half of
  *   that left (RFC 9293, 3.8.6.2.2): a user who reads needn't call tcpcore_connection_acknowledge.
@@ -1223,21 +1259,245 @@ uint32_t tcpcore_connection_set_policy(tcpcore_connection *connection, const str
  * where nothing is sent or acknowledged for two round trips, and for the peer's delay behind less than two full segments, the last SMSS
  * numbers, the FIN among them, go out again as a probe, or the first ones while blocks report a gap or a loss is repaired. So a loss rarely
  * waits for the retransmission timeout. The window is a quarter of the least round trip, or more where what was sent again came late, and
- * what is late by less isn't taken for lost. Until reordering was seen the window is 0 behind three duplicates and while a loss is repaired.
+ * what is late by less isn't taken for lost. Until reordering was seen the window is 0 behind three duplicates and while a loss is
+ * repaired.
  *   Choose a congestion window, too: without one all that looks lost goes out again at once, and a peer that reports as received what was
- * sent last has all that is in flight sent again for each of its segments. That window shrinks once for all that is in flight when a loss
- * is found, also for a loss that a probe has repaired, and once more where what was sent again is lost again. The steps of `now` have to be
- * finer than a quarter of a round trip: by a coarser clock what isn't answered yet looks lost, and goes out again in vain.
+ * sent last has all that is in flight sent again for each of its segments. That window shrinks once for all that is in flight when
+ * a loss is found, also for a loss that a probe has repaired, and once more where what was sent again is lost again. The steps of `now`
+ * have to be finer than a quarter of a round trip: by a coarser clock what isn't answered yet looks lost, and goes out again in vain.
  *   It counts where both SYNs agree on selective acknowledgement; else the same goes out as without it. What falls due by it goes out by an
  * emission, of which tcpcore_connection_poll_at has the time: emit then, whether or not a timer expires, too. At most 64 stretches of what
  * is in flight are kept in the `length` bytes at `block`; where there are more, what was joined is found lost later. The block is the
- * connection's until tcpcore_connection_free, whatever has become of the connection; TCPCORE_RECOVERY_MEMORY bytes are enough. Call it once,
- * any time before text is sent, also right after the making of the connection: of text that was sent before it wouldn't be known when. Of
- * version 18.
- *   DONE; IN_USE: it was called already. NO_RULE: text was sent already, or a FIN. NO_MEMORY: the block is too small. At any answer but DONE
- *   nothing has changed, and the block is the caller's. NO_END; NULL; LENGTH; OVERLAP (the block lies over the struct); COPIED.
+ * connection's until tcpcore_connection_free, whatever has become of the connection; TCPCORE_RECOVERY_MEMORY bytes are enough. Call it
+ * once, any time before text is sent, also right after the making of the connection: of text that was sent before it wouldn't be known
+ * when. Of version 18.
+ *   DONE; IN_USE: it was called already. NO_RULE: text was sent already, or a FIN. NO_MEMORY: the block is too small. At any answer but
+ *   DONE nothing has changed, and the block is the caller's. NO_END; NULL; LENGTH; OVERLAP (the block lies over the struct); COPIED.
  */
 uint32_t tcpcore_connection_set_recovery(tcpcore_connection *connection, uint64_t now, void *block, size_t length);
+
+/*
+ * HOSTS
+ *   A host has many connections under one object, listeners, and what is left of connections in TIME-WAIT. It finds whose a segment is by
+ *   its four values (RFC 9293, 3.3.1 and 3.10.7), whose turn it is to send, and who is due first, each by steps that go by the logarithm of
+ *   how many there are. What it does to a connection is what the connection's own call does. All said of connections holds: MEMORY,
+ *   THREADS, WHO OWNS WHAT, ANSWERS; a host, and all that is in it, is used by one thread at a time.
+ *   Hosts are in the machine code alone, for x86-64 and aarch64 on Linux: the C that takes its place elsewhere has none of these calls. So
+ *   they are declared where TCPCORE_HAS_HOSTS is defined, and a program for any machine asks for it: '#ifdef TCPCORE_HAS_HOSTS'. It is
+ *   defined where tcpcore.c takes machine code by the same words of the compiler. Where a program is compiled by other words than the
+ *   library define it, or TCPCORE_PORTABLE, which says that there are none, for the program; pkg-config does.
+ *
+ *   1. Make it: tcpcore_host_new, in a block of TCPCORE_HOST_MEMORY bytes for its tables. Have it listen: tcpcore_host_listen.
+ *   2. To connect make a connection by tcpcore_connection_connect in a block of its own, choose its congestion window, its recovery and its
+ *      policy, and move it in: tcpcore_host_open. It has a name then, and its struct is empty; its block stays its own.
+ *   3. Wait for a segment, or until the time of tcpcore_host_poll_at. Hand each segment to tcpcore_host_arrive, and go by `place`:
+ *      - TCPCORE_PLACE_LISTENER: make a connection by tcpcore_connection_listen with the segment's destination, move it in by
+ *        tcpcore_host_admit, and hand the segment in again. Where that isn't TCPCORE_DONE the segment has a fault, and the connection still
+ *        listens: move it out. Or leave the segment: then it is as lost.
+ *      - TCPCORE_PLACE_STRAY: hand it to tcpcore_host_stray, and send what that writes.
+ *      - TCPCORE_PLACE_END with TCPCORE_EMIT_FIRST: emit until nobody waits, and hand it in again.
+ *   4. Take what tcpcore_host_accept gives, and make the users' calls by name: tcpcore_host_send, tcpcore_host_receive, tcpcore_host_close.
+ *   5. Call tcpcore_host_timeout until it answers TCPCORE_NOBODY.
+ *   6. Call tcpcore_host_emit, and send what it writes, until it answers TCPCORE_NOBODY. Go on with 3.
+ *   7. Of whose turn it was, and had nothing to send, the connection may be over. Once it is in TIME-WAIT and all of it was read,
+ *      tcpcore_host_retire leaves a record in its place and moves it out. Once its phase is TCPCORE_PHASE_CLOSED, and nothing is due,
+ *      tcpcore_host_remove moves it out. Its block is free behind tcpcore_connection_free.
+ */
+
+/* A host, placed by the caller. Its words are the library's: set them by TCPCORE_HOST_INIT alone. */
+typedef struct tcpcore_host {
+    uint64_t opaque[3];
+} tcpcore_host;
+
+/* No host. */
+#define TCPCORE_HOST_INIT {{0, 0, 0}}
+
+/* The name of a connection or of a listener in a host: no other connection, or listener, has it or had it. Numbers begin at 0, so that zeros
+   are a name, too: go by the answers and by `place`. */
+struct tcpcore_host_id {
+    /* Its number, in the order in which they came. */
+    uint64_t number;
+    /* Its slot: a small number from 0 on, which another one has once this one is gone. A caller's own table goes by it. */
+    uint64_t slot;
+};
+
+/* What tcpcore_host_arrive reports. */
+struct tcpcore_host_arrived {
+    /* The end that took it, or the listener; zero of anything else. */
+    struct tcpcore_host_id id;
+    /* Whose it is: TCPCORE_PLACE_END, 1, to TCPCORE_PLACE_STRAY, 5; TCPCORE_PLACE_NONE, 0, where it is too short for ports. */
+    uint32_t place;
+    /* 0. Fields of later versions take their place from here: the struct's size stays. */
+    uint32_t reserved[11];
+};
+
+/* What tcpcore_host_emit reports of the segment that it wrote. */
+struct tcpcore_host_sent {
+    /* The end whose turn it was; zero of a TIME-WAIT record, and of an end that was moved out before its turn. */
+    struct tcpcore_host_id id;
+    /* Its length in bytes, with its header. */
+    uint64_t length;
+    /* Where it begins, as a position of its end's direction, as of a connection. */
+    uint64_t position;
+    /* How many numbers it takes: one for each byte of text, one for a SYN, one for a FIN (RFC 9293, 3.4). */
+    uint64_t count;
+    /* The address that it comes from. */
+    tcpcore_addr from;
+    /* The address that it goes to. */
+    tcpcore_addr to;
+    /* Whose turn it was: TCPCORE_PLACE_END, 1, or TCPCORE_PLACE_RECORD, 2; TCPCORE_PLACE_NONE, 0, where nobody waited. */
+    uint32_t place;
+    /* 0. Fields of later versions take their place from here: the struct's size stays. */
+    uint32_t reserved[11];
+};
+
+/* What tcpcore_host_timeout reports. */
+struct tcpcore_host_told {
+    /* The end; zero of a TIME-WAIT record, which is gone. */
+    struct tcpcore_host_id id;
+    /* TCPCORE_PLACE_END, 1, or TCPCORE_PLACE_RECORD, 2; TCPCORE_PLACE_NONE, 0, where nobody was due. */
+    uint32_t place;
+    /* The timer that has expired, TCPCORE_TIMER_RETRANSMIT, 0, to TCPCORE_TIMER_USER, 3; TCPCORE_TIMER_NONE, 4, where none
+       has: what was held back may go out. */
+    uint32_t timer;
+    /* 0. Fields of later versions take their place from here: the struct's size stays. */
+    uint32_t reserved[10];
+};
+
+/* How many bytes of a block are enough for a host of so many connections, TIME-WAIT records and listeners at any time, and of so many in
+   all backlogs together. It is measured by the tests (tests/host_room.c) for listeners of one backlog, not proved. The tables double where
+   they grow, and what one has taken no other one gets back; what a listener leaves is used again by one with the same backlog. So count your
+   connections and your records, and keep no more of either than the block was made for: with tcpcore_host_remove one in TIME-WAIT leaves
+   without a record. */
+#define TCPCORE_HOST_MEMORY(connections, records, listeners, backlogs) \
+    ((size_t)4096 + 512 * (size_t)(connections) + 800 * (size_t)(records) + 448 * (size_t)(listeners) + 16 * (size_t)(backlogs))
+
+#ifdef TCPCORE_HAS_HOSTS
+/*
+ * Makes a host in *host. Its tables lie in the `length` bytes at `block`. A TIME-WAIT record in which the peer's FIN comes again stays for
+ * `time_wait` microseconds from then on: two maximum segment lifetimes, 4 minutes (RFC 9293, 3.4.2). One stray is answered in
+ * `stray_interval` microseconds, 10,000 say, since whoever sends strays chooses where their answers go (RFC 5961, 7); 0: all are. Of
+ * version 19, as all calls of a host.
+ *   DONE; IN_USE; NO_MEMORY; NULL; LENGTH; OVERLAP (the block lies over the struct); COPIED (the struct is neither TCPCORE_HOST_INIT nor
+ *   one that was freed).
+ */
+uint32_t tcpcore_host_new(tcpcore_host *host, uint64_t time_wait, uint64_t stray_interval, void *block, size_t length);
+
+/*
+ * Frees the host, and each connection that is in it: its block and theirs are the caller's again. Nothing is sent to any peer.
+ *   DONE; NO_END; NULL; COPIED.
+ */
+uint32_t tcpcore_host_free(tcpcore_host *host);
+
+/*
+ * Somebody listens at this address and port from now on (RFC 9293, 3.10.1), and may have `backlog` connections that aren't accepted, in
+ * their handshake or behind it (RFC 4987, 3.2): *listener is the listener's name.
+ *   DONE; TAKEN: somebody listens there already. NO_MEMORY: the host's block is too small. BAD_ADDR, BAD_PORT, as of tcpcore_new; NO_END;
+ *   NULL; OVERLAP; COPIED.
+ */
+uint32_t tcpcore_host_listen(tcpcore_host *host, tcpcore_addr addr, uint16_t port, size_t backlog, struct tcpcore_host_id *listener);
+
+/*
+ * Nobody listens any more where this listener did. The connections that came for it stay, accepted or not.
+ *   DONE; GONE; NO_END; NULL; COPIED.
+ */
+uint32_t tcpcore_host_unlisten(tcpcore_host *host, const struct tcpcore_host_id *listener);
+
+/*
+ * Moves a connection into the host, under its own address and port and its peer's: *id is its name, and *connection has none any more. It
+ * waits for a turn. Its block, and that of its recovery, stay its own.
+ *   DONE; NOT_CONNECTED: it has no peer yet. TAKEN: a connection of the host has these four values. NO_MEMORY: the host's block is too
+ *   small. NO_END: a struct has none. NULL; OVERLAP; COPIED (of the host, or of the connection). At any answer but DONE nothing changes.
+ */
+uint32_t tcpcore_host_open(tcpcore_host *host, tcpcore_connection *connection, struct tcpcore_host_id *id);
+
+/*
+ * Moves a connection that listens into the host, for a segment that has come from `src` to `dst` and asks this listener for a connection:
+ * *id is its name, and *connection has none any more. It is in the listener's backlog until tcpcore_host_accept gives it. Then hand the
+ * same segment in again.
+ *   DONE; TOO_SHORT: the bytes have no ports. TAKEN: a connection of the host has these four values. GONE: the listener is. BACKLOG_FULL;
+ *   NO_MEMORY: the host's block is too small. NO_END: a struct has none. NULL; LENGTH; OVERLAP; COPIED (of the host, or of the connection).
+ *   At any answer but DONE nothing changes.
+ */
+uint32_t tcpcore_host_admit(tcpcore_host *host, const struct tcpcore_host_id *listener, tcpcore_connection *connection, tcpcore_addr src,
+                            tcpcore_addr dst, const void *bytes, size_t length, struct tcpcore_host_id *id);
+
+/*
+ * Accepts the connection of a listener whose handshake was over first: *id is its name. One that was removed meanwhile is given, too: its
+ * name finds nothing.
+ *   DONE; NOBODY: none waits. GONE: the listener is. NO_END; NULL; OVERLAP; COPIED.
+ */
+uint32_t tcpcore_host_accept(tcpcore_host *host, const struct tcpcore_host_id *listener, struct tcpcore_host_id *id);
+
+/*
+ * A connection in TIME-WAIT, all of which was read, leaves a record in its place, which answers late segments until TIME-WAIT is over (RFC
+ * 9293, 3.3.2), and moves to *connection, from where it can be freed.
+ *   DONE; GONE; NOT_TIME_WAIT: it isn't there, or something is left to read or to send. TAKEN: a record has its four values already.
+ *   NO_MEMORY: the host's block is too small. IN_USE: *connection has one. NO_END; NULL; OVERLAP; COPIED. At any answer but DONE nothing
+ *   changes.
+ */
+uint32_t tcpcore_host_retire(tcpcore_host *host, const struct tcpcore_host_id *id, tcpcore_connection *connection);
+
+/*
+ * Moves a connection out of the host to *connection, in any phase. Its four values have none in the host any more, and its name finds
+ * nothing.
+ *   DONE; GONE; IN_USE: *connection has one. NO_END; NULL; OVERLAP; COPIED.
+ */
+uint32_t tcpcore_host_remove(tcpcore_host *host, const struct tcpcore_host_id *id, tcpcore_connection *connection);
+
+/*
+ * A TCP segment of `length` bytes has come from `src` to `dst` at `now` (RFC 9293, 3.3.1 and 3.10.7). The connection of its four values
+ * takes it, or where there is none their TIME-WAIT record; no other one changes. *arrived says whose it is, and *report what a connection
+ * reports of it; all 0 of anything else.
+ *   At a connection as tcpcore_connection_arrive; at a record as tcpcore_time_wait_arrive, or WITHHELD for a reset (RFC 1337, 3). Else
+ *   DONE, and nothing changed. NO_END; NULL; LENGTH; OVERLAP; COPIED.
+ */
+uint32_t tcpcore_host_arrive(tcpcore_host *host, uint64_t now, tcpcore_addr src, tcpcore_addr dst, const void *bytes, size_t length,
+                             struct tcpcore_host_arrived *arrived, struct tcpcore_arrive_report *report);
+
+/*
+ * Writes the reset that answers a stray of `length` bytes from `src` to `dst` at `now` to `out`, TCPCORE_RESET_ROOM bytes, which goes from
+ * `dst` to `src` (RFC 9293, 3.10.7.1): of nobody's segment, or of one that acknowledges something at a listener (3.10.7.2, second).
+ *   DONE; NOT_DUE: somebody has the bytes, they are no segment or a reset, or the last answer was less than the interval ago. ROOM; NO_END;
+ *   NULL; LENGTH; OVERLAP; COPIED.
+ */
+uint32_t tcpcore_host_stray(tcpcore_host *host, uint64_t now, tcpcore_addr src, tcpcore_addr dst, const void *bytes, size_t length,
+                            void *out, size_t room, size_t *written);
+
+/*
+ * Whose turn it is has its turn at `now`: TIME-WAIT records first, then each connection, which writes what may go out within `window` as
+ * tcpcore_connection_emit does; UINT64_MAX for no window of the caller's own. Who has sent waits behind all others for its next turn.
+ *   DONE: send what was written, from `from` to `to`. NOT_DUE: whose turn it was, as `id` and `place` say, has nothing to send, or was moved out
+ *   (its `id` is 0 then); call again. NOBODY waits. ROOM: `room` is below TCPCORE_EMIT_ROOM. NO_END; NULL; LENGTH; OVERLAP; COPIED.
+ */
+uint32_t tcpcore_host_emit(tcpcore_host *host, uint64_t now, uint64_t window, void *out, size_t room, struct tcpcore_host_sent *sent);
+
+/*
+ * It is `now`: a TIME-WAIT record that is over goes; else the connection that is due first is told. It waits for a turn then.
+ *   DONE: *told says who, and which timer has expired, as of tcpcore_connection_timeout; call again. NOBODY is due. NO_END; NULL; OVERLAP;
+ *   COPIED.
+ */
+uint32_t tcpcore_host_timeout(tcpcore_host *host, uint64_t now, struct tcpcore_host_told *told);
+
+/*
+ * Reports when tcpcore_host_timeout has to be called, if nothing else happens before; TCPCORE_NEVER where nobody has a deadline.
+ *   DONE; NO_END; NULL; OVERLAP; COPIED.
+ */
+uint32_t tcpcore_host_poll_at(const tcpcore_host *host, uint64_t *at);
+
+/*
+ * The calls of a connection's user, by its name: each as tcpcore_connection_send, receive, acknowledge, close, abort, status and peer.
+ *   As those; GONE: the connection of this name is.
+ */
+uint32_t tcpcore_host_send(tcpcore_host *host, uint64_t now, const struct tcpcore_host_id *id, const void *text, size_t length,
+                           size_t *taken);
+uint32_t tcpcore_host_receive(tcpcore_host *host, uint64_t now, const struct tcpcore_host_id *id, void *out, size_t room, size_t *count);
+uint32_t tcpcore_host_acknowledge(tcpcore_host *host, uint64_t now, const struct tcpcore_host_id *id);
+uint32_t tcpcore_host_close(tcpcore_host *host, uint64_t now, const struct tcpcore_host_id *id);
+uint32_t tcpcore_host_abort(tcpcore_host *host, uint64_t now, const struct tcpcore_host_id *id);
+uint32_t tcpcore_host_status(const tcpcore_host *host, const struct tcpcore_host_id *id, struct tcpcore_status *status);
+uint32_t tcpcore_host_peer(const tcpcore_host *host, const struct tcpcore_host_id *id, tcpcore_addr *addr, uint16_t *port);
+#endif
 
 /*
  * The text of an answer, such as "nothing to read yet". It is never NULL, nobody frees it, and any thread may ask for
@@ -1254,8 +1514,8 @@ const char *tcpcore_strerror(uint32_t answer);
 uint32_t tcpcore_version(void);
 
 /*
- * What code the library is: "x86-64-v2 machine code", "x86-64 machine code" or "aarch64 machine code", the proved code as the proof left it;
- * "machine code", where it isn't said for which machine; "portable C", translated from it, with a test of each access; "portable C,
+ * What code the library is: "x86-64-v2 machine code", "x86-64 machine code" or "aarch64 machine code", the proved code as the proof left
+ * it; "machine code", where it isn't said for which machine; "portable C", translated from it, with a test of each access; "portable C,
  * unchecked". It is never NULL, and nobody frees it. A later version may have other texts.
  */
 const char *tcpcore_build(void);
