@@ -1333,7 +1333,7 @@ struct tcpcore_host_arrived {
 
 /* What tcpcore_host_emit reports of the segment that it wrote. */
 struct tcpcore_host_sent {
-    /* The end whose turn it was; zero of a TIME-WAIT record, and of an end that was moved out before its turn. */
+    /* The end whose turn it was; zero of a TIME-WAIT record. */
     struct tcpcore_host_id id;
     /* Its length in bytes, with its header. */
     uint64_t length;
