@@ -154,6 +154,19 @@ static void listeners(size_t most, size_t backlog)
     CHECK(tcpcore_host_free(&host), TCPCORE_DONE);
 }
 
+/* What is refused takes nothing: behind listeners whose backlogs have no room, of whatever size, as many connections fit. */
+static void refused(size_t most)
+{
+    struct tcpcore_host_id id;
+    begins(TCPCORE_HOST_MEMORY(most, 0, 1, 0));
+    for (size_t i = 0; i < 1000; i++)
+        CHECK(tcpcore_host_listen(&host, HERE, PORT, sizeof tables + 100 * i, &id), TCPCORE_NO_MEMORY);
+    CHECK(tcpcore_host_listen(&host, HERE, PORT, 0, &id), TCPCORE_DONE);
+    for (size_t i = 0; i < most; i++)
+        CHECK(opens(blocks[i], &ids[i]), TCPCORE_DONE);
+    CHECK(tcpcore_host_free(&host), TCPCORE_DONE);
+}
+
 int main(void)
 {
     for (size_t most = 1; most <= MOST; most += most < 20 ? 1 : most - 1) {
@@ -164,6 +177,8 @@ int main(void)
     }
     too_small(100);
     too_small(1000);
+    refused(100);
+    refused(1000);
     printf("host_room: a host of its block's size has room for whom it is made for, whoever comes and goes\n");
     return checks > 1000 ? 0 : 1;
 }
