@@ -372,7 +372,7 @@ WORKED = [
     # As many as ssthresh are under way beside what blocks report: not before a loss is found, nor where they report nothing and losses aren't found
     # by time.
     "reno 1000", "keep-pipe 3000", "lost 1 20000 20001", "keep-pipe 0", "keep-pipe 7000", "acknowledged 12000 12001 8000", "keep-pipe 0",
-    "keep-pipe 2500", "keep-pipe 18446744073709551615", "finds-by-time", "keep-pipe 0", "lost-again", "keep-pipe 1", "acknowledged 9000 21001 0", "keep-pipe 9",
+    "keep-pipe 2500", "keep-pipe 2305843009213693952", "finds-by-time", "keep-pipe 0", "lost-again", "keep-pipe 1", "acknowledged 9000 21001 0", "keep-pipe 9",
     "cubic 1000", "lost 1 20000 20001", "keep-pipe 4000", "timed-out 20000 20001", "keep-pipe 4000",
     # CUBIC: up to ssthresh and past it by slow start, below W_max by the curve, past it, with a second loss below the first one's window;
     # a path so short that Reno's window is greater; half of a window in use, an idle time, and a timeout, behind which W_max is the window.
