@@ -220,8 +220,7 @@ impl<C: Paced + Drop, W: Congestion + Drop> Flow<C, W> {
         }
     }
 
-    /// In a recovery as many as ssthresh are under way beside what blocks report, however many acknowledgements say so (RFC 6675, 4
-    /// and 5).
+    /// In a recovery ssthresh is under way beside what blocks report, however often they report it (RFC 6675, 4 and 5).
     fn keep_pipe(&mut self)
         ensures { self.new ≡ with_pipe C.machine W.control self.old }
     {
