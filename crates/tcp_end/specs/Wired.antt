@@ -1,5 +1,5 @@
 -- An end of a connection as a machine without a clock: each function is one of tcp_conn's.
-use Rattle.std.specs.Prelude.{ℕ, suc, ◌+◌, ◌-◌, nat_lt, Bool, false, true, not, ◌&&◌, ◌||◌, ◌==◌, if◌then◌else◌, List, [], ◌∷◌, ◌++◌, drop, length, Option, Some, None, option_map, Result, Ok, Err}
+use Rattle.std.specs.Prelude.{ℕ, ◌+◌, ◌-◌, nat_lt, Bool, false, true, not, ◌&&◌, ◌||◌, ◌==◌, if◌then◌else◌, List, ◌++◌, drop, length, Option, Some, None, option_map, Result, Ok, Err}
 use Rattle.tcp_timing.specs.declared.rules.Rules.{Rules}
 use Rattle.tcp_driver.specs.declared.limits.Limits.{Limits}
 use Rattle.tcp_driver.specs.declared.machine.Report.{Report}
@@ -13,6 +13,7 @@ use Rattle.tcp_driver.specs.Driver.{Driving, new_driving}
 use Rattle.tcp_driver.specs.Machine.{Machine}
 use Rattle.tcp_wire.specs.Flags.{fin, has}
 use Rattle.tcp_wire.specs.Position.{number}
+use Rattle.tcp_sendq.specs.SendQueue.{count_marked}
 use Rattle.tcp_wire.specs.Wire.{Content}
 use Rattle.tcp_wire.specs.declared.fault.DecodeError.{DecodeError}
 use Rattle.tcp_halves.specs.declared.link.Peer.{Peer}
@@ -137,15 +138,6 @@ taken_of way s src dst bytes = record {
 abbrev pub read_into : State → List ℕ → List ℕ
 read_into s out = let bytes = received_bytes s (length out) in bytes ++ drop (length bytes) out
 
--- HOW MANY BYTES the peer's blocks report (RFC 2018, 4): all that are queued but those that aren't marked
-abbrev pub count_unmarked : List Bool → ℕ
-count_unmarked [] = 0
-count_unmarked (true ∷ marks) = count_unmarked marks
-count_unmarked (false ∷ marks) = suc (count_unmarked marks)
-
-abbrev pub reported : State → ℕ
-reported s = length s.sending.queue.bytes - count_unmarked s.sending.queue.marks
-
 -- THE END AS A MACHINE
 abbrev pub machine : {A : Type 0} → Machine (Wired A)
 machine = record {
@@ -153,7 +145,8 @@ machine = record {
   wants = λ w. wants_by (timers_wanted w.end) (waits_for_peer w.end);
   una = λ w. w.end.sending.snd_una;
   flight = λ w. w.end.sending.snd_nxt - w.end.sending.snd_una;
-  reported = λ w. reported w.end;
+  -- the peer's blocks report what is marked (RFC 2018, 5)
+  reported = λ w. count_marked w.end.sending.queue.marks;
   ignores_resets = λ w. ignores_resets w.end;
   expired = λ w timer. record { end = expired w.end timer };
   report = λ w src dst bytes way. report (intake_of way) w.end src dst bytes;

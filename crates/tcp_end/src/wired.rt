@@ -123,13 +123,7 @@ impl<A: Allocator> Core for Wired<A> {
     }
 
     fn reported(&self) -> u64 {
-        let mut unmarked = 0;
-        let mut place = 0;
-        while let Some((from, to)) = self.end.next_unmarked(place) {
-            unmarked += to - from;
-            place = to;
-        }
-        (self.end.queued() - unmarked) as u64
+        self.end.marked() as u64
     }
 
     fn ignores_resets(&self) -> bool {

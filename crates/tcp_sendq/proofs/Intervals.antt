@@ -235,12 +235,12 @@ map-range_with_len-same f g from (suc n) same =
     map-range_with_len-same f g (from + 1) n (λ p low high. same p (omega arith) (omega arith)) in
     cc
 
-map-range_with_len-flag : (flag : Bool) (from n : ℕ) → map (λ p. flag) (range_with_len from n) ≡ replicate n flag
+pub map-range_with_len-flag : (flag : Bool) (from n : ℕ) → map (λ p. flag) (range_with_len from n) ≡ replicate n flag
 map-range_with_len-flag flag from zero = refl
 map-range_with_len-flag flag from (suc n) = ap (λ marks. flag ∷ marks) (map-range_with_len-flag flag (from + 1) n)
 
 -- the marks from an offset on begin with those before the first interval, and then its own
-marks_from : (from low high : ℕ) (one : Interval) (rest : List Interval) → from ≤ low → IsTableFrom low high (one ∷ rest)
+pub marks_from : (from low high : ℕ) (one : Interval) (rest : List Interval) → from ≤ low → IsTableFrom low high (one ∷ rest)
     → map (covers (one ∷ rest)) (range_with_len from (high - from))
     ≡ replicate (one.start - from) false ++ replicate (one.end - one.start) true ++ map (covers rest) (range_with_len one.end (high - one.end))
 marks_from from low high one rest early h =

@@ -1,5 +1,6 @@
 pub mod Bases
 pub mod Calls
+pub mod Counts
 pub mod Halves
 pub mod Intervals
 pub mod Joined

@@ -1,6 +1,6 @@
 -- The definitions at worked calls: they compute to what the calls must return.
 use Rattle.std.proofs.Common.{◌≡◌, ℕ, Bool, true, false, List, [], ◌∷◌, ◌++◌, replicate, Some, None, refl}
-use Rattle.tcp_sendq.specs.SendQueue.{Queue, empty_queue, room, count_taken, after_offer, after_release, can_mark, after_mark, without_marks, next_unmarked, last_mark_end, count_runs, runs_begun}
+use Rattle.tcp_sendq.specs.SendQueue.{Queue, empty_queue, room, count_taken, after_offer, after_release, can_mark, after_mark, without_marks, next_unmarked, last_mark_end, count_runs, runs_begun, count_marked}
 
 abbrev letters : List ℕ
 letters = 97 ∷ 98 ∷ 99 ∷ 100 ∷ 101 ∷ 102 ∷ []
@@ -65,6 +65,9 @@ sixteen_runs = refl
 
 sixteen_begun : runs_begun sixteen ≡ 16
 sixteen_begun = refl
+
+sixteen_marked : count_marked sixteen ≡ 16
+sixteen_marked = refl
 
 abbrev crowded : Queue
 crowded = record { capacity = 40; most_runs = 16; bytes = replicate 36 0; marks = sixteen ++ replicate 4 false }

@@ -89,6 +89,11 @@ next_start from (one ∷ rest) = if nat_lt from one.start then Some one.start el
 abbrev pub last_end : List Interval → Option ℕ
 last_end table = option_map (λ one. one.end) (slice_get table (length table - 1))
 
+-- how many offsets they have, none of them twice
+abbrev pub total : List Interval → ℕ
+total [] = 0
+total (one ∷ rest) = (one.end - one.start) + total rest
+
 -- ---- places that count from a base, so that a release moves none
 
 -- intervals of such places, as offsets from the base

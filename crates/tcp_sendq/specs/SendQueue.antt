@@ -79,6 +79,11 @@ begins_run marks place = is_marked marks place && not (follows_mark marks place)
 abbrev pub runs_begun : List Bool → ℕ
 runs_begun marks = count_by (begins_run marks) (range_with_len 0 (length marks))
 
+-- how many bytes are marked
+abbrev pub count_marked : List Bool → ℕ
+count_marked [] = 0
+count_marked (marked ∷ marks) = (if marked then 1 else 0) + count_marked marks
+
 -- whether the peer's report can be kept
 unfoldable pub can_mark : Queue → ℕ → ℕ → Bool
 can_mark q from to = nat_le (count_runs false (marks_with from to q.marks)) q.most_runs

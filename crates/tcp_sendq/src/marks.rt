@@ -1,6 +1,7 @@
 //! The marked bytes of a queue, as a table of intervals.
 ghost use Rattle.std.specs.Prelude.{◌<◌, ◌↔◌, IsTrue, IfOk, vec_capacity, ◌≡◌, ◌≤◌, [], ◌∷◌, ◌++◌, take, drop, length, nat_le, if◌then◌else◌};
-ghost use Rattle.tcp_sendq.specs.Marks.{interval, moved_down, joined, count_before, count_to, count_ended, first_uncovered, next_start, last_end, AreInOrder};
+ghost use Rattle.tcp_sendq.specs.Marks.{interval, moved_down, joined, count_before, count_to, count_ended, first_uncovered, next_start, last_end, lowered, total, AreInOrder};
+ghost use Rattle.tcp_sendq.specs.SendQueue.{max_capacity};
 
 use std::alloc::{AllocError, Allocator, Global};
 
@@ -208,5 +209,19 @@ impl<A: Allocator> Marks<A> {
         ensures { result ≡ last_end self.now.table.items }
     {
         self.table.last().map(|run| run.end as usize)
+    }
+
+    /// How many bytes from the offset `base` on are marked.
+    pub(crate) fn count_from(&self, base: usize) -> usize
+        requires { total (lowered base self.now.table.items) ≤ max_capacity }
+        ensures { result ≡ total (lowered base self.now.table.items) }
+    {
+        let mut count = 0;
+        for run in self.table.as_slice() {
+            let start = (run.start as usize).saturating_sub(base);
+            let end = (run.end as usize).saturating_sub(base);
+            count += end.saturating_sub(start);
+        }
+        count
     }
 }

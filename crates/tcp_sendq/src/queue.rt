@@ -1,6 +1,6 @@
 //! The send queue (RFC 9293, 3.3.1).
 ghost use Rattle.std.specs.Prelude.{vec_capacity, ◌≡◌, ℕ, ◌+◌, ◌<◌, ◌≤◌, ◌++◌, ◌↔◌, ◌⊎◌, length, take, drop, IsTrue, IsFalse, IsNone, IfSome, IfOk};
-ghost use Rattle.tcp_sendq.specs.SendQueue.{Queue, IsQueue, IsMarked, empty_queue, room, count_taken, after_offer, after_release, marks_with, runs_begun, max_capacity, can_mark, after_mark, without_marks, empty_with_runs, greatest_runs, next_unmarked, IsNextUnmarked, AllMarkedFrom, last_mark_end, IsLastMarkEnd, NoneMarkedFrom};
+ghost use Rattle.tcp_sendq.specs.SendQueue.{Queue, IsQueue, IsMarked, empty_queue, room, count_taken, after_offer, after_release, marks_with, runs_begun, max_capacity, can_mark, after_mark, without_marks, empty_with_runs, greatest_runs, next_unmarked, IsNextUnmarked, AllMarkedFrom, last_mark_end, IsLastMarkEnd, NoneMarkedFrom, count_marked};
 ghost use Rattle.tcp_sendq.specs.Marks.{queue_of, lowered, IsKept, IsBased};
 
 use crate::error::QueueError;
@@ -257,5 +257,14 @@ impl<A: Allocator> SendQueue<A> {
     {
         let end = self.marks.last_end()?;
         Some(end.saturating_sub(self.base as usize))
+    }
+
+    /// How many bytes are marked (RFC 2018, 5).
+    pub fn marked(&self) -> usize
+        ensures value { result ≡ count_marked self.now.marks }
+        ensures within { result ≤ length self.now.bytes }
+        ensures sound { IsQueue self.now }
+    {
+        self.marks.count_from(self.base as usize)
     }
 }
