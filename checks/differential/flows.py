@@ -28,6 +28,7 @@ class Flow:
         self.driver = driver.Second()
         self.driver.new(now, first, *STANDARD)
         self.path, self.is_shut, self.sent_at, self.reported = path_of(rule, 1, limit), False, now, 0
+        self.drops, self.repeats = 0, 0
 
     def choose(self, rule, smss, limit):
         self.path, self.is_shut = path_of(rule, int(smss), int(limit)), False
@@ -69,20 +70,45 @@ class Flow:
         self.is_shut = window == 0
         una, blocks = self.end.una, "reorder" in self.end.wants()
         if una > before:
-            said = self.path.acknowledged(una - before, una, self.flight, now, self.driver.estimator.srtt or 0)
+            said = self.progress(now, una - before, blocks)
         elif is_duplicate and self.is_shut:
             # RFC 9293, 3.8.6.1: it answers a probe.
             return
         elif is_duplicate and blocks:
             # RFC 6675, 4: in recovery what blocks report counts, and not how often.
             said = "" if self.path.fast_recovery else self.path.reported()
+        elif is_duplicate and self.path.fast_recovery and self.drops == 2:
+            # RFC 5681, 4.3: of all that was sent again something was lost.
+            self.repeats = min(3, self.repeats + 1) if self.repeats != 2 else self.all_again(now, self.path.lost_again())
+            return
         elif is_duplicate:
             said = self.path.duplicate(una, self.flight, self.end.nxt)
         else:
             return
-        # RFC 6582, 3.2: the first segment goes out again, unless blocks say what is lost.
+        # RFC 6582, 3.2: the first segment goes out again, unless blocks say what is lost; all to a peer that keeps nothing out of order.
         if said.endswith("again") and not blocks:
-            self.driver.uses("resend-first", now)
+            if self.drops == 2:
+                self.repeats = self.all_again(now)
+            else:
+                self.driver.uses("resend-first", now)
+
+    def progress(self, now, acked, blocks):
+        """What is acknowledged in a recovery says whether the peer keeps what comes out of order, where no blocks say so."""
+        recovering, cwnd = self.path.fast_recovery, self.path.cwnd
+        said = self.path.acknowledged(acked, self.end.una, self.flight, now, self.driver.estimator.srtt or 0)
+        if recovering and not blocks:
+            if said.endswith("again"):
+                self.drops = 0 if acked > 2 * self.path.smss else min(2, self.drops + 1)
+            elif self.repeats == 3 and acked > cwnd:
+                self.drops = 0
+        self.repeats = 0
+        return said
+
+    def all_again(self, now, _=None):
+        """All that is in flight goes out again; three duplicates are behind that."""
+        self.driver.uses("resend", now, self.end.una, self.end.nxt)
+        self.path.finds_by_time()
+        return 3
 
     def emit(self, now, window):
         if self.path is None:

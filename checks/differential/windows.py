@@ -116,7 +116,10 @@ class Reno:
     def timed_out(self, flight, nxt):
         self.lost_before = True
         if not self.resent_by_timer:
+            before, in_recovery = self.ssthresh, self.fast_recovery
             self.shrink(flight)
+            if in_recovery:  # a loss has lowered it already, and what is in flight has what was reported in it
+                self.ssthresh = min(self.ssthresh, before)
         self.cwnd, self.bytes_acked, self.dupacks, self.pipe = self.smss, 0, 0, 0
         self.recover, self.fast_recovery, self.resent_by_timer = nxt, False, True
         return self.shown()

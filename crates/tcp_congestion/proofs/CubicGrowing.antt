@@ -287,6 +287,13 @@ restarts : (c x y : CubicWindow) (b : Bool) → x.window.cwnd ≡ c.window.smss 
 restarts c x y true e f = e
 restarts c x y false e f = f
 
+not-raised : (c x y : CubicWindow) (timed_out recovering : Bool) (ssthresh : ℕ) → x.window.ssthresh ≡ c.window.ssthresh
+    → y.window.ssthresh ≡ (if recovering then min ssthresh c.window.ssthresh else ssthresh) → recovering ≡ true
+    → (if timed_out then x else y).window.ssthresh ≤ c.window.ssthresh
+not-raised c x y true b ssthresh is new e = omega (arith, is)
+not-raised c x y false true ssthresh is new e = omega (arith, new)
+not-raised c x y false false ssthresh is new e = absurd (cc)
+
 pub shrinks_lem : CubicLossShrinks
 shrinks_lem c snd_una flight snd_nxt is = record {
   third = third c flight snd_nxt (begins_recovery c.window snd_una);
@@ -295,6 +302,7 @@ shrinks_lem c snd_una flight snd_nxt is = record {
   new = new-by c.window snd_una c.window.is_recovering;
   full = λ acked now rtt going h. full c _ acked snd_una flight c.window.is_recovering (nat_lt snd_una c.window.recover) going refl h;
   timeout = restarts c _ _ c.window.is_timed_out refl refl;
+  threshold = not-raised c _ _ c.window.is_timed_out c.window.is_recovering (reduced c flight).window.ssthresh refl refl;
 }
 
 -- ---- W_est

@@ -175,12 +175,19 @@ full w acked snd_una flight false b going e h = absurd (cc)
 full w acked snd_una flight true true going e h = absurd (grind (arith, nat_tests, e, h))
 full w acked snd_una flight true false going e h = omega arith
 
+not-raised : (w : Window) (ssthresh : ℕ) (timed_out recovering : Bool) → recovering ≡ true
+    → (if timed_out then w.ssthresh else (if recovering then min ssthresh w.ssthresh else ssthresh)) ≤ w.ssthresh
+not-raised w ssthresh true b e = omega arith
+not-raised w ssthresh false true e = omega arith
+not-raised w ssthresh false false e = absurd (cc)
+
 pub shrinks_lem : LossShrinks
 shrinks_lem w snd_una flight snd_nxt = record {
   third = third w snd_una flight snd_nxt w.is_recovering (is_third w snd_una);
   once = once w snd_una w.is_recovering (w.duplicates == 2);
   full = λ acked is h. full w acked snd_una flight w.is_recovering (nat_lt snd_una w.recover) is refl h;
   timeout = refl;
+  threshold = not-raised w (halved w flight).ssthresh w.is_timed_out w.is_recovering;
 }
 
 two-segments : (w : Window) (recovering : Bool) → (if recovering then 0 else min w.duplicates 2 * w.smss) ≤ 2 * w.smss

@@ -3,7 +3,7 @@
 use Rattle.std.specs.Prelude.{ℕ, ◌+◌, ◌-◌, ◌*◌, ◌/◌, ◌%◌, ◌^◌, ◌<◌, ◌≤◌, min, max, Bool, true, false, nat_lt, nat_le, if◌then◌else◌}
 use Rattle.tcp_congestion.specs.Root.{cube, cubic_root}
 use Rattle.tcp_congestion.specs.Sizes.{latest, max_window}
-use Rattle.tcp_congestion.specs.Reno.{Window, IsWindow, after_idle, after_recovering, after_report, base_of, begins_recovery, begun, is_new_loss, is_used, lowered, new_window_with, restarted, slow_started, with_progress}
+use Rattle.tcp_congestion.specs.Reno.{Window, IsWindow, after_idle, after_recovering, after_report, base_of, begins_recovery, begun, is_new_loss, is_used, lowered, new_window_with, no_higher, restarted, slow_started, with_progress}
 
 pub record CubicWindow : Type 0 where
   -- cwnd, ssthresh, and how a loss is repaired
@@ -168,7 +168,10 @@ abbrev pub after_timeout : CubicWindow → ℕ → ℕ → CubicWindow
 after_timeout c flight snd_nxt =
     if c.window.is_timed_out
     then record c { window = restarted c.window snd_nxt }
-    else record (reduced c flight) { window = restarted (reduced c flight).window snd_nxt; w_max = 0 }
+    else record (reduced c flight) {
+      window = restarted (record (reduced c flight).window { ssthresh = no_higher c.window (reduced c flight).window.ssthresh }) snd_nxt;
+      w_max = 0;
+    }
 
 -- AN IDLE TIME ends a stage: t doesn't include it (RFC 9438, 4.2 and 5.8)
 abbrev pub after_idle_time : CubicWindow → CubicWindow

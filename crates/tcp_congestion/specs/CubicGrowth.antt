@@ -47,7 +47,7 @@ CubicIsFriendly =
 
 -- A LOSS SHRINKS THE WINDOW (RFC 9438, 4.6 and 4.8; RFC 6582, 3.2): to 0.7 of what was in flight, or two segments, and three segments,
 -- where duplicates begin a recovery, or where blocks or a probe found the loss; one for all that was in flight; to ssthresh at most once
--- that is acknowledged; to a segment where the timer expires
+-- that is acknowledged; to a segment where the timer expires, which raises no ssthresh in a recovery
 pub record CubicShrinks (c : CubicWindow) (snd_una flight snd_nxt : ℕ) : Type 0 where
   pub third :
       begins_recovery c.window snd_una ≡ true
@@ -61,6 +61,7 @@ pub record CubicShrinks (c : CubicWindow) (snd_una flight snd_nxt : ℕ) : Type 
       (acked now rtt : ℕ) → c.window.is_recovering ≡ true → c.window.recover ≤ snd_una
       → (after_acknowledgement c acked snd_una flight now rtt).window.cwnd ≤ c.window.ssthresh
   pub timeout : (after_timeout c flight snd_nxt).window.cwnd ≡ c.window.smss
+  pub threshold : c.window.is_recovering ≡ true → (after_timeout c flight snd_nxt).window.ssthresh ≤ c.window.ssthresh
 
 abbrev pub CubicLossShrinks : Type 0
 CubicLossShrinks = (c : CubicWindow) (snd_una flight snd_nxt : ℕ) → IsCubic c → CubicShrinks c snd_una flight snd_nxt

@@ -37,13 +37,14 @@ GrowthIsAcknowledged =
 
 -- A LOSS SHRINKS THE WINDOW (RFC 5681, 3.1 and 3.2; RFC 6582, 3.2): where the third duplicate begins fast recovery to three segments
 -- more than half of what was in flight, or than two segments, and that only behind all that the last loss concerned; once all is
--- acknowledged to ssthresh at most; to a segment where the timer expires
+-- acknowledged to ssthresh at most; to a segment where the timer expires, which raises no ssthresh in a recovery
 pub record Shrinks (w : Window) (snd_una flight snd_nxt : ℕ) : Type 0 where
   pub third : begins_recovery w snd_una ≡ true → (after_duplicate w snd_una flight snd_nxt).cwnd ≤ max (flight / 2) (2 * w.smss) + 3 * w.smss
   pub once : begins_recovery w snd_una ≡ true → w.recover < snd_una
   pub full :
       (acked : ℕ) → w.is_recovering ≡ true → w.recover ≤ snd_una → (after_acknowledgement w acked snd_una flight).cwnd ≤ w.ssthresh
   pub timeout : (after_timeout w flight snd_nxt).cwnd ≡ w.smss
+  pub threshold : w.is_recovering ≡ true → (after_timeout w flight snd_nxt).ssthresh ≤ w.ssthresh
 
 abbrev pub LossShrinks : Type 0
 LossShrinks = (w : Window) (snd_una flight snd_nxt : ℕ) → Shrinks w snd_una flight snd_nxt

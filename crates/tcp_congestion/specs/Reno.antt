@@ -204,9 +204,13 @@ restarted w snd_nxt = record w {
   resent = 0;
 }
 
+-- in a recovery a loss has lowered ssthresh already, and what is in flight has in it what blocks report: the timer doesn't raise it
+abbrev pub no_higher : Window → ℕ → ℕ
+no_higher w ssthresh = if w.is_recovering then min ssthresh w.ssthresh else ssthresh
+
 abbrev pub after_timeout : Window → ℕ → ℕ → Window
 after_timeout w flight snd_nxt =
-    restarted (record w { ssthresh = if w.is_timed_out then w.ssthresh else (halved w flight).ssthresh }) snd_nxt
+    restarted (record w { ssthresh = if w.is_timed_out then w.ssthresh else no_higher w (halved w flight).ssthresh }) snd_nxt
 
 -- SO MUCH WAS SENT AGAIN. What a loss concerns isn't in flight any more, so that what is sent again is all that is: it begins with the
 -- loss window and grows by slow start, as new data would (RFC 5681, 3.1)

@@ -227,7 +227,9 @@ impl Cubic {
         ensures { self.new ≡ after_timeout self.old flight snd_nxt }
     {
         if !self.window.is_timed_out() {
+            let before = self.window.ssthresh();
             self.reduce(flight);
+            self.window.no_higher(before);
             self.w_max = 0;
         }
         self.window.restart(snd_nxt);

@@ -249,7 +249,9 @@ impl Reno {
         ensures { self.new ≡ after_timeout self.old flight snd_nxt }
     {
         if !self.is_timed_out {
+            let before = self.ssthresh;
             self.halve(flight);
+            self.no_higher(before);
         }
         self.restart(snd_nxt);
     }

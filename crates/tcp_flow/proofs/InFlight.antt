@@ -8,13 +8,13 @@ use Rattle.tcp_congestion.specs.declared.any_window.AnyWindow.TheVariants.{Unlim
 use Rattle.tcp_driver.specs.declared.machine.Sent.{Sent}
 use Rattle.tcp_driver.specs.declared.machine.Timer.{Timer}
 use Rattle.tcp_driver.specs.declared.machine.Way.{Way}
-use Rattle.tcp_driver.specs.Calls.{Arrives, Uses, after_calls}
+use Rattle.tcp_driver.specs.Calls.{Arrives, after_calls}
 use Rattle.tcp_driver.specs.Driver.{Driving, after_taken, after_time_by, at, core_after, goes_back, holds, is_withheld, sent_of, waits, way_of}
 use Rattle.tcp_driver.specs.Machine.{Machine}
 use Rattle.tcp_driver.specs.Rows.{after_emissions, emissions_of}
 use Rattle.tcp_driver.specs.Times.{expiry}
 use Rattle.tcp_flow.proofs.Driving.{chosen_by, rest_by}
-use Rattle.tcp_flow.specs.Calls.{FlowCall, Comes, Goes, GoesAsOne, Passes, Asks, Limits, Waits, Chooses, Loses, FlowIsDriven, after_flow_call, after_flow_calls}
+use Rattle.tcp_flow.specs.Calls.{FlowCall, Comes, Goes, GoesAsOne, Passes, Asks, Limits, Waits, Chooses, Loses, FlowIsDriven, Resends, Nothing, First, Between, after_flow_call, after_flow_calls, behind}
 use Rattle.tcp_flow.specs.Flow.{Flowing, allowed, flight_of, is_idle, rested, row_of, una_of}
 use Rattle.tcp_flow.specs.InFlight.{AllUseNone, CountsFlight, InFlightStaysInWindow, LetsOutTwoMore, UsesNone, flight_with, let_out, let_out_by, let_out_in_turn, most_let_out, reach}
 
@@ -93,15 +93,19 @@ arrives-by m Always h d now src dst bytes way false a =
     let r = h.arrived d.core src dst bytes way a in
     record { always = r.0; flight = omega (arith, r.1) }
 
-comes-by : {S : Type 0} (m : Machine S) (Always : S → Type 0) → CountsFlight m Always → (d : Driving S) (now : ℕ) (src dst bytes : List ℕ) (vouched resends : Bool) → Always d.core
-    → Has m Always (after_calls m d (if resends then Uses now m.first_resent ∷ Arrives now src dst bytes vouched ∷ [] else Arrives now src dst bytes vouched ∷ [])).core
-    (max (m.flight d.core) 1)
-comes-by m Always h d now src dst bytes vouched true a =
+comes-by : {S : Type 0} (m : Machine S) (Always : S → Type 0) → CountsFlight m Always → (d : Driving S) (now : ℕ) (src dst bytes : List ℕ) (vouched : Bool) (resends : Resends)
+    → Always d.core
+    → Has m Always (after_calls m d (behind m now resends (Arrives now src dst bytes vouched ∷ []))).core (max (m.flight d.core) 1)
+comes-by m Always h d now src dst bytes vouched Nothing a =
+    arrives-by m Always h d (at d now) src dst bytes (way_of d vouched) (d.times.bursting || is_withheld m d.core bytes) a
+comes-by m Always h d now src dst bytes vouched First a =
     let one = arrives-by m Always h d (at d now) src dst bytes (way_of d vouched) (d.times.bursting || is_withheld m d.core bytes) a in
     let again = h.first_resent _ one.always in
     record { always = again.0; flight = omega (arith, one.flight, again.1) }
-comes-by m Always h d now src dst bytes vouched false a =
-    arrives-by m Always h d (at d now) src dst bytes (way_of d vouched) (d.times.bursting || is_withheld m d.core bytes) a
+comes-by m Always h d now src dst bytes vouched (Between from to) a =
+    let one = arrives-by m Always h d (at d now) src dst bytes (way_of d vouched) (d.times.bursting || is_withheld m d.core bytes) a in
+    let again = h.resent from to _ one.always in
+    record { always = again.0; flight = omega (arith, one.flight, again.1) }
 
 -- ---- TIME PASSES
 time-by : {S : Type 0} (m : Machine S) (Always : S → Type 0) → CountsFlight m Always → (d : Driving S) (now : ℕ) (which : Option Timer) → Always d.core

@@ -37,11 +37,22 @@ abbrev pub after_flow_calls : {S W : Type 0} → Machine S → (S → Option ℕ
 after_flow_calls m smss_of c f [] = f
 after_flow_calls m smss_of c f (call ∷ earlier) = after_flow_call m smss_of c (after_flow_calls m smss_of c f earlier) call
 
--- THE DRIVER'S CALLS that a flow's call makes, the newest first: an arrival, behind which the first segment may go out again, an
+-- WHAT GOES OUT AGAIN behind an arrival: nothing, the first segment, or what lies between two positions
+pub data Resends : Type 0 where
+  Nothing : Resends
+  First : Resends
+  Between : ℕ → ℕ → Resends
+
+abbrev pub behind : {S : Type 0} → Machine S → ℕ → Resends → List (Call S) → List (Call S)
+behind m now Nothing calls = calls
+behind m now First calls = Uses now m.first_resent ∷ calls
+behind m now (Between from to) calls = Uses now (λ s. m.resent s from to) ∷ calls
+
+-- THE DRIVER'S CALLS that a flow's call makes, the newest first: an arrival, behind which something may go out again, an
 -- emission within the windows, or as many as segments go out as one, an expiry, or what the user asks
-abbrev pub calls_of : {S W : Type 0} → Machine S → Control W → Flowing S W → Bool → FlowCall S W → List (Call S)
+abbrev pub calls_of : {S W : Type 0} → Machine S → Control W → Flowing S W → Resends → FlowCall S W → List (Call S)
 calls_of m c f resends (Comes now src dst bytes vouched) =
-    if resends then Uses now m.first_resent ∷ Arrives now src dst bytes vouched ∷ [] else Arrives now src dst bytes vouched ∷ []
+    behind m now resends (Arrives now src dst bytes vouched ∷ [])
 calls_of m c f resends (Goes now window) = Emits now (allowed c (rested m c f now) window) ∷ []
 calls_of m c f resends (GoesAsOne now window most room) =
     replicate (emissions_of (row_of m c (rested m c f now) window most room)) (Emits now (allowed c (rested m c f now) window))
@@ -54,7 +65,7 @@ calls_of m c f resends (Loses loss) = []
 
 -- WHATEVER IS CALLED, the driver in a flow is as after these, so that each of its laws holds of it
 pub record IsDriven {S W : Type 0} (m : Machine S) (smss_of : S → Option ℕ) (c : Control W) (f : Flowing S W) (call : FlowCall S W) : Type 0 where
-  pub resends : Bool
+  pub resends : Resends
   pub same : (after_flow_call m smss_of c f call).driving ≡ after_calls m f.driving (calls_of m c f resends call)
 
 abbrev pub FlowIsDriven : {S W : Type 0} → Machine S → (S → Option ℕ) → Control W → Type 0

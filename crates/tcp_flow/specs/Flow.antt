@@ -1,6 +1,6 @@
 -- One end with its times, under a congestion window, whatever the end and the window are. Where a window is none (`limits`), nothing is
 -- told to it, and nothing waits for it: the flow does what its driver does.
-use Rattle.std.specs.Prelude.{◌≡◌, ℕ, ◌+◌, ◌-◌, ◌*◌, ◌<◌, ◌≤◌, nat_lt, min, Bool, true, false, not, ◌&&◌, ◌||◌, ◌==◌, if◌then◌else◌, List, Option, Some, None, IfSome}
+use Rattle.std.specs.Prelude.{◌≡◌, ℕ, ◌+◌, ◌-◌, ◌*◌, ◌<◌, ◌≤◌, nat_lt, min, Bool, true, false, not, ◌&&◌, ◌||◌, ◌==◌, if◌then◌else◌, List, Option, Some, None, IfSome, is_some}
 use Rattle.tcp_timing.specs.declared.round_trip.RoundTrip.{RoundTrip}
 use Rattle.tcp_congestion.specs.Control.{Control}
 use Rattle.tcp_congestion.specs.Sizes.{latest}
@@ -23,9 +23,13 @@ pub record Flowing (S W : Type 0) : Type 0 where
   pub shut : Bool
   -- when text was last sent
   pub sent_at : ℕ
+  -- partial acknowledgements in a row that covered no more than was sent again, of which two count
+  pub drops : ℕ
+  -- duplicates behind all that was sent again, of which three count
+  pub repeats : ℕ
 
 abbrev pub new_flowing : {S W : Type 0} → Driving S → W → ℕ → Flowing S W
-new_flowing driving window now = record { driving = driving; window = window; shut = false; sent_at = now }
+new_flowing driving window now = record { driving = driving; window = window; shut = false; sent_at = now; drops = 0; repeats = 0 }
 
 -- ---- WHAT IT KNOWS of its end: SND.UNA, how many numbers are in flight, SND.NXT, and whether blocks report a gap
 abbrev pub una_of : {S W : Type 0} → Machine S → Flowing S W → ℕ
@@ -55,21 +59,69 @@ abbrev pub with_first : {S W : Type 0} → Machine S → Flowing S W → ℕ →
 with_first m f now again =
     if again then record f { driving = after_user m f.driving (at f.driving now) (m.first_resent f.driving.core) } else f
 
+-- A PEER THAT KEEPS NOTHING OUT OF ORDER lacks all that was sent behind a loss, and a segment for each partial acknowledgement (RFC
+-- 6582, 4) would be long in coming to its end. Where blocks say nothing, two partial acknowledgements in a row that cover no more than
+-- two segments, as one may (RFC 5681, 4.2), are of such a peer (own); until the first acknowledgement behind all that was sent again
+-- covers more than the window had let out again of it
+abbrev pub most_drops : ℕ
+most_drops = 2
+
+abbrev pub most_repeats : ℕ
+most_repeats = 3
+
+abbrev pub drops_after : ℕ → ℕ → ℕ → Bool → Bool → ℕ
+drops_after before smss acked partial kept =
+    if partial then (if nat_lt smss (acked - smss) then 0 else min most_drops (before + 1)) else (if kept then 0 else before)
+
+abbrev pub counted_drops : {S W : Type 0} → Machine S → Control W → Flowing S W → ℕ → ℕ
+counted_drops m c f acked =
+    if c.is_recovering f.window && not (has_blocks m f)
+    then drops_after f.drops (c.smss f.window) acked (c.is_partial f.window (una_of m f)) (f.repeats == most_repeats && nat_lt (c.cwnd f.window) acked)
+    else f.drops
+
+-- TO IT ALL THAT IS IN FLIGHT goes out again, within the window, and no partial acknowledgement has the first segment sent again
+abbrev pub with_all : {S W : Type 0} → Machine S → Control W → Flowing S W → ℕ → Flowing S W
+with_all m c f now = record f {
+  driving = after_user m f.driving (at f.driving now) (m.resent f.driving.core (una_of m f) (nxt_of m f));
+  window = c.found_by_time f.window;
+  repeats = most_repeats;
+}
+
+abbrev pub with_lost : {S W : Type 0} → Machine S → Control W → Flowing S W → ℕ → Bool → Flowing S W
+with_lost m c f now again = if again && f.drops == most_drops then with_all m c f now else with_first m f now again
+
 -- SND.UNA HAS MOVED ON
 abbrev pub after_progress : {S W : Type 0} → Machine S → Control W → Flowing S W → ℕ → ℕ → Flowing S W
 after_progress m c f acked now =
-    with_first m (record f { window = c.acknowledged f.window acked (una_of m f) (flight_of m f) now (srtt_of f.driving.times.estimate.trip) }) now
-    (c.is_partial f.window (una_of m f) && not (has_blocks m f))
+    with_lost m c (record f {
+      window = c.acknowledged f.window acked (una_of m f) (flight_of m f) now (srtt_of f.driving.times.estimate.trip);
+      drops = counted_drops m c f acked;
+      repeats = 0;
+    }) now (c.is_partial f.window (una_of m f) && not (has_blocks m f))
+
+-- IT SAYS SOMETHING of what is in flight where SND.UNA has moved on, or the peer's window was taken from it
+abbrev pub says_something : {S W : Type 0} → Machine S → Flowing S W → ℕ → Report → Bool
+says_something m f una report = nat_lt una (una_of m f) || is_some report.window
 
 -- IN RECOVERY AS MANY AS SSTHRESH ARE UNDER WAY beside what blocks report (RFC 6675, 4 and 5)
 abbrev pub with_pipe : {S W : Type 0} → Machine S → Control W → Flowing S W → Flowing S W
 with_pipe m c f = if c.is_recovering f.window then record f { window = c.with_pipe f.window (m.reported f.driving.core) } else f
 
+abbrev pub with_pipe_if : {S W : Type 0} → Bool → Machine S → Control W → Flowing S W → Flowing S W
+with_pipe_if says m c f = if says then with_pipe m c f else f
+
+-- the third duplicate behind all that was sent again says that of this something was lost (RFC 5681, 4.3)
+abbrev pub after_repeat : {S W : Type 0} → Machine S → Control W → Flowing S W → ℕ → Flowing S W
+after_repeat m c f now =
+    if f.repeats == 2 then with_all m c (record f { window = c.lost_again f.window }) now
+    else record f { repeats = min most_repeats (f.repeats + 1) }
+
 -- A DUPLICATE came, which counts where no blocks report gaps (RFC 5681, 4.3); in recovery it does by what blocks report
 abbrev pub after_duplicate : {S W : Type 0} → Machine S → Control W → Flowing S W → ℕ → Flowing S W
 after_duplicate m c f now =
     if has_blocks m f then (if c.is_recovering f.window then f else record f { window = c.reported f.window })
-    else with_first m (record f { window = c.duplicated f.window (una_of m f) (flight_of m f) (nxt_of m f) }) now (c.begins_recovery f.window (una_of m f))
+    else (if c.is_recovering f.window && f.drops == most_drops then after_repeat m c f now
+    else with_lost m c (record f { window = c.duplicated f.window (una_of m f) (flight_of m f) (nxt_of m f) }) now (c.begins_recovery f.window (una_of m f)))
 
 -- while the peer's window is shut what comes again and again answers probes, and says nothing of the path (RFC 9293, 3.8.6.1)
 abbrev pub after_report : {S W : Type 0} → Machine S → Control W → Flowing S W → ℕ → Report → ℕ → Flowing S W
@@ -89,7 +141,8 @@ settled smss_of c f = record f { window = agreed_by c f.window (smss_of f.drivin
 abbrev pub told : {S W : Type 0} → Machine S → (S → Option ℕ) → Control W → Flowing S W → ℕ → Report → ℕ → Flowing S W
 told m smss_of c f una report now =
     if c.limits f.window
-    then settled smss_of c (with_pipe m c (after_report m c (record f { shut = shut_by report.window f.shut }) una report now))
+    then settled smss_of c
+    (with_pipe_if (says_something m f una report) m c (after_report m c (record f { shut = shut_by report.window f.shut }) una report now))
     else f
 
 abbrev pub after_segment : {S W : Type 0} → Machine S → (S → Option ℕ) → Control W → Flowing S W → ℕ → List ℕ → List ℕ → List ℕ → Bool → Flowing S W

@@ -3,7 +3,7 @@ ghost use Rattle.std.specs.Prelude.{◌≡◌, ◌≤◌, ◌<◌, ◌+◌, ◌*
 use crate::paced::Paced;
 use std::marker::Model;
 use tcp_congestion::Congestion;
-use tcp_driver::{Driver, Report, Sent, Taken, Timer};
+use tcp_driver::{Driver, Sent, Taken, Timer};
 
 /// One end with its times (RFC 6298, 5) under a congestion window (RFC 5681, 3; RFC 9438). What is in flight is bounded by
 /// that window, and what comes, expires and rests is told to it.
@@ -11,7 +11,12 @@ use tcp_driver::{Driver, Report, Sent, Taken, Timer};
 pub struct Flow<C: Paced + Drop, W: Congestion + Drop> {
     pub(crate) driver: Driver<C>,
     pub(crate) window: W,
-    is_shut: bool,
+    // These three lie in one word, so that a connection's block has kept its size.
+    pub(crate) is_shut: bool,
+    /// Partial acknowledgements in a row that covered no more than was sent again, of which two count.
+    pub(crate) drops: u8,
+    /// Duplicates behind all that was sent again, of which three count.
+    pub(crate) repeats: u8,
     sent_at: u64,
 }
 
@@ -20,7 +25,7 @@ impl<C: Paced + Drop, W: Congestion + Drop> Model for Flow<C, W> {
 
     ghost Value = { Flowing C W };
 
-    ghost view = { λ f. record { driving = f.driver; window = f.window; shut = f.is_shut; sent_at = f.sent_at } };
+    ghost view = { λ f. record { driving = f.driver; window = f.window; shut = f.is_shut; sent_at = f.sent_at; drops = f.drops; repeats = f.repeats } };
 }
 
 impl<C: Paced + Drop, W: Congestion + Drop> Flow<C, W> {
@@ -38,6 +43,8 @@ impl<C: Paced + Drop, W: Congestion + Drop> Flow<C, W> {
             driver,
             window,
             is_shut: false,
+            drops: 0,
+            repeats: 0,
             sent_at: now,
         }
     }
@@ -139,95 +146,6 @@ impl<C: Paced + Drop, W: Congestion + Drop> Flow<C, W> {
             }
         }
         taken
-    }
-
-    ghost use Rattle.tcp_flow.specs.Flow.{after_duplicate, after_progress, after_report, settled, srtt_of, told, with_first, with_pipe};
-
-    /// What came is told to the window.
-    #[inline(never)]
-    fn told(&mut self, una: u64, report: Report, now: u64)
-        requires { W.control.limits self.old.window ≡ true }
-        ensures { self.new ≡ told C.machine C.smss_of W.control self.old una report now }
-    {
-        if let Some(window) = report.window {
-            self.is_shut = window == 0;
-        }
-        self.report(una, report, now);
-        self.keep_pipe();
-        self.settle();
-    }
-
-    /// What was acknowledged is told to the window.
-    fn report(&mut self, una: u64, report: Report, now: u64)
-        ensures { self.new ≡ after_report C.machine W.control self.old una report now }
-    {
-        if una < self.driver.core().una() {
-            self.progress(report.acked, now);
-        } else if report.is_duplicate && !self.is_shut {
-            self.duplicate(now);
-        }
-    }
-
-    /// The window is of the segments that both SYNs agreed on, once they have.
-    fn settle(&mut self)
-        ensures { self.new ≡ settled C.smss_of W.control self.old }
-    {
-        if let Some(smss) = self.driver.core().smss() {
-            if smss != self.window.smss() {
-                self.window.agreed(smss);
-            }
-        }
-    }
-
-    /// SND.UNA has moved on.
-    fn progress(&mut self, acked: u64, now: u64)
-        ensures { self.new ≡ after_progress C.machine W.control self.old acked now }
-    {
-        let una = self.driver.core().una();
-        let flight = self.driver.flight();
-        let rtt = self.rtt();
-        let again = self.window.acknowledged(acked, una, flight, now, rtt);
-        if again && !self.driver.core().wants().reorder {
-            let _ = self.driver.resend_first(now);
-        }
-    }
-
-    /// The smoothed round trip, or 0 before one was measured.
-    fn rtt(&self) -> u64
-        ensures { result ≡ srtt_of self.now.driving.times.estimate.trip }
-    {
-        match self.driver.estimator().trip() {
-            Some(trip) => trip.srtt,
-            None => 0,
-        }
-    }
-
-    /// A duplicate has come.
-    fn duplicate(&mut self, now: u64)
-        ensures { self.new ≡ after_duplicate C.machine W.control self.old now }
-    {
-        if self.driver.core().wants().reorder {
-            if !self.window.is_recovering() {
-                self.window.reported();
-            }
-            return;
-        }
-        let una = self.driver.core().una();
-        let flight = self.driver.flight();
-        let nxt = self.nxt();
-        if self.window.duplicate(una, flight, nxt) {
-            let _ = self.driver.resend_first(now);
-        }
-    }
-
-    /// In a recovery ssthresh is under way beside what blocks report, however often they report it (RFC 6675, 4 and 5).
-    fn keep_pipe(&mut self)
-        ensures { self.new ≡ with_pipe C.machine W.control self.old }
-    {
-        if self.window.is_recovering() {
-            let reported = self.driver.core().reported();
-            self.window.keep_pipe(reported);
-        }
     }
 
     ghost use Rattle.tcp_flow.specs.Flow.{StaysInOwn, StaysInWindow, is_idle, lost_by, nxt_of};

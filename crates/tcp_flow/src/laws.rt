@@ -12,8 +12,8 @@ use std::alloc::Allocator;
 use tcp_congestion::Congestion;
 use tcp_end::Wired;
 
-/// Whatever is called, the driver in a flow is as after a call of its own, and behind an arrival perhaps its `resend_first`, so
-/// that every law of a driver holds of it ([`tcp_driver::laws`]).
+/// Whatever is called, the driver in a flow is as after a call of its own, and behind an arrival perhaps its `resend_first` or its
+/// `resend`, so that every law of a driver holds of it ([`tcp_driver::laws`]).
 pub fn flow_is_driven<C: Paced, W: Congestion>()
     ensures { FlowIsDriven C.machine C.smss_of W.control }
 {
@@ -47,10 +47,11 @@ pub fn each_window_lets_out_two_more()
     ensures any { LetsOutTwoMore any_control }
 {}
 
-/// In recovery, behind each arrival, a window lets out no more from SND.UNA on than ssthresh and what blocks report, which has left the
-/// network (RFC 6675, 4 and 5), however many duplicates say the same: a peer whose blocks tell nothing new has nothing let out.
+/// In recovery a window lets out no more from SND.UNA on, behind each arrival that says something of what is in flight, than ssthresh
+/// and what blocks report, which has left the network (RFC 6675, 4 and 5), however many duplicates say the same: a peer whose blocks
+/// tell nothing new has nothing let out. It is said where blocks report something; where they don't it is RFC 6582's.
 pub fn pipe_stays_in_threshold<C: Paced, W: Congestion>()
-    ensures { RecoveryKeepsPipe W.control → PipeStaysInThreshold C.machine W.control }
+    ensures { RecoveryKeepsPipe W.control → PipeStaysInThreshold C.machine C.smss_of W.control }
 {}
 
 /// Each window keeps the pipe so (RFC 6675, 4 and 5).

@@ -10,6 +10,7 @@ mod flow;
 pub mod laws;
 mod loss;
 mod paced;
+mod telling;
 mod wired;
 
 pub use flow::Flow;

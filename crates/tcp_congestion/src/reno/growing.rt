@@ -1,10 +1,10 @@
 //! How Reno's window grows, and by how much a loss lowers its threshold.
-ghost use Rattle.std.specs.Prelude.{◌≡◌, ◌≤◌};
+ghost use Rattle.std.specs.Prelude.{◌≡◌, ◌≤◌, ◌*◌};
 
 use crate::reno::{MAX_WINDOW, Reno};
 
 impl Reno {
-    ghost use Rattle.tcp_congestion.specs.Reno.{after_growth, halved, limited};
+    ghost use Rattle.tcp_congestion.specs.Reno.{after_growth, halved, limited, no_higher};
     ghost use Rattle.tcp_congestion.specs.Sizes.{max_threshold};
 
     /// What the first two duplicates let out beyond the window (RFC 3042, 2).
@@ -42,5 +42,15 @@ impl Reno {
         ensures low { self.new.ssthresh ≤ max_threshold }
     {
         self.ssthresh = (flight.min(self.cwnd) / 2).max(2 * self.smss);
+    }
+
+    /// The timer has expired: the threshold is no higher than `before` where a recovery goes on, in which a loss has lowered it.
+    pub(crate) fn no_higher(&mut self, before: u64)
+        requires { 2 * self.old.smss ≤ before }
+        ensures { self.new ≡ record self.old { ssthresh = no_higher (record self.old { ssthresh = before }) self.old.ssthresh } }
+    {
+        if self.is_recovering {
+            self.ssthresh = self.ssthresh.min(before);
+        }
     }
 }

@@ -6,7 +6,7 @@ use Rattle.tcp_flow.proofs.flow.Flow.arrive_limited.Goals as goal
 pub returns-in-Done-clause-state : goal.returns-in-Done-clause-state
 returns-in-Done-clause-state g c =
     heard_by g.C.Core.machine g.C.Paced.smss_of g.W.Congestion.control
-    (record { driving = c.self.inside.driver; window = c.self.inside.window; shut = c.self.inside.is_shut; sent_at = c.self.inside.sent_at })
+    (record { driving = c.self.inside.driver; window = c.self.inside.window; shut = c.self.inside.is_shut; sent_at = c.self.inside.sent_at; drops = c.self.inside.drops; repeats = c.self.inside.repeats })
     c.args.self.now c.args.now c.args.src c.args.dst c.args.bytes.now false g.C.Core.arrival_answer
     c.arrive-taken.new.self c.una-una.result (Done c.in-Done.report c.in-Done.field-1) c.told.new.self
     c.self.view_is c.arrive-taken.ensures.state (let u = c.una-una.ensures in let o = c.core.ensures in cc)
