@@ -1,6 +1,6 @@
 //! What is in the two buffers of an end, beside lengths: windows, blocks, and what the peer reported.
-ghost use Rattle.std.specs.Prelude.{◌≡◌, IfSome};
-ghost use Rattle.tcp_sendq.specs.SendQueue.{next_unmarked, IsNextUnmarked};
+ghost use Rattle.std.specs.Prelude.{◌≡◌, ◌≤◌, IfSome, length};
+ghost use Rattle.tcp_sendq.specs.SendQueue.{next_unmarked, IsNextUnmarked, count_marked};
 ghost use Rattle.tcp_reasm.specs.Reassembly.{blocks, window};
 
 use crate::endpoint::Endpoint;
@@ -36,5 +36,14 @@ impl<A: Allocator> Endpoint<A> {
         ensures first { IfSome result (IsNextUnmarked self.now.sending.queue at) }
     {
         self.sender.queue.next_unmarked(at)
+    }
+
+    /// How many bytes of the send queue the peer has reported as received (RFC 2018, 5).
+    #[must_use]
+    pub fn marked(&self) -> usize
+        ensures value { result ≡ count_marked self.now.sending.queue.marks }
+        ensures within { result ≤ length self.now.sending.queue.bytes }
+    {
+        self.sender.queue.marked()
     }
 }

@@ -7,7 +7,8 @@ use Rattle.tcp_driver.specs.Machine.{Machine}
 use Rattle.tcp_flow.specs.Calls.{FlowCall, Comes, Goes, GoesAsOne, Asks, after_flow_call}
 use Rattle.tcp_flow.specs.Flow.{Flowing, after_segment, after_use}
 use Rattle.tcp_connection.specs.Calls.{Arrives, Emits, EmitsAsOne, Ticks, Reads, Acknowledges, Uses, SetsPatience, SetsUserTimeout, SetsWindow, LosesOne, SetsPolicy, ConnectionIsFlow, after_flow_calls, emissions}
-use Rattle.tcp_connection.specs.Connection.{Connecting, agreed_by, core_of, edge_by, heard_if, is_pending, reported, taken_by_flow}
+use Rattle.tcp_connection.specs.Connection.{Connecting, agreed_by, before_in, core_of, edge_by, heard_if, reported, taken_by_flow}
+use Rattle.tcp_connection.specs.declared.hearing.Before.{Before}
 use Rattle.tcp_connection.specs.Going.{after_going, asked, discards, flow_after, flow_sent, holds_back}
 use Rattle.tcp_connection.specs.Insight.{Insight}
 use Rattle.tcp_connection.specs.Policy.{holds_any}
@@ -23,10 +24,10 @@ agreed-flow : {S W : Type 0} (smss : Option ℕ) (k : Connecting S W) → (agree
 agreed-flow None k = refl
 agreed-flow (Some smss) k = chosen (k.smss == smss) _ _ k.flowing refl refl
 
-heard-flow : {S W : Type 0} (i : Insight S) (smss_of : S → Option ℕ) (k : Connecting S W) (pending : Bool) (rcv_nxt : ℕ) (bytes : List ℕ) (report : Option Report) (now : ℕ)
-    → (heard_if i smss_of k pending rcv_nxt bytes report now).flowing ≡ k.flowing
-heard-flow i smss_of k pending rcv_nxt bytes None now = refl
-heard-flow i smss_of k pending rcv_nxt bytes (Some report) now = agreed-flow (smss_of (core_of k)) k
+heard-flow : {S W : Type 0} (i : Insight S) (smss_of : S → Option ℕ) (k : Connecting S W) (before : Before) (bytes : List ℕ) (report : Option Report) (now : ℕ)
+    → (heard_if i smss_of k before bytes report now).flowing ≡ k.flowing
+heard-flow i smss_of k before bytes None now = refl
+heard-flow i smss_of k before bytes (Some report) now = agreed-flow (smss_of (core_of k)) k
 
 urged-flow : {S W : Type 0} (k : Connecting S W) (now : ℕ) → (urged k now).flowing ≡ k.flowing
 urged-flow k now = chosen (holds_any k.policy) _ _ k.flowing refl refl
@@ -67,7 +68,7 @@ pub flow_lem : {S W : Type 0} (m : Machine S) (i : Insight S) (smss_of : S → O
 unfolding flow_after train_after flow_sent train_count
 flow_lem m i smss_of c k (Arrives now src dst bytes vouched) =
     chosen (holds_any k.policy) _ _ (after_segment m smss_of c k.flowing now src dst bytes vouched)
-    (heard-flow i smss_of (taken_by_flow m smss_of c k now src dst bytes vouched) (is_pending m k) (i.rcv_nxt (core_of k)) bytes
+    (heard-flow i smss_of (taken_by_flow m smss_of c k now src dst bytes vouched) (before_in m i k) bytes
     (reported m k.flowing.driving src dst bytes vouched) now)
     refl
 flow_lem m i smss_of c k (Emits now window) =

@@ -13,10 +13,11 @@ use Rattle.tcp_driver.specs.declared.machine.Report.{Report}
 use Rattle.tcp_driver.specs.Driver.{Driving, is_withheld, way_of}
 use Rattle.tcp_driver.specs.Machine.{Machine}
 use Rattle.tcp_flow.specs.Flow.{Flowing, after_segment}
+use Rattle.tcp_connection.specs.declared.hearing.Before.{Before}
 use Rattle.tcp_connection.specs.declared.policy.Policy.{Policy}
 use Rattle.tcp_connection.specs.Insight.{Insight}
 use Rattle.tcp_connection.specs.Policy.{holds_any, no_ack, no_text}
-use Rattle.tcp_connection.specs.Segment.{takes_numbers}
+use Rattle.tcp_connection.specs.Segment.{is_exempt}
 
 pub record Connecting (S W : Type 0) : Type 0 where
   pub flowing : Flowing S W
@@ -27,7 +28,7 @@ pub record Connecting (S W : Type 0) : Type 0 where
   pub ack : Waiting
   pub text : Sender
   pub limiter : Limiter
-  -- the pending acknowledgement only answers segments without text, SYN and FIN
+  -- the pending acknowledgement only answers what brings nothing
   pub bare : Bool
   -- the right edge of the window that was advertised last, as a position of the peer's direction
   pub edge : ℕ
@@ -74,7 +75,15 @@ beginning m i f policy smss = record {
 abbrev pub new_connecting : {S W : Type 0} → Machine S → Insight S → (S → Option ℕ) → Flowing S W → Policy → Connecting S W
 new_connecting m i smss_of f policy = beginning m i f policy (unwrap_or (smss_of f.driving.core) first_smss)
 
--- ---- AN ARRIVAL. Both SYNs have agreed on full segments
+-- ---- AN ARRIVAL: what the end says before it
+abbrev pub before_in : {S W : Type 0} → Machine S → Insight S → Connecting S W → Before
+before_in m i k = record {
+  is_pending = is_pending m k;
+  rcv_nxt = i.rcv_nxt (core_of k);
+  is_synchronized = i.is_synchronized (core_of k);
+}
+
+-- both SYNs have agreed on full segments
 abbrev pub agreed_by : {S W : Type 0} → Option ℕ → Connecting S W → Connecting S W
 agreed_by None k = k
 agreed_by (Some smss) k = if k.smss == smss then k else record k { smss = smss; ack = no_ack k.policy smss; text = no_text k.policy smss }
@@ -84,23 +93,24 @@ abbrev pub after_taken : Sender → Option ℕ → Sender
 after_taken s None = s
 after_taken s (Some window) = after_window s window
 
--- WHAT ANSWERS TEXT, SYN OR FIN isn't bare, and neither is what was pending before: of such answers alone the number is limited
--- (own; RFC 5961, 7 limits challenge acknowledgements, which these two ends would send each other without end)
-abbrev pub bare_after : {S W : Type 0} → Connecting S W → Bool → List ℕ → Bool → Bool
-bare_after k pending bytes at_once =
-    if takes_numbers bytes then false
-    else (if at_once && nat_lt 0 k.policy.answer_interval then not pending || k.bare else k.bare)
+-- WHAT ANSWERS TEXT, FIN, OR A SYN OF THE HANDSHAKE isn't bare, and neither is what was pending before: of bare answers alone
+-- the number is limited (own; RFC 5961, 7 limits challenge acknowledgements, which these two ends would send each other without
+-- end)
+abbrev pub bare_after : {S W : Type 0} → Connecting S W → Before → List ℕ → Bool → Bool
+bare_after k before bytes at_once =
+    if is_exempt before.is_synchronized bytes then false
+    else (if at_once && nat_lt 0 k.policy.answer_interval then not before.is_pending || k.bare else k.bare)
 
--- a segment was taken, before which an acknowledgement was pending or not, and RCV.NXT was this
-abbrev pub heard_by : {S W : Type 0} → Insight S → Connecting S W → Bool → ℕ → List ℕ → Report → ℕ → Connecting S W
-heard_by i k pending rcv_nxt bytes report now = record k {
-  ack = after_arrival k.ack (i.rcv_nxt (core_of k) - rcv_nxt) report.at_once now;
+-- a segment was taken
+abbrev pub heard_by : {S W : Type 0} → Insight S → Connecting S W → Before → List ℕ → Report → ℕ → Connecting S W
+heard_by i k before bytes report now = record k {
+  ack = after_arrival k.ack (i.rcv_nxt (core_of k) - before.rcv_nxt) report.at_once now;
   text = after_taken k.text report.window;
-  bare = bare_after k pending bytes report.at_once;
+  bare = bare_after k before bytes report.at_once;
 }
 
-abbrev pub heard : {S W : Type 0} → Insight S → (S → Option ℕ) → Connecting S W → Bool → ℕ → List ℕ → Report → ℕ → Connecting S W
-heard i smss_of k pending rcv_nxt bytes report now = heard_by i (agreed_by (smss_of (core_of k)) k) pending rcv_nxt bytes report now
+abbrev pub heard : {S W : Type 0} → Insight S → (S → Option ℕ) → Connecting S W → Before → List ℕ → Report → ℕ → Connecting S W
+heard i smss_of k before bytes report now = heard_by i (agreed_by (smss_of (core_of k)) k) before bytes report now
 
 -- what is reported of it, where it is taken
 abbrev pub report_in : {T : Type 0} → Taken T → Option Report
@@ -112,9 +122,9 @@ abbrev pub reported : {S : Type 0} → Machine S → Driving S → List ℕ → 
 reported m d src dst bytes vouched =
     if d.times.bursting || is_withheld m d.core bytes then None else Some (m.report d.core src dst bytes (way_of d vouched))
 
-abbrev pub heard_if : {S W : Type 0} → Insight S → (S → Option ℕ) → Connecting S W → Bool → ℕ → List ℕ → Option Report → ℕ → Connecting S W
-heard_if i smss_of k pending rcv_nxt bytes None now = k
-heard_if i smss_of k pending rcv_nxt bytes (Some report) now = heard i smss_of k pending rcv_nxt bytes report now
+abbrev pub heard_if : {S W : Type 0} → Insight S → (S → Option ℕ) → Connecting S W → Before → List ℕ → Option Report → ℕ → Connecting S W
+heard_if i smss_of k before bytes None now = k
+heard_if i smss_of k before bytes (Some report) now = heard i smss_of k before bytes report now
 
 -- the flow takes it, and where anything may wait the policy hears of it
 abbrev pub taken_by_flow : {S W : Type 0} → Machine S → (S → Option ℕ) → Control W → Connecting S W → ℕ → List ℕ → List ℕ → List ℕ → Bool → Connecting S W
@@ -123,6 +133,6 @@ taken_by_flow m smss_of c k now src dst bytes vouched = record k { flowing = aft
 abbrev pub after_arriving : {S W : Type 0} → Machine S → Insight S → (S → Option ℕ) → Control W → Connecting S W → ℕ → List ℕ → List ℕ → List ℕ → Bool → Connecting S W
 after_arriving m i smss_of c k now src dst bytes vouched =
     if holds_any k.policy
-    then heard_if i smss_of (taken_by_flow m smss_of c k now src dst bytes vouched) (is_pending m k) (i.rcv_nxt (core_of k)) bytes
+    then heard_if i smss_of (taken_by_flow m smss_of c k now src dst bytes vouched) (before_in m i k) bytes
     (reported m k.flowing.driving src dst bytes vouched) now
     else taken_by_flow m smss_of c k now src dst bytes vouched

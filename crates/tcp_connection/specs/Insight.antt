@@ -1,5 +1,5 @@
 -- What a connection knows of its end beside what a driver does, as functions of the end's state S.
-use Rattle.std.specs.Prelude.{ℕ, Option}
+use Rattle.std.specs.Prelude.{ℕ, Bool, Option}
 use Rattle.tcp_connection.specs.declared.deferring.Kind.{Kind}
 
 pub record Insight (S : Type 0) : Type 0 where
@@ -13,3 +13,5 @@ pub record Insight (S : Type 0) : Type 0 where
   -- the window that a segment advertises, and RCV.BUFF, the receive buffer (RFC 9293, 3.8.6.2.2): in bytes
   pub window : S → ℕ
   pub capacity : S → ℕ
+  -- it is in a synchronized state: none of CLOSED, LISTEN, SYN-SENT and SYN-RECEIVED (RFC 9293, 3.5.2)
+  pub is_synchronized : S → Bool

@@ -1,16 +1,26 @@
 -- What is read of a segment (RFC 9293, 3.1).
-use Rattle.std.specs.Prelude.{ℕ, ◌*◌, ◌/◌, nat_lt, Bool, false, not, ◌||◌, ◌==◌, List, length, Option, Some, None, bit_and, slice_get}
+use Rattle.std.specs.Prelude.{ℕ, ◌*◌, ◌/◌, nat_lt, Bool, false, not, ◌||◌, ◌==◌, if◌then◌else◌, List, length, Option, Some, None, bit_and, slice_get}
 
--- the bits FIN and SYN
-abbrev pub has_syn_or_fin : Option ℕ → Bool
-has_syn_or_fin None = false
-has_syn_or_fin (Some flags) = not (bit_and flags 3 == 0)
+-- a flag
+abbrev pub has_flag : ℕ → Option ℕ → Bool
+has_flag flag None = false
+has_flag flag (Some flags) = not (bit_and flags flag == 0)
+
+abbrev pub fin : ℕ
+fin = 1
+
+abbrev pub syn : ℕ
+syn = 2
 
 -- it is longer than its header, whose length its data offset has in words of four bytes
 abbrev pub has_text : Option ℕ → ℕ → Bool
 has_text None len = false
 has_text (Some offset) len = nat_lt (4 * (offset / 16)) len
 
--- IT TAKES NUMBERS where it has text, SYN or FIN: SEG.LEN isn't 0 (RFC 9293, 3.4)
-abbrev pub takes_numbers : List ℕ → Bool
-takes_numbers bytes = has_syn_or_fin (slice_get bytes 13) || has_text (slice_get bytes 12) (length bytes)
+-- THE ANSWER TO IT ISN'T LIMITED where it has text or FIN, which are acknowledged, again too. So is a SYN that may open the
+-- connection; in a synchronized state a SYN brings nothing, whatever comes with it, and is challenged (RFC 9293, 3.10.7.4,
+-- fourth), and challenges are limited (RFC 5961, 7)
+abbrev pub is_exempt : Bool → List ℕ → Bool
+is_exempt synchronized bytes =
+    if has_flag syn (slice_get bytes 13) then not synchronized
+    else has_flag fin (slice_get bytes 13) || has_text (slice_get bytes 12) (length bytes)

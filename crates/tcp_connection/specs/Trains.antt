@@ -1,6 +1,6 @@
 -- SEGMENTS THAT GO OUT AS ONE, for a device that cuts them: what waits, and what is discarded, is as of a segment that goes
 -- alone.
-use Rattle.std.specs.Prelude.{ℕ, ◌/◌, Bool, if◌then◌else◌, List, length, Option, None, is_some, max, min, option_map}
+use Rattle.std.specs.Prelude.{ℕ, ◌/◌, nat_le, Bool, not, ◌&&◌, if◌then◌else◌, List, length, Option, None, is_some, max, min, option_map}
 use Rattle.tcp_congestion.specs.Control.{Control}
 use Rattle.tcp_driver.specs.Machine.{Machine}
 use Rattle.tcp_flow.specs.Flow.{Flowing, allowed, emitted_as_one, rested, row_of}
@@ -10,12 +10,16 @@ use Rattle.tcp_connection.specs.Insight.{Insight}
 use Rattle.tcp_connection.specs.Policy.{holds_any}
 
 -- HOW MANY of those that are asked for: full ones alone, or the one that may go; what is left waits by itself (RFC 9293,
--- 3.8.6.2.1)
+-- 3.8.6.2.1). Unless it goes at once behind them: without the Nagle algorithm what is left goes where the window has room for
+-- all that is queued (3.8.6.2.1, (2))
 abbrev pub full_segments : {S W : Type 0} → Machine S → Insight S → Connecting S W → Bool → ℕ
 full_segments m i k past = min (queued i k past) (usable m i k) / k.smss
 
+abbrev pub is_whole : {S W : Type 0} → Machine S → Insight S → Connecting S W → Bool → Bool
+is_whole m i k past = not k.policy.is_nagle && nat_le (queued i k past) (usable m i k)
+
 abbrev pub most_by : {S W : Type 0} → Machine S → Insight S → Connecting S W → Bool → ℕ → ℕ
-most_by m i k past most = if is_asked i k past then min most (max 1 (full_segments m i k past)) else most
+most_by m i k past most = if is_asked i k past && not (is_whole m i k past) then min most (max 1 (full_segments m i k past)) else most
 
 abbrev pub most_of : {S W : Type 0} → Machine S → Insight S → Control W → Connecting S W → ℕ → ℕ → ℕ
 most_of m i c k window most = most_by m i k (is_past m c k window) most

@@ -1,10 +1,12 @@
 -- What a connection knows of an end of a TCP connection: each function is one of tcp_conn's.
-use Rattle.std.specs.Prelude.{ℕ, ◌-◌, ◌*◌, ◌^◌, Option, Some, None, min, option_map}
+use Rattle.std.specs.Prelude.{ℕ, ◌-◌, ◌*◌, ◌^◌, Bool, true, false, Option, Some, None, min, option_map}
 use Rattle.tcp_halves.specs.Config.{max_shift}
 use Rattle.tcp_halves.specs.Receiver.{rcv_position}
 use Rattle.tcp_conn.specs.declared.emit.transmit.Kind.TheVariants as kinds
 use Rattle.tcp_conn.specs.declared.emit.transmit.Kind as conn
 use Rattle.tcp_conn.specs.declared.status.Negotiated.{Negotiated}
+use Rattle.tcp_conn.specs.declared.phase.Phase.{Phase}
+use Rattle.tcp_conn.specs.declared.phase.Phase.TheVariants.{Closed, Listen, SynSent, SynReceived}
 use Rattle.tcp_conn.specs.State.{State}
 use Rattle.tcp_conn.specs.Status.{in_flight_of, negotiated_of, queued_of}
 use Rattle.tcp_conn.specs.Transmission.{transmit_due}
@@ -31,6 +33,14 @@ shift_of (Some agreed) = min max_shift agreed.own_shift
 abbrev pub window_of : State → ℕ
 window_of s = window_field (shift_of (negotiated_of s)) (receive_window s) * 2 ^ shift_of (negotiated_of s)
 
+-- both SYNs are acknowledged (RFC 9293, 3.5.2)
+abbrev pub is_synchronized : Phase → Bool
+is_synchronized Closed = false
+is_synchronized Listen = false
+is_synchronized SynSent = false
+is_synchronized SynReceived = false
+is_synchronized other = true
+
 abbrev pub insight : {A : Type 0} → Insight (Wired A)
 insight = record {
   kind = λ w. option_map (λ t. kind_of t.kind) (transmit_due w.end);
@@ -39,4 +49,5 @@ insight = record {
   unsent = λ w. unsent_of w.end;
   window = λ w. window_of w.end;
   capacity = λ w. w.end.config.recv_capacity;
+  is_synchronized = λ w. is_synchronized w.end.phase;
 }

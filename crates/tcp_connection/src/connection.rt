@@ -113,9 +113,9 @@ impl<C: Deferring + Drop, W: Congestion + Drop> Connection<C, W> {
         if !self.is_deferring {
             return self.flow.arrive(now, src, dst, bytes);
         }
-        let (pending, rcv_nxt) = self.before();
+        let before = self.before();
         let taken = self.flow.arrive(now, src, dst, bytes);
-        self.hear_of(pending, rcv_nxt, bytes, &taken, now);
+        self.hear_of(before, bytes, &taken, now);
         taken
     }
 
@@ -133,9 +133,9 @@ impl<C: Deferring + Drop, W: Congestion + Drop> Connection<C, W> {
         if !self.is_deferring {
             return self.flow.arrive_vouched(now, src, dst, bytes);
         }
-        let (pending, rcv_nxt) = self.before();
+        let before = self.before();
         let taken = self.flow.arrive_vouched(now, src, dst, bytes);
-        self.hear_of(pending, rcv_nxt, bytes, &taken, now);
+        self.hear_of(before, bytes, &taken, now);
         taken
     }
 }

@@ -60,6 +60,10 @@ pub trait Deferring: Paced {
     fn capacity(&self) -> u64
         ensures { result ≡ insight.capacity self.now };
 
+    /// Whether it is in a synchronized state: none of CLOSED, LISTEN, SYN-SENT and SYN-RECEIVED (RFC 9293, 3.5.2).
+    fn is_synchronized(&self) -> bool
+        ensures { result ≡ insight.is_synchronized self.now };
+
     /// What was written as one isn't sent.
     fn discard(train: Self::Train);
 }

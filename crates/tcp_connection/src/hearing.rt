@@ -4,9 +4,20 @@ ghost use Rattle.tcp_connection.specs.Connection.{report_in};
 
 use crate::connection::Connection;
 use crate::deferring::Deferring;
-use crate::segment::takes_numbers;
+use crate::segment::is_exempt;
 use tcp_congestion::Congestion;
 use tcp_driver::{Report, Taken};
+
+/// What an end says before an arrival.
+#[derive(Clone, Copy, Debug, PartialEq, Eq)]
+pub(crate) struct Before {
+    /// Whether an acknowledgement is pending.
+    pub is_pending: bool,
+    /// RCV.NXT, as a position of the peer's direction.
+    pub rcv_nxt: u64,
+    /// Whether it is in a synchronized state.
+    pub is_synchronized: bool,
+}
 
 /// What is reported of an arrival that was taken.
 fn report_in<T>(taken: &Taken<T>) -> Option<Report>
@@ -19,44 +30,47 @@ fn report_in<T>(taken: &Taken<T>) -> Option<Report>
 }
 
 impl<C: Deferring + Drop, W: Congestion + Drop> Connection<C, W> {
-    ghost use Rattle.tcp_connection.specs.Connection.{agreed_by, bare_after, core_of, heard, heard_if, is_pending};
+    ghost use Rattle.tcp_connection.specs.Connection.{agreed_by, bare_after, before_in, core_of, heard, heard_if};
 
-    /// Whether an acknowledgement is pending, and RCV.NXT.
-    pub(crate) fn before(&self) -> (bool, u64)
-        ensures pending { result.0 ≡ is_pending C.machine self.now }
-        ensures rcv_nxt { result.1 ≡ C.insight.rcv_nxt (core_of self.now) }
+    /// What the end says.
+    pub(crate) fn before(&self) -> Before
+        ensures { result ≡ before_in C.machine C.insight self.now }
     {
         let core = self.flow.driver().core();
-        (core.is_pending(), core.rcv_nxt())
+        Before {
+            is_pending: core.is_pending(),
+            rcv_nxt: core.rcv_nxt(),
+            is_synchronized: core.is_synchronized(),
+        }
     }
 
-    /// What became of a segment, before which an acknowledgement was pending or not, and RCV.NXT was this.
+    /// What became of a segment.
     pub(crate) fn hear_of(
         &mut self,
-        pending: bool,
-        rcv_nxt: u64,
+        before: Before,
         bytes: &[u8],
         taken: &Taken<C::Arriving>,
         now: u64,
     )
-        ensures { self.new ≡ heard_if C.insight C.smss_of self.old pending rcv_nxt bytes.now (report_in taken.now) now }
+        ensures { self.new ≡ heard_if C.insight C.smss_of self.old before bytes.now (report_in taken.now) now }
     {
         if let Some(report) = report_in(taken) {
-            self.hear(pending, rcv_nxt, bytes, report, now);
+            self.hear(before, bytes, report, now);
         }
     }
 
     /// A segment was taken, of which this is reported.
-    fn hear(&mut self, pending: bool, rcv_nxt: u64, bytes: &[u8], report: Report, now: u64)
-        ensures { self.new ≡ heard C.insight C.smss_of self.old pending rcv_nxt bytes.now report now }
+    fn hear(&mut self, before: Before, bytes: &[u8], report: Report, now: u64)
+        ensures { self.new ≡ heard C.insight C.smss_of self.old before bytes.now report now }
     {
         self.agree();
-        let moved = self.flow.driver().core().rcv_nxt().saturating_sub(rcv_nxt);
+        let rcv_nxt = self.flow.driver().core().rcv_nxt();
+        let moved = rcv_nxt.saturating_sub(before.rcv_nxt);
         self.ack.arrived(moved, report.at_once, now);
         if let Some(window) = report.window {
             self.text.window(window);
         }
-        self.is_bare = self.is_bare_after(pending, bytes, report.at_once);
+        self.is_bare = self.is_bare_after(before, bytes, report.at_once);
     }
 
     /// Segments have the size that both SYNs agreed on, once they have.
@@ -74,14 +88,14 @@ impl<C: Deferring + Drop, W: Congestion + Drop> Connection<C, W> {
     }
 
     /// Whether the acknowledgement that is pending behind a segment only answers what brings nothing.
-    fn is_bare_after(&self, pending: bool, bytes: &[u8], at_once: bool) -> bool
-        ensures { result ≡ bare_after self.now pending bytes.now at_once }
+    fn is_bare_after(&self, before: Before, bytes: &[u8], at_once: bool) -> bool
+        ensures { result ≡ bare_after self.now before bytes.now at_once }
     {
-        if takes_numbers(bytes) {
+        if is_exempt(bytes, before.is_synchronized) {
             return false;
         }
         if at_once && 0 < self.policy.answer_interval {
-            !pending || self.is_bare
+            !before.is_pending || self.is_bare
         } else {
             self.is_bare
         }

@@ -19,8 +19,8 @@ pub struct Policy {
     /// avoided on both sides. `None`: text never waits, and a window that a read has opened is advertised only where it was
     /// shut, or the user asks for it.
     pub override_timeout: Option<u64>,
-    /// Of the acknowledgements that only answer segments without text, SYN and FIN one goes out in so long (RFC 5961, 7). With
-    /// 0 all do.
+    /// Of the acknowledgements that only answer segments without text and FIN, or a SYN in a synchronized state (RFC 9293,
+    /// 3.10.7.4, fourth), one goes out in so long (RFC 5961, 7). With 0 all do.
     pub answer_interval: u64,
 }
 

@@ -1,16 +1,19 @@
 //! What is read of a segment (RFC 9293, 3.1).
 ghost use Rattle.std.specs.Prelude.{◌≡◌, length, slice_get};
-ghost use Rattle.tcp_connection.specs.Segment.{has_syn_or_fin, has_text, takes_numbers};
+ghost use Rattle.tcp_connection.specs.Segment.{has_flag, has_text, is_exempt};
 
-/// FIN and SYN among the flags of a segment.
-const FIN_OR_SYN: u8 = 3;
+/// FIN among the flags of a segment.
+const FIN: u8 = 1;
 
-/// Whether a segment has FIN or SYN.
-fn has_syn_or_fin(bytes: &[u8]) -> bool
-    ensures { result ≡ has_syn_or_fin (slice_get bytes.now 13) }
+/// SYN among the flags of a segment.
+const SYN: u8 = 2;
+
+/// Whether a segment has this flag.
+fn has_flag(bytes: &[u8], flag: u8) -> bool
+    ensures { result ≡ has_flag flag (slice_get bytes.now 13) }
 {
     match bytes.get(13) {
-        Some(flags) => *flags & FIN_OR_SYN != 0,
+        Some(flags) => *flags & flag != 0,
         None => false,
     }
 }
@@ -25,9 +28,13 @@ fn has_text(bytes: &[u8]) -> bool
     }
 }
 
-/// Whether a segment takes numbers: it has text, SYN or FIN (RFC 9293, 3.4).
-pub(crate) fn takes_numbers(bytes: &[u8]) -> bool
-    ensures { result ≡ takes_numbers bytes.now }
+/// Whether the answer to a segment isn't limited, where the end was in a synchronized state or wasn't: it has text or FIN, or a
+/// SYN that may open the connection (RFC 9293, 3.10.7.4, fourth; RFC 5961, 7).
+pub(crate) fn is_exempt(bytes: &[u8], is_synchronized: bool) -> bool
+    ensures { result ≡ is_exempt is_synchronized bytes.now }
 {
-    has_syn_or_fin(bytes) || has_text(bytes)
+    if has_flag(bytes, SYN) {
+        return !is_synchronized;
+    }
+    has_flag(bytes, FIN) || has_text(bytes)
 }

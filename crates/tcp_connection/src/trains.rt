@@ -13,7 +13,7 @@ impl<C: Deferring + Drop, W: Congestion + Drop> Connection<C, W> {
 
     /// Writes as one, for a device that cuts and sums them, the segments that may go out, as [`emit`](Self::emit) has it, at
     /// most `most`. Of new text that waits for a segment that is worth it they are full ones, or a single one: what is left
-    /// goes or waits by itself.
+    /// goes or waits by itself. Without the Nagle algorithm it goes with them where the window has room for all that is queued.
     pub fn emit_train(
         &mut self,
         now: u64,
@@ -67,8 +67,12 @@ impl<C: Deferring + Drop, W: Congestion + Drop> Connection<C, W> {
             return most;
         }
         let core = self.flow.driver().core();
+        let queued = core.unsent();
         let usable = core.snd_wnd().saturating_sub(core.flight());
-        let full = core.unsent().min(usable) / self.smss;
+        if !self.policy.is_nagle && queued <= usable {
+            return most;
+        }
+        let full = queued.min(usable) / self.smss;
         most.min(full.max(1) as usize)
     }
 

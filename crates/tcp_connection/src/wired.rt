@@ -7,7 +7,7 @@ ghost use Rattle.tcp_connection.specs.Wired.{kind_of, shift_of};
 
 use crate::deferring::{Deferring, Kind, Next};
 use std::alloc::Allocator;
-use tcp_conn::{MAX_SHIFT, Negotiated, Train, Transmit};
+use tcp_conn::{MAX_SHIFT, Negotiated, Phase, Train, Transmit};
 use tcp_driver::Sent;
 use tcp_end::Wired;
 
@@ -50,6 +50,13 @@ impl<A: Allocator> Deferring for Wired<A> {
 
     fn capacity(&self) -> u64 {
         self.end.config().recv_capacity as u64
+    }
+
+    fn is_synchronized(&self) -> bool {
+        !matches!(
+            self.end.phase(),
+            Phase::Closed | Phase::Listen | Phase::SynSent | Phase::SynReceived
+        )
     }
 
     fn discard(_train: Train) {}

@@ -1,5 +1,5 @@
 -- WHAT GOES OUT AGAIN (RFC 8985, 6.2, step 5, and 7.3), before what the connection emits by itself.
-use Rattle.std.specs.Prelude.{ℕ, zero, suc, ◌+◌, ◌-◌, Bool, false, not, ◌&&◌, if◌then◌else◌, nat_lt, Option, Some, None, max, min}
+use Rattle.std.specs.Prelude.{ℕ, zero, suc, ◌+◌, ◌-◌, Bool, false, not, ◌&&◌, ◌||◌, if◌then◌else◌, nat_lt, Option, Some, None, max, min}
 use Rattle.tcp_driver.specs.declared.machine.Sent.{Sent}
 use Rattle.tcp_driver.specs.Deadlines.{no_later}
 use Rattle.tcp_recovery.specs.Delivered.{greatest}
@@ -16,7 +16,9 @@ goes_again s (Some sent) = nat_lt 0 sent.count && nat_lt sent.start s.nxt
 
 -- ---- THE PROBE IS DUE: the last segment goes out again, as SMSS numbers at most. New data that may go out has gone out already, since
 -- who calls emits until nothing goes out; what the congestion window holds back isn't sent as a probe (own: 7.3 lets one segment of
--- that go). Where blocks report a gap or a loss is being repaired it is the first segment, which nothing else will send (own)
+-- that go). Where blocks report a gap or a loss is being repaired it is the first segment, which nothing else will send (own). So
+-- it is without blocks: nothing but the timeout would tell which of those in flight is lost, and the first is what the peer's
+-- acknowledgement waits for; and with it the second, which a peer may wait for before it acknowledges (RFC 5681, 4.2; own)
 abbrev pub is_probe_due : Repair → Bool
 is_probe_due r = no_later r.probe.at r.clock
 
@@ -26,8 +28,22 @@ tail s = record { from = max s.una (s.nxt - s.smss); to = s.nxt; loss = None }
 abbrev pub head : Seen → Again
 head s = record { from = s.una; to = min s.nxt (s.una + s.smss); loss = None }
 
+abbrev pub first_two : Seen → Again
+first_two s = record { from = s.una; to = min s.nxt (s.una + s.smss + s.smss); loss = None }
+
+abbrev pub first_of : Seen → Again
+first_of s = if s.has_agreed then head s else first_two s
+
+abbrev pub probes_tail : Repair → Seen → Bool
+probes_tail r s = s.has_agreed && not (is_looking r s)
+
 abbrev pub probe_of : Repair → Seen → Again
-probe_of r s = if is_looking r s then head s else tail s
+probe_of r s = if probes_tail r s then tail s else first_of s
+
+-- TLP.end_seq is SND.NXT (7.3); without blocks it is the end of the first segment, so that one probe goes out, and none follows
+-- before that is acknowledged (own)
+abbrev pub probe_end : Seen → ℕ
+probe_end s = if s.has_agreed then s.nxt else (head s).to
 
 -- ---- WHAT IS LOST goes out again, as far as it wasn't reported as received
 abbrev pub has_unmarked : Option (ℕ × ℕ) → ℕ → Bool
@@ -68,7 +84,12 @@ unfoldable pub again_of : Repair → Seen → (ℕ → Option (ℕ × ℕ)) → 
 again_of r s unmarked resending =
     if is_probe_due r then Some (probe_of r s) else (if resending then None else loss_in (settled most_stretches r s unmarked) s unmarked)
 
--- the recovery behind that. Only a probe of the last segment tells later whether it has repaired a loss (7.4.2)
+-- WHETHER IT TELLS LATER that it has repaired a loss (7.4.2): the last segment does, and without blocks the first two do, where no
+-- duplicate says that both copies came (own: the standard has blocks); beside blocks the first one doesn't
+abbrev pub tells_repair : Repair → Seen → Bool
+tells_repair r s = probes_tail r s || not s.has_agreed
+
+-- the recovery behind that
 abbrev pub with_loss : Repair → Seen → (ℕ → Option (ℕ × ℕ)) → Option (ℕ × ℕ) → Repair
 with_loss r s unmarked None = r
 with_loss r s unmarked (Some lost) =
@@ -80,7 +101,7 @@ with_loss_in r s unmarked = with_loss r s unmarked (lost_at r s r.clock)
 unfoldable pub readied : Repair → Seen → (ℕ → Option (ℕ × ℕ)) → Bool → Repair
 readied r s unmarked resending =
     if is_probe_due r
-    then record r { probe = after_probe r.probe s.nxt (not (is_looking r s)) }
+    then record r { probe = after_probe r.probe (probe_end s) (tells_repair r s) }
     else (if resending then r else with_loss_in (settled most_stretches r s unmarked) s unmarked)
 
 -- ---- WHAT HAS GONE OUT is told, where it takes numbers (RFC 8985, 6.1 and 7.2)

@@ -57,12 +57,12 @@ begun s now = record new_repair {
   clock = clock_at new_repair now;
 }
 
--- ---- THE PROBE (RFC 8985, 7.2) waits where both SYNs agreed on blocks, the peer's window is open, and something is in flight; for
--- longer where that doesn't fill two segments, since a peer may wait for the second one (RFC 5681, 4.2; own: the standard has one
--- segment). It also waits while blocks report a gap or a loss is being repaired, so that what is sent again and lost
--- again, with nothing sent behind it, doesn't wait for the timeout (own: the standard has none then)
+-- ---- THE PROBE (RFC 8985, 7.2) waits where the peer's window is open and something is in flight; for longer where that doesn't fill two
+-- segments, since a peer may wait for the second one (RFC 5681, 4.2; own: the standard has one segment). It also waits while
+-- blocks report a gap or a loss is being repaired, so that what is sent again and lost again, with nothing sent behind it, doesn't
+-- wait for the timeout (own: the standard has none then), and where no blocks are exchanged (own: the standard needs them)
 abbrev pub may_probe : Seen → Bool
-may_probe s = s.has_agreed && (s.has_window && nat_lt s.una s.nxt)
+may_probe s = s.has_window && nat_lt s.una s.nxt
 
 abbrev pub started : Probe → Seen → ℕ → Probe
 started p s now = after_start p now s.srtt (nat_lt (s.nxt - s.una - s.smss) s.smss) s.rto_at

@@ -1,9 +1,9 @@
 //! What is lost goes out again, and the probe (RFC 8985, 6.2, step 5, and 7.3).
-ghost use Rattle.std.specs.Prelude.{◌≡◌, ◌≤◌, ◌^◌, IfSome, not, option_map};
+ghost use Rattle.std.specs.Prelude.{◌≡◌, ◌≤◌, ◌^◌, IfSome, option_map};
 ghost use Rattle.tcp_driver.specs.Deadlines.{no_later};
 ghost use Rattle.tcp_recovery.specs.Probe.{after_probe};
 ghost use Rattle.tcp_repair.specs.Deadlines.{IsToCome};
-ghost use Rattle.tcp_repair.specs.Emission.{goes_again, has_unmarked, head, tail};
+ghost use Rattle.tcp_repair.specs.Emission.{first_of, first_two, goes_again, has_unmarked, head, probe_end, tail};
 
 use crate::recovery::Recovery;
 use crate::reporting::Reporting;
@@ -45,6 +45,39 @@ fn head(seen: Seen) -> Again
     }
 }
 
+/// The first two segments in flight, of which one may be short: a peer may wait for the second one (RFC 5681, 4.2).
+fn first_two(seen: Seen) -> Again
+    ensures { result ≡ first_two seen }
+{
+    Again {
+        from: seen.una,
+        to: seen.nxt.min(seen.una.saturating_add(seen.smss).saturating_add(seen.smss)),
+        loss: None,
+    }
+}
+
+/// What is probed where it isn't the last segment.
+fn first_of(seen: Seen) -> Again
+    ensures { result ≡ first_of seen }
+{
+    if seen.has_agreed {
+        head(seen)
+    } else {
+        first_two(seen)
+    }
+}
+
+/// The position at which a probe is acknowledged (RFC 8985, 7.3).
+fn probe_end(seen: Seen) -> u64
+    ensures { result ≡ probe_end seen }
+{
+    if seen.has_agreed {
+        seen.nxt
+    } else {
+        head(seen).to
+    }
+}
+
 /// Whether any number of what is lost wasn't reported, where this is the first run from it on that wasn't.
 fn has_unmarked(run: Option<(u64, u64)>, end: u64) -> bool
     ensures { result ≡ has_unmarked run end }
@@ -66,8 +99,7 @@ fn has_come(time: Option<u64>, now: u64) -> bool
 }
 
 impl Recovery {
-    ghost use Rattle.tcp_repair.specs.Emission.{again_of, is_probe_due, loss_in, most_stretches, probe_of, readied, reported_loss, settled, went, went_between, with_loss_in};
-    ghost use Rattle.tcp_repair.specs.Recovery.{is_looking};
+    ghost use Rattle.tcp_repair.specs.Emission.{again_of, is_probe_due, loss_in, most_stretches, probe_of, probes_tail, readied, reported_loss, settled, tells_repair, went, went_between, with_loss_in};
 
     /// Whether the probe is due.
     pub(crate) fn is_probe_due(&self) -> bool
@@ -98,14 +130,22 @@ impl Recovery {
         self.next_loss(core, seen)
     }
 
+    /// Whether the probe is the last segment, and not the first one.
+    fn probes_tail(&self, seen: Seen) -> bool
+        ensures { result ≡ probes_tail self.now seen }
+    {
+        seen.has_agreed && !self.is_looking(seen)
+    }
+
     /// The probe goes out.
     fn next_probe(&mut self, seen: Seen) -> Again
         ensures again { result ≡ probe_of self.old seen }
-        ensures state { self.new ≡ record self.old { probe = after_probe self.old.probe seen.nxt (not (is_looking self.old seen)) } }
+        ensures state { self.new ≡ record self.old { probe = after_probe self.old.probe (probe_end seen) (tells_repair self.old seen) } }
     {
-        let is_looking = self.is_looking(seen);
-        self.probe.sent(seen.nxt, !is_looking);
-        if is_looking { head(seen) } else { tail(seen) }
+        let is_tail = self.probes_tail(seen);
+        self.probe
+            .sent(probe_end(seen), is_tail || !seen.has_agreed);
+        if is_tail { tail(seen) } else { first_of(seen) }
     }
 
     /// What is lost, if anything is.

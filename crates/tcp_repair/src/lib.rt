@@ -9,8 +9,9 @@
 //! - [`laws`]: what follows, whatever the end and the window are and whatever is called.
 //!
 //! The caller's loop is that of a connection. With a recovery a lost segment goes out again about a round trip and a quarter after
-//! it was sent, once something that was sent later has come; and where the last of what was sent is lost, it goes out again after
-//! two round trips. Both need blocks, on which both SYNs have to agree (RFC 2018, 2).
+//! it was sent, once something that was sent later has come, which needs blocks, on which both SYNs have to agree (RFC 2018, 2);
+//! and where the last of what was sent is lost, it goes out again after two round trips. Without blocks the first segment does
+//! then, once until it is acknowledged.
 #![tactic(auto)]
 
 mod arriving;

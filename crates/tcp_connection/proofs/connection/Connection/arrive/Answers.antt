@@ -13,7 +13,7 @@ pub returns-clause-state : goal.returns-clause-state
 returns-clause-state g c =
     arrived_heard g.C.Core.machine g.C.Deferring.insight g.C.Paced.smss_of g.W.Congestion.control g.C.Core.arrival_answer
     (record { flowing = c.self.inside.flow; policy = c.self.inside.policy; smss = c.self.inside.smss; ack = c.self.inside.ack; text = c.self.inside.text; limiter = c.self.inside.limiter; bare = c.self.inside.is_bare; edge = c.self.inside.edge })
-    c.args.self.now c.hear_of.new.self c.self.inside.is_deferring c.arrive-taken.new.self c.before-pending.result.0 c.before-pending.result.1 c.arrive-taken.result
+    c.args.self.now c.hear_of.new.self c.self.inside.is_deferring c.arrive-taken.new.self c.before-before.result c.arrive-taken.result
     c.args.now c.args.src c.args.dst c.args.bytes.now false
-    c.self.view_is c.self.invariant.any c.if-not-self.false c.arrive-taken.ensures.state c.before-pending.ensures.pending c.before-pending.ensures.rcv_nxt
+    c.self.view_is c.self.invariant.any c.if-not-self.false c.arrive-taken.ensures.state c.before-before.ensures
     c.arrive-taken.ensures.answer c.hear_of.ensures
