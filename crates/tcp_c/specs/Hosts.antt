@@ -1,6 +1,6 @@
 -- What the calls of a host report and do. Each record is of one call, between the host before it and the host after it: its facts are
 -- those of the proved host's own call, with what C is told in place of what that answers.
-use Rattle.std.specs.Prelude.{◌≡◌, ◌≢◌, ℕ, ◌+◌, ◌≤◌, ◌<◌, Bool, true, false, ◌==◌, if◌then◌else◌, List, [], ◌∷◌, drop, Option, Some, None, IfSome, IfNone, MatchOption, is_some, option_map, min}
+use Rattle.std.specs.Prelude.{◌≡◌, ◌≢◌, ℕ, ◌+◌, ◌≤◌, ◌<◌, Bool, true, false, ◌==◌, if◌then◌else◌, List, [], ◌∷◌, drop, Option, Some, None, IfSome, IfNone, MatchOption, is_some, option_map, min, ◌⊎◌}
 use Rattle.std.specs.Option.{IsSomeAnd}
 use Rattle.std.specs.declared.cmp.Ordering.{Ordering}
 use Rattle.tcp_driver.specs.Deadlines.{last}
@@ -31,7 +31,7 @@ use Rattle.tcp_host.specs.declared.place.Place.{Place}
 use Rattle.tcp_host.specs.declared.place.Place.TheVariants as places
 use Rattle.tcp_host.specs.declared.record.Record.{Record}
 use Rattle.tcp_host.specs.Door.{is_full, new_door}
-use Rattle.tcp_host.specs.Hosting.{ByPlace, EndsRest, Hosting, IsElsewhere, IsFor, IsForNone, IsHeard, IsLeast, IsNext, IsNobodys, IsOpenedBy, IsUnheard, NoneIsNext, RecordsStand, Stands, admitted_at, after_call, deadline_at, end_at, forgotten_at, listeners_after, new_guest, origin_at, woken}
+use Rattle.tcp_host.specs.Hosting.{ByPlace, EndsRest, HasRecordOf, Hosting, IsElsewhere, IsFor, IsForNone, IsHeard, IsLeast, IsNext, IsNobodys, IsOpenedBy, IsUnheard, NoneIsNext, RecordsStand, Stands, admitted_at, after_call, deadline_at, end_at, forgotten_at, listeners_after, new_guest, origin_at, woken}
 use Rattle.tcp_host.specs.Pair.{asks, pair_of}
 use Rattle.tcp_host.specs.Record.{answer_of_record, left_by, of_record, record_after}
 use Rattle.tcp_c.specs.Answers.{arrival_number, backlog_full, done, gone, nobody, not_time_wait, nothing_due, taken, withheld}
@@ -147,6 +147,7 @@ module _ (cmp : Socket → Socket → Ordering) where
     pub listens : answer ≡ done → Changes old.listeners new.listeners id.slot (Some (record { key = socket; number = id.number; value = new_door tt backlog }))
     pub was_free : answer ≡ done → held_at old.listeners id.slot ≡ None
     pub number : answer ≡ done → id.number ≡ old.listeners.next
+    pub above : answer ≡ done → 0 < id.number
     pub next : answer ≡ done → new.listeners.next ≡ old.listeners.next + 1
     pub refused : answer ≢ done → IsAsBefore old.listeners new.listeners
     pub unnamed : answer ≢ done → id ≡ no_id
@@ -163,6 +164,7 @@ pub record Unlistens (old new : Hosted) (id : Id) (answer : ℕ) : Type 0 where
 
 pub record Accepts (old new : Hosted) (listener : Id) (answer : ℕ) (id : CHostId) : Type 0 where
   pub first : answer ≡ done → IsSomeAnd (value_at old.listeners listener.slot) (λ door. IsSomeAnd (value_at new.listeners listener.slot) (λ after. door ≡ record after { ready = id_of id ∷ after.ready }))
+  pub above : answer ≡ done → 0 < id.number
   pub there : answer ≡ done → is_some (slot_of old.listeners listener) ≡ true
   pub empty : answer ≡ nobody → IsSomeAnd (value_at old.listeners listener.slot) (λ door. door.ready ≡ [])
   pub is_gone : answer ≡ gone → is_some (slot_of old.listeners listener) ≡ false
@@ -187,10 +189,15 @@ IsOpened old new d pair origin id =
     (g : Lodger) × (driven_in g ≡ d) × Changes old.ends new.ends id.slot (Some (record { key = pair; number = id.number; value = new_guest g origin }))
 
 module _ (cmp : Pair → Pair → Ordering) where
+  -- a connection exists already: an end has its pair, or a TIME-WAIT record (RFC 9293, 3.10.1)
+  abbrev pub IsTaken : Hosted → Pair → Type 0
+  IsTaken h pair = ((slot : ℕ) × HasKey cmp h.ends pair slot) ⊎ HasRecordOf cmp h pair
+
   -- what is so of any refusal, and of any name
   pub record MovesIn (old new : Hosted) (d : Driven) (after : Option Driven) (answer : ℕ) (id : CHostId) : Type 0 where
     pub was_free : answer ≡ done → held_at old.ends id.slot ≡ None
     pub number : answer ≡ done → id.number ≡ old.ends.next
+    pub above : answer ≡ done → 0 < id.number
     pub next : answer ≡ done → new.ends.next ≡ old.ends.next + 1
     pub turn : answer ≡ done → new.waiting ≡ after_adding old.waiting id.slot
     pub moved : answer ≡ done → after ≡ None
@@ -205,7 +212,8 @@ module _ (cmp : Pair → Pair → Ordering) where
     pub opened : answer ≡ done → IsSomeAnd (pair_in d) (λ pair. IsOpened old new d pair None id)
     pub no_peer : answer ≡ not_connected → pair_in d ≡ None
     pub peer : answer ≢ not_connected → is_some (pair_in d) ≡ true
-    pub is_taken : answer ≡ taken → IsSomeAnd (pair_in d) (λ pair. (slot : ℕ) × HasKey cmp old.ends pair slot)
+    pub is_taken : answer ≡ taken → IsSomeAnd (pair_in d) (IsTaken old)
+    pub no_record : answer ≡ done → IfSome (pair_in d) (LacksKey cmp old.records)
     pub free : answer ≢ taken → IfSome (pair_in d) (LacksKey cmp old.ends)
     pub else_memory : answer ≢ done → answer ≢ not_connected → answer ≢ taken → answer ≡ no_memory
     pub others : IsElsewhere old new
@@ -215,7 +223,8 @@ module _ (cmp : Pair → Pair → Ordering) where
     pub opened : answer ≡ done → IsOpened old new d pair (Some origin) id
     pub admitted : answer ≡ done → (g : Lodger) × (driven_in g ≡ d) × (new.listeners ≡ admitted_at old.listeners (of_lodger.established g) origin (id_of id))
     pub room : answer ≡ done → IsSomeAnd (value_at old.listeners origin.slot) (λ door. is_full door ≡ false)
-    pub is_taken : answer ≡ taken → (slot : ℕ) × HasKey cmp old.ends pair slot
+    pub is_taken : answer ≡ taken → IsTaken old pair
+    pub no_record : answer ≡ done → LacksKey cmp old.records pair
     pub free : answer ≢ taken → LacksKey cmp old.ends pair
     pub is_gone : answer ≡ gone → slot_of old.listeners origin ≡ None
     pub full : answer ≡ backlog_full → IsSomeAnd (value_at old.listeners origin.slot) (λ door. is_full door ≡ true)

@@ -1,5 +1,6 @@
 pub mod Answers
 pub mod Calls
+pub mod Choices
 pub mod Configs
 pub mod Connections
 pub mod DrivenHeld

@@ -1,5 +1,6 @@
 //! Many connections under one object, for C: each exported function is a call of [`tcp_host::Host`] and nothing more. A
 //! connection is made by itself, moves into a host, where its four values find it, and moves out again.
+pub(crate) mod choices;
 pub(crate) mod ends;
 pub(crate) mod host_handle;
 pub(crate) mod host_held;

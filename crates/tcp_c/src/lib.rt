@@ -201,11 +201,17 @@
 //! uint32_t tcp_c_host_poll_at(tcp_c_host *handle, uint64_t *at);
 //! uint32_t tcp_c_host_send(tcp_c_host *handle, uint64_t now, const tcp_c_host_id *id, const uint8_t *text, size_t text_length, size_t *taken);
 //! uint32_t tcp_c_host_receive(tcp_c_host *handle, uint64_t now, const tcp_c_host_id *id, uint8_t *out, size_t out_length, size_t *count);
+//! uint32_t tcp_c_host_peek(tcp_c_host *handle, const tcp_c_host_id *id, tcp_c_lent_record *lent);
+//! uint32_t tcp_c_host_consume(tcp_c_host *handle, uint64_t now, const tcp_c_host_id *id, size_t count, size_t *taken);
 //! uint32_t tcp_c_host_acknowledge(tcp_c_host *handle, uint64_t now, const tcp_c_host_id *id);
 //! uint32_t tcp_c_host_close(tcp_c_host *handle, uint64_t now, const tcp_c_host_id *id);
 //! uint32_t tcp_c_host_abort(tcp_c_host *handle, uint64_t now, const tcp_c_host_id *id);
 //! uint32_t tcp_c_host_status(tcp_c_host *handle, const tcp_c_host_id *id, tcp_c_status_record *status);
 //! uint32_t tcp_c_host_peer(tcp_c_host *handle, const tcp_c_host_id *id, tcp_c_addr *addr, uint16_t *port);
+//! uint32_t tcp_c_host_set_policy(tcp_c_host *handle, const tcp_c_host_id *id, const tcp_c_policy *policy);
+//! uint32_t tcp_c_host_set_user_timeout(tcp_c_host *handle, const tcp_c_host_id *id, uint64_t limit);
+//! uint32_t tcp_c_host_resend_first(tcp_c_host *handle, uint64_t now, const tcp_c_host_id *id);
+//! uint32_t tcp_c_host_resend(tcp_c_host *handle, uint64_t now, const tcp_c_host_id *id, uint64_t from, uint64_t to);
 //! ```
 //!
 //! Each returns a number of the table in `answers`, or that of a refusal: 1 to 6 for bytes that are no segment
@@ -318,6 +324,11 @@ pub use emission::tcp_c_emit_partial;
 pub use handle::Handle;
 pub use handle::MARK_OF_LIVE;
 pub use held::Held;
+pub use host::choices::Choice;
+pub use host::choices::tcp_c_host_resend;
+pub use host::choices::tcp_c_host_resend_first;
+pub use host::choices::tcp_c_host_set_policy;
+pub use host::choices::tcp_c_host_set_user_timeout;
 pub use host::ends::tcp_c_host_open;
 pub use host::ends::tcp_c_host_remove;
 pub use host::ends::tcp_c_host_retire;
@@ -347,6 +358,8 @@ pub use host::timing::tcp_c_host_timeout;
 pub use host::user::tcp_c_host_abort;
 pub use host::user::tcp_c_host_acknowledge;
 pub use host::user::tcp_c_host_close;
+pub use host::user::tcp_c_host_consume;
+pub use host::user::tcp_c_host_peek;
 pub use host::user::tcp_c_host_peer;
 pub use host::user::tcp_c_host_receive;
 pub use host::user::tcp_c_host_send;

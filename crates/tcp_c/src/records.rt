@@ -295,7 +295,8 @@ pub struct CPolicy {
     /// then no small segment goes into a small window, and none goes out just for a window that opened by little. TCPCORE_NEVER: no text
     /// waits, and a window that was opened by reading is advertised only where it was shut.
     pub override_timeout: u64,
-    /// Of the acknowledgements that only answer segments without text, SYN and FIN one goes out in so long (RFC 5961, 7). 0: all do.
+    /// Of the acknowledgements that only answer segments without text and FIN, or a SYN in a synchronized state, one goes out in so long
+    /// (RFC 5961, 7). 0: all do.
     pub answer_interval: u64,
     /// Whether text that doesn't fill a segment waits while anything is in flight, by the Nagle algorithm (RFC 9293, 3.7.4): 0 is no.
     /// It counts where `override_timeout` isn't TCPCORE_NEVER.
@@ -321,7 +322,7 @@ pub struct CConnectionSegment {
 #[repr(C)]
 #[derive(Clone, Copy)]
 pub struct CHostId {
-    /// Its number, in the order in which they came.
+    /// Its number, 1 or more, in the order in which they came.
     pub number: u64,
     /// Its slot: a small number from 0 on, which another one has once this one is gone. A caller's own table goes by it.
     pub slot: usize,

@@ -19,6 +19,8 @@ use Rattle.tcp_host.specs.Record.{left_by, of_record}
 use Rattle.tcp_conn.specs.TimeWait.{TimeWaitRecord}
 use Rattle.tcp_host.specs.declared.backlog.NotAdmitted.{NotAdmitted}
 use Rattle.tcp_host.specs.declared.backlog.NotAdmitted.TheVariants as admitting
+use Rattle.tcp_host.specs.declared.keeping.NotOpened.{NotOpened}
+use Rattle.tcp_host.specs.declared.keeping.NotOpened.TheVariants as opening
 use Rattle.tcp_host.specs.declared.retiring.NotRetired.{NotRetired}
 use Rattle.tcp_host.specs.declared.retiring.NotRetired.TheVariants.{Gone, IsActive, HasRecord, NoMemory}
 use Rattle.tcp_congestion.specs.declared.limiter.Limiter.{Limiter}
@@ -245,12 +247,20 @@ module _ {S L : Type 0} (cmp : Pair → Pair → Ordering) (time_wait : S → Op
   IsReason h id HasRecord = IsSomeAnd (held_at h.ends id.slot) (λ was. (slot : ℕ) × HasKey cmp h.records was.key slot)
   IsReason h id NoMemory = Unit {0}
 
--- ---- WHY AN END ISN'T ADMITTED: it comes back
-module _ {S L : Type 0} where
-  abbrev pub IsRefused : Hosting S L → Id → S → NotAdmitted S → Type 0
-  IsRefused h origin end (admitting.Gone back) = (back ≡ end) × (slot_of h.listeners origin ≡ None)
-  IsRefused h origin end (admitting.Full back) = (back ≡ end) × IsSomeAnd (value_at h.listeners origin.slot) (λ door. is_full door ≡ true)
-  IsRefused h origin end (admitting.NoMemory back) = back ≡ end
+-- ---- WHY AN END ISN'T OPENED OR ADMITTED: it comes back. Where a record has its pair the connection exists already (RFC 9293, 3.10.1)
+module _ {S L : Type 0} (cmp : Pair → Pair → Ordering) where
+  abbrev pub HasRecordOf : Hosting S L → Pair → Type 0
+  HasRecordOf h pair = (slot : ℕ) × HasKey cmp h.records pair slot
+
+  abbrev pub IsUnopened : Hosting S L → Pair → S → NotOpened S → Type 0
+  IsUnopened h pair end (opening.HasRecord back) = (back ≡ end) × HasRecordOf h pair
+  IsUnopened h pair end (opening.NoMemory back) = back ≡ end
+
+  abbrev pub IsRefused : Hosting S L → Id → Pair → S → NotAdmitted S → Type 0
+  IsRefused h origin pair end (admitting.Gone back) = (back ≡ end) × (slot_of h.listeners origin ≡ None)
+  IsRefused h origin pair end (admitting.Full back) = (back ≡ end) × IsSomeAnd (value_at h.listeners origin.slot) (λ door. is_full door ≡ true)
+  IsRefused h origin pair end (admitting.HasRecord back) = (back ≡ end) × HasRecordOf h pair
+  IsRefused h origin pair end (admitting.NoMemory back) = back ≡ end
 
 -- ---- A DRIVER IS TOLD for a timer alone: where the deadline of one has come, a timer of it expires (RFC 6298, 5)
 abbrev pub ToldDriversExpire : {S : Type 0} → Machine S → Type 0

@@ -1,5 +1,5 @@
 //! The backlog of a listener: the ends that it has opened, and that its user hasn't accepted (RFC 4987, 3.2).
-ghost use Rattle.std.specs.Prelude.{◌≡◌, ◌+◌, ◌≤◌, ℕ, Some, None, [], ◌∷◌, IfOk, IfErr, IfSome, IfNone, OnOk, OnErr, MatchOption, false, true, is_some};
+ghost use Rattle.std.specs.Prelude.{◌≡◌, ◌+◌, ◌<◌, ◌≤◌, ℕ, Some, None, [], ◌∷◌, IfOk, IfErr, IfSome, IfNone, OnOk, OnErr, MatchOption, false, true, is_some};
 ghost use Rattle.tcp_host.specs.Door.{announced, is_full};
 ghost use Rattle.tcp_host.specs.Hosting.{admitted_at, announced_at, forgotten_at, listeners_after};
 ghost use Rattle.std.specs.Option.{IsSomeAnd};
@@ -20,6 +20,8 @@ pub enum NotAdmitted<T> {
     Gone(T),
     /// It has as many ends in its backlog as it may.
     Full(T),
+    /// A TIME-WAIT record has its pair: that answers the segment (RFC 9293, 3.10.7.4).
+    HasRecord(T),
     /// There is no memory.
     NoMemory(T),
 }
@@ -36,6 +38,7 @@ impl<T: Timed + Drop, L: Drop, A: Allocator + Copy> Host<T, L, A> {
         ensures opened { IfOk result (λ id. Changes self.old.ends self.new.ends id.slot (Some (record { key = pair; number = id.number; value = new_guest end (Some origin) }))) }
         ensures was_free { IfOk result (λ id. held_at self.old.ends id.slot ≡ None) }
         ensures number { IfOk result (λ id. id.number ≡ self.old.ends.next) }
+        ensures above { IfOk result (λ id. 0 < id.number) }
         ensures next { OnOk result (self.new.ends.next ≡ self.old.ends.next + 1) }
         ensures turn { IfOk result (λ id. self.new.waiting ≡ after_adding self.old.waiting id.slot) }
         ensures admitted { IfOk result (λ id. self.new.listeners ≡ admitted_at self.old.listeners (T.behaviour.established end) origin id) }
@@ -46,13 +49,17 @@ impl<T: Timed + Drop, L: Drop, A: Allocator + Copy> Host<T, L, A> {
         ensures err_next { OnErr result (self.old.ends.next ≤ self.new.ends.next) }
         ensures err_waiting { OnErr result (self.new.waiting ≡ self.old.waiting) }
         ensures err_listeners { OnErr result (self.new.listeners ≡ self.old.listeners) }
-        ensures reason { IfErr result (λ refused. IsRefused self.old origin end refused) }
+        ensures no_record { OnOk result (LacksKey ⟦<Pair as Ord>⟧.cmp self.old.records pair) }
+        ensures reason { IfErr result (λ refused. IsRefused ⟦<Pair as Ord>⟧.cmp self.old origin pair end refused) }
     {
         let Some(listener) = self.listeners.slot_of(origin) else {
             return Err(NotAdmitted::Gone(end));
         };
         if self.is_full(listener) {
             return Err(NotAdmitted::Full(end));
+        }
+        if let Some(_record) = self.records.find(&pair) {
+            return Err(NotAdmitted::HasRecord(end));
         }
         let is_open = end.is_open();
         let id = match self.ends.open(pair, end, Some(origin)) {
@@ -68,6 +75,7 @@ impl<T: Timed + Drop, L: Drop, A: Allocator + Copy> Host<T, L, A> {
     pub fn accept(&mut self, listener: Id) -> Option<Id>
         ensures first { IfSome result (λ id. IsSomeAnd (value_at self.old.listeners listener.slot) (λ door. IsSomeAnd (value_at self.new.listeners listener.slot) (λ after. door ≡ record after { ready = id ∷ after.ready }))) }
         ensures others { (slot : ℕ) → (slot ≡ listener.slot → ⊥) → held_at self.new.listeners slot ≡ held_at self.old.listeners slot }
+        ensures above { IfSome result (λ id. 0 < id.number) }
         ensures there { IfSome result (λ id. is_some (slot_of self.old.listeners listener) ≡ true) }
         ensures none { IfNone result ((self.new ≡ self.old) × (is_some (slot_of self.old.listeners listener) ≡ true → IsSomeAnd (value_at self.old.listeners listener.slot) (λ door. door.ready ≡ []))) }
         ensures ends { EndsRest self.old self.new }
@@ -114,7 +122,8 @@ fn admit_at<L, A: Allocator + Copy>(
     origin: Id,
     id: Id,
 )
-    requires { IsSomeAnd (value_at listeners.old origin.slot) (λ door. is_full door ≡ false) }
+    requires room { IsSomeAnd (value_at listeners.old origin.slot) (λ door. is_full door ≡ false) }
+    requires above { 0 < id.number }
     ensures { listeners.new ≡ admitted_at listeners.old is_open origin id }
 {
     if listeners.slot_of(origin).is_none() {
@@ -135,6 +144,7 @@ fn announce_at<L, A: Allocator + Copy>(
     origin: Option<Id>,
     id: Option<Id>,
 )
+    requires { IfSome id (λ id. 0 < id.number) }
     ensures { listeners.new ≡ announced_at listeners.old origin id }
 {
     let (Some(origin), Some(id)) = (origin, id) else {

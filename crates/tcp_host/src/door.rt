@@ -1,5 +1,5 @@
 //! A listener and its backlog.
-ghost use Rattle.std.specs.Prelude.{◌≡◌, [], ◌∷◌, false, IfOk, IfErr, MatchOption};
+ghost use Rattle.std.specs.Prelude.{◌≡◌, ◌<◌, [], ◌∷◌, false, IfOk, IfErr, IfSome, MatchOption};
 ghost use Rattle.tcp_host.specs.Door.{admitted, announced, forgotten, is_full, new_door};
 
 use std::alloc::{AllocFailed, Allocator};
@@ -18,7 +18,7 @@ pub struct Door<L, A: Allocator> {
 }
 
 impl<L, A: Allocator> Model for Door<L, A> {
-    ghost use Rattle.std.specs.Prelude.{◌+◌, ◌≤◌, length};
+    ghost use Rattle.std.specs.Prelude.{◌+◌, ◌<◌, ◌≤◌, All, length};
     ghost use Rattle.std.specs.VecDeque.{deque_capacity};
     ghost use Rattle.tcp_host.specs.Door.{Door};
 
@@ -26,7 +26,7 @@ impl<L, A: Allocator> Model for Door<L, A> {
 
     ghost view = { λ d. record { kept = d.kept; limit = d.limit; half_open = d.half_open; ready = d.ready.items } };
 
-    ghost invariant = { λ d. (d.half_open + length d.ready.items ≤ d.limit) × (d.limit ≤ deque_capacity d.ready) };
+    ghost invariant = { λ d. (d.half_open + length d.ready.items ≤ d.limit) × (d.limit ≤ deque_capacity d.ready) × All (λ id. 0 < id.number) d.ready.items };
 }
 
 impl<L, A: Allocator> Door<L, A> {
@@ -79,6 +79,7 @@ impl<L, A: Allocator> Door<L, A> {
 
     /// The handshake of an end that it has opened is over.
     pub(crate) fn announce(&mut self, id: Id)
+        requires { 0 < id.number }
         ensures { self.new ≡ announced self.old id }
     {
         if self.half_open == 0 {
@@ -97,6 +98,7 @@ impl<L, A: Allocator> Door<L, A> {
 
     /// The end whose handshake was over first: it isn't its own any more.
     pub(crate) fn accept(&mut self) -> Option<Id>
+        ensures above { IfSome result (λ id. 0 < id.number) }
         ensures first { MatchOption result ((self.old.ready ≡ []) × (self.new ≡ self.old)) (λ id. (self.old.ready ≡ id ∷ self.new.ready) × (self.new ≡ record self.old { ready = self.new.ready })) }
     {
         self.ready.pop_front()

@@ -22,7 +22,7 @@ use tcp_table::{Table, earlier};
 /// [`tcp_driver::Driver`] has them.
 ///
 /// An end and a listener have a slot, which is taken again once they are gone, and a handle ([`tcp_table::Id`]), which
-/// is never given again: what a caller keeps is the handle.
+/// is never given again, and whose number is never 0: what a caller keeps is the handle.
 #[derive(Drop)]
 pub struct Host<T: Timed + Drop, L: Drop, A: Allocator = Global> {
     pub(crate) ends: Roll<T, A>,
@@ -68,8 +68,8 @@ impl<T: Timed + Drop, L: Drop, A: Allocator + Copy> Host<T, L, A> {
         ensures waiting { result.waiting ≡ [] }
         ensures records { result.records.slots ≡ [] }
         ensures answering { result.answering ≡ [] }
-        ensures first_end { result.ends.next ≡ 0 }
-        ensures first_listener { result.listeners.next ≡ 0 }
+        ensures first_end { result.ends.next ≡ 1 }
+        ensures first_listener { result.listeners.next ≡ 1 }
         ensures strays { result.strays ≡ new_limiter STRAY_INTERVAL }
         ensures span { result.span ≡ TIME_WAIT }
     {

@@ -11,8 +11,17 @@ use crate::timed::Timed;
 use std::alloc::{AllocFailed, Allocator};
 use tcp_table::Id;
 
+/// Why an end isn't opened: it comes back.
+#[derive(Debug, Drop)]
+pub enum NotOpened<T> {
+    /// A TIME-WAIT record has its pair: the connection exists already (RFC 9293, 3.10.1).
+    HasRecord(T),
+    /// There is no memory.
+    NoMemory(T),
+}
+
 impl<T: Timed + Drop, L: Drop, A: Allocator + Copy> Host<T, L, A> {
-    ghost use Rattle.tcp_host.specs.Hosting.{EndsRest, IsElsewhere, RecordsStand, end_at, forgotten_at, kept_at, new_guest, origin_at};
+    ghost use Rattle.tcp_host.specs.Hosting.{EndsRest, IsElsewhere, IsUnopened, RecordsStand, end_at, forgotten_at, kept_at, new_guest, origin_at};
     ghost use Rattle.tcp_host.specs.Door.{new_door};
     ghost use Rattle.tcp_table.specs.Table.{Changes, HasKey, IsAsBefore, IsDistinct, LacksKey, held_at, id_at, slot_of};
 
@@ -29,6 +38,7 @@ impl<T: Timed + Drop, L: Drop, A: Allocator + Copy> Host<T, L, A> {
         ensures listens { IfOk result (λ id. Changes self.old.listeners self.new.listeners id.slot (Some (record { key = socket; number = id.number; value = new_door listener backlog }))) }
         ensures was_free { IfOk result (λ id. held_at self.old.listeners id.slot ≡ None) }
         ensures number { IfOk result (λ id. id.number ≡ self.old.listeners.next) }
+        ensures above { IfOk result (λ id. 0 < id.number) }
         ensures next { OnOk result (self.new.listeners.next ≡ self.old.listeners.next + 1) }
         ensures ends { EndsRest self.old self.new }
         ensures others { RecordsStand self.old self.new }
@@ -85,21 +95,30 @@ impl<T: Timed + Drop, L: Drop, A: Allocator + Copy> Host<T, L, A> {
     }
 
     /// Puts an end that was opened already under a pair that has none: it waits for a turn. Its handle, which no other
-    /// one has or had. Where there is no memory the end comes back, and no other changes.
-    pub fn open(&mut self, pair: Pair, end: T) -> Result<Id, AllocFailed<T>>
+    /// one has or had. Where a TIME-WAIT record has the pair the connection exists already (RFC 9293, 3.10.1): there, and
+    /// where there is no memory, the end comes back, and no other changes.
+    pub fn open(&mut self, pair: Pair, end: T) -> Result<Id, NotOpened<T>>
         requires { LacksKey ⟦<Pair as Ord>⟧.cmp self.old.ends pair }
         ensures opened { IfOk result (λ id. Changes self.old.ends self.new.ends id.slot (Some (record { key = pair; number = id.number; value = new_guest end None }))) }
         ensures was_free { IfOk result (λ id. held_at self.old.ends id.slot ≡ None) }
         ensures number { IfOk result (λ id. id.number ≡ self.old.ends.next) }
+        ensures above { IfOk result (λ id. 0 < id.number) }
         ensures next { OnOk result (self.new.ends.next ≡ self.old.ends.next + 1) }
         ensures turn { IfOk result (λ id. self.new.waiting ≡ after_adding self.old.waiting id.slot) }
         ensures others { IsElsewhere self.old self.new }
         ensures err { OnErr result ((slot : ℕ) → held_at self.new.ends slot ≡ held_at self.old.ends slot) }
         ensures err_next { OnErr result (self.old.ends.next ≤ self.new.ends.next) }
         ensures err_waiting { OnErr result (self.new.waiting ≡ self.old.waiting) }
-        ensures value_returned { IfErr result (λ failed. failed.value ≡ end) }
+        ensures no_record { OnOk result (LacksKey ⟦<Pair as Ord>⟧.cmp self.old.records pair) }
+        ensures reason { IfErr result (λ refused. IsUnopened ⟦<Pair as Ord>⟧.cmp self.old pair end refused) }
     {
-        self.ends.open(pair, end, None)
+        if let Some(_record) = self.records.find(&pair) {
+            return Err(NotOpened::HasRecord(end));
+        }
+        match self.ends.open(pair, end, None) {
+            Ok(id) => Ok(id),
+            Err(refused) => Err(NotOpened::NoMemory(refused.value)),
+        }
     }
 
     /// The end in a slot, to be looked at alone.
@@ -126,6 +145,7 @@ impl<T: Timed + Drop, L: Drop, A: Allocator + Copy> Host<T, L, A> {
     pub fn id(&self, slot: usize) -> Option<Id>
         ensures handle { result ≡ id_at self.now.ends slot }
         ensures below { IfSome result (λ id. id.number < self.now.ends.next) }
+        ensures above { IfSome result (λ id. 0 < id.number) }
     {
         self.ends.id(slot)
     }
@@ -135,6 +155,7 @@ impl<T: Timed + Drop, L: Drop, A: Allocator + Copy> Host<T, L, A> {
     pub fn listener_id(&self, slot: usize) -> Option<Id>
         ensures handle { result ≡ id_at self.now.listeners slot }
         ensures below { IfSome result (λ id. id.number < self.now.listeners.next) }
+        ensures above { IfSome result (λ id. 0 < id.number) }
     {
         self.listeners.id(slot)
     }

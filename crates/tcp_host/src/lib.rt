@@ -1,7 +1,7 @@
 //! Many ends of connections under one object: each is found by its pair of sockets (RFC 9293, 3.3.1), listeners by
 //! theirs, and the next deadline of all, each by steps that go by the logarithm of how many there are.
 //!
-//! - [`Timed`], [`Used`], [`Retiring`]: what an end is to a host: a driver, or a connection with its window and its
+//! - [`Timed`], [`Used`], [`Tuned`], [`Retiring`]: what an end is to a host: a driver, or a connection with its window and its
 //!   policy, which may find losses by time.
 //! - [`Host`]: the ends, all of one kind, TIME-WAIT records of ends that are gone ([`Record`]), and the listeners, each
 //!   with its backlog. Segments, emissions, time and the calls of each end's user go through it, and the answers to
@@ -22,7 +22,7 @@
 //!    away that have ended ([`Host::remove`]).
 //!
 //! Left out: what a listener's end is made of. What else an end has can't be called of it in a host, as segments that a
-//! device has summed, trains, and what is chosen for an end. [`Host::end`] lends an end to be looked at alone, and
+//! device has summed, and trains. [`Host::end`] lends an end to be looked at alone, and
 //! [`Host::remove`] gives it back. A record takes what comes without the guard of its end's limits, and answers each
 //! segment at once, whatever its policy was. How many records there are isn't bounded: each lasts for TIME-WAIT. No end
 //! makes way for another: where a backlog is full of handshakes that nobody goes on with, their own limit ends them
@@ -32,6 +32,7 @@
 mod arrived;
 mod backlog;
 mod calls;
+mod choosing;
 mod door;
 mod guest;
 mod host;
@@ -45,6 +46,7 @@ mod retiring;
 mod roll;
 mod strays;
 mod timed;
+mod tuned;
 mod used;
 mod using;
 
@@ -53,9 +55,11 @@ pub use backlog::NotAdmitted;
 pub use door::Door;
 pub use guest::Guest;
 pub use host::Host;
+pub use keeping::NotOpened;
 pub use pair::{Pair, Socket, asks, pair_of};
 pub use place::Place;
 pub use record::Record;
 pub use retiring::{NotRetired, Retiring};
 pub use timed::Timed;
+pub use tuned::Tuned;
 pub use used::Used;

@@ -42,7 +42,7 @@ impl<T: Timed + Drop, A: Allocator + Copy> Roll<T, A> {
     pub(crate) fn new_in(alloc: A) -> Self
         ensures ends { result.ends.slots ≡ [] }
         ensures waiting { result.waiting ≡ [] }
-        ensures first { result.ends.next ≡ 0 }
+        ensures first { result.ends.next ≡ 1 }
     {
         Roll {
             ends: Table::new_in(alloc),
@@ -181,6 +181,7 @@ impl<T: Timed + Drop, A: Allocator + Copy> Roll<T, A> {
         ensures opened { IfOk result (λ id. Changes self.old.ends self.new.ends id.slot (Some (record { key = pair; number = id.number; value = new_guest end origin }))) }
         ensures was_free { IfOk result (λ id. held_at self.old.ends id.slot ≡ None) }
         ensures number { IfOk result (λ id. id.number ≡ self.old.ends.next) }
+        ensures above { IfOk result (λ id. 0 < id.number) }
         ensures next { OnOk result (self.new.ends.next ≡ self.old.ends.next + 1) }
         ensures turn { IfOk result (λ id. self.new.waiting ≡ after_adding self.old.waiting id.slot) }
         ensures err { OnErr result ((slot : ℕ) → held_at self.new.ends slot ≡ held_at self.old.ends slot) }
@@ -285,6 +286,7 @@ impl<T: Timed + Drop, A: Allocator + Copy> Roll<T, A> {
     pub(crate) fn id(&self, slot: usize) -> Option<Id>
         ensures handle { result ≡ id_at self.now.ends slot }
         ensures below { IfSome result (λ id. id.number < self.now.ends.next) }
+        ensures above { IfSome result (λ id. 0 < id.number) }
     {
         self.ends.id(slot)
     }

@@ -11,7 +11,7 @@ use Rattle.std.specs.Map.{lookup}
 use Rattle.std.specs.BTreeMap.{BTreeMap, get, is_at}
 use Rattle.std.specs.declared.cmp.Ordering.TheVariants.{Less, Equal, Greater}
 use Rattle.tcp_table.specs.declared.held.Held.{Held}
-use Rattle.tcp_table.specs.Table.{AreBelow, Changes, HasKey, IsDistinct, IsInPlace, LacksKey, Table, held_at, revalued}
+use Rattle.tcp_table.specs.Table.{AreAboveZero, AreBelow, Changes, HasKey, IsDistinct, IsInPlace, LacksKey, Table, held_at, revalued}
 
 equal-from : (o : Ordering) → is_eq o ≡ true → o ≡ Equal
 equal-from Less e = absurd (false≢true e)
@@ -71,7 +71,7 @@ module _ {K T : Type 0} (cmp : K → K → Ordering) (total : IsTotalOrder cmp) 
         → held_at t slot ≡ None → Changes t new slot (Some held) → held.number ≡ t.next → new.next ≡ t.next + 1
         → ((q : K) → get cmp after q ≡ cond (is_at (cmp held.key) q) (Some slot) (get cmp places q))
         → IsInPlace cmp new after
-    in_place_with new after slot held lacks free changes number next updates = record { placed = placed; found = found; below = below }
+    in_place_with new after slot held lacks free changes number next updates = record { placed = placed; found = found; below = below; above = above; next_above = omega (arith, next) }
       where
         placed : (key : K) (at : ℕ) → get cmp after key ≡ Some at → HasKey cmp new key at
         placed key at e = by (cases_Bool (is_eq (cmp held.key key)))
@@ -115,12 +115,19 @@ module _ {K T : Type 0} (cmp : K → K → Ordering) (total : IsTotalOrder cmp) 
                 later None h = tt
                 later (Some one) h = omega (arith, h, next)
 
+        above : AreAboveZero new
+        above at = by (cases_eq at slot)
+          where
+            by : (at ≡ slot) ⊎ (at ≡ slot → ⊥) → IfSome (held_at new at) (λ h. 0 < h.number)
+            by (inl here) = rw (here, changes.changed) (omega (arith, number, in-place.next_above))
+            by (inr apart) = rw (changes.others at apart) (in-place.above at)
+
     -- a value goes
     pub in_place_without : (new : Table K T) (after : BTreeMap K ℕ) (slot : ℕ) (held : Held K T) → held_at t slot ≡ Some held
         → Changes t new slot None → new.next ≡ t.next
         → ((q : K) → get cmp after q ≡ cond (is_at (cmp held.key) q) None (get cmp places q))
         → IsInPlace cmp new after
-    in_place_without new after slot held was-held changes next updates = record { placed = placed; found = found; below = below }
+    in_place_without new after slot held was-held changes next updates = record { placed = placed; found = found; below = below; above = above; next_above = omega (arith, next, in-place.next_above) }
       where
         placed : (key : K) (at : ℕ) → get cmp after key ≡ Some at → HasKey cmp new key at
         placed key at e = by (cases_Bool (is_eq (cmp held.key key)))
@@ -164,10 +171,17 @@ module _ {K T : Type 0} (cmp : K → K → Ordering) (total : IsTotalOrder cmp) 
             by (inl here) = rw (here, changes.changed) tt
             by (inr apart) = rw (changes.others at apart, next) (in-place.below at)
 
+        above : AreAboveZero new
+        above at = by (cases_eq at slot)
+          where
+            by : (at ≡ slot) ⊎ (at ≡ slot → ⊥) → IfSome (held_at new at) (λ h. 0 < h.number)
+            by (inl here) = rw (here, changes.changed) tt
+            by (inr apart) = rw (changes.others at apart) (in-place.above at)
+
     -- another value in a slot
     pub in_place_revalued : (slot : ℕ) (held : Held K T) → held_at t slot ≡ Some held → (value : T)
         → IsInPlace cmp (record { slots = set t.slots slot (Some (revalued value held)); next = t.next }) places
-    in_place_revalued slot held was-held value = record { placed = placed; found = found; below = below }
+    in_place_revalued slot held was-held value = record { placed = placed; found = found; below = below; above = above; next_above = in-place.next_above }
       where
         new : Table K T
         new = record { slots = set t.slots slot (Some (revalued value held)); next = t.next }
@@ -215,3 +229,10 @@ module _ {K T : Type 0} (cmp : K → K → Ordering) (total : IsTotalOrder cmp) 
             by : (at ≡ slot) ⊎ (at ≡ slot → ⊥) → IfSome (held_at new at) (λ h. h.number < new.next)
             by (inl here) = rw (here, changed) (subst (λ (o : Option (Held K T)). IfSome o (λ h. h.number < t.next)) was-held (in-place.below slot))
             by (inr apart) = rw (kept at apart) (in-place.below at)
+
+        above : AreAboveZero new
+        above at = by (cases_eq at slot)
+          where
+            by : (at ≡ slot) ⊎ (at ≡ slot → ⊥) → IfSome (held_at new at) (λ h. 0 < h.number)
+            by (inl here) = rw (here, changed) (subst (λ (o : Option (Held K T)). IfSome o (λ h. 0 < h.number)) was-held (in-place.above slot))
+            by (inr apart) = rw (kept at apart) (in-place.above at)

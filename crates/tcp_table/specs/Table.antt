@@ -8,7 +8,7 @@ use Rattle.std.specs.declared.cmp.Ordering.TheVariants.{Equal}
 use Rattle.tcp_table.specs.declared.held.Held.{Held}
 use Rattle.tcp_table.specs.declared.held.Id.{Id}
 
--- what each slot has, and the number of the next value: it is greater than all that were given
+-- what each slot has, and the number of the next value: it is greater than all that were given, and than 0, which no value has
 pub record Table (K T : Type 0) : Type 0 where
   pub slots : List (Option (Held K T))
   pub next : ℕ
@@ -69,7 +69,13 @@ module _ {K T : Type 0} where
       pub placed : (key : K) (slot : ℕ) → get cmp places key ≡ Some slot → HasKey t key slot
       pub found : (slot : ℕ) (held : Held K T) → held_at t slot ≡ Some held → get cmp places held.key ≡ Some slot
       pub below : (slot : ℕ) → IfSome (held_at t slot) (λ held. held.number < t.next)
+      pub above : (slot : ℕ) → IfSome (held_at t slot) (λ held. 0 < held.number)
+      pub next_above : 0 < t.next
 
   -- numbers that were given are below the next
   abbrev pub AreBelow : Table K T → Type 0
   AreBelow t = (slot : ℕ) → IfSome (held_at t slot) (λ held. held.number < t.next)
+
+  -- and none is 0
+  abbrev pub AreAboveZero : Table K T → Type 0
+  AreAboveZero t = (slot : ℕ) → IfSome (held_at t slot) (λ held. 0 < held.number)

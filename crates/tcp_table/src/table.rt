@@ -1,5 +1,5 @@
 //! Values under keys.
-ghost use Rattle.std.specs.Prelude.{◌≡◌, ◌+◌, [], Some, None, IfSome, IfNone, IfOk, IfErr, OnOk, OnErr, option_copied};
+ghost use Rattle.std.specs.Prelude.{◌≡◌, ◌+◌, ◌<◌, [], Some, None, IfSome, IfNone, IfOk, IfErr, OnOk, OnErr, option_copied};
 
 use crate::held::{Held, Id};
 use slab::Slab;
@@ -32,19 +32,19 @@ impl<K: Ord + Copy, T, A: Allocator> Model for Table<K, T, A> {
 impl<K: Ord + Copy, T, A: Allocator + Copy> Table<K, T, A> {
     ghost use Rattle.std.specs.Borrow.{LendsIf, sem};
     ghost use Rattle.std.specs.Option.{option_copied_mut};
-    ghost use Rattle.tcp_table.specs.Table.{AreBelow, Changes, HasKey, IsAsBefore, IsDistinct, LacksKey, held_at, id_at, slot_of, value_at, with_value};
+    ghost use Rattle.tcp_table.specs.Table.{AreAboveZero, AreBelow, Changes, HasKey, IsAsBefore, IsDistinct, LacksKey, held_at, id_at, slot_of, value_at, with_value};
     ghost use Rattle.tcp_table.specs.contracts.table.Table.{the_row};
 
     /// No value. What it will hold is in memory of `alloc`.
     #[must_use]
     pub fn new_in(alloc: A) -> Self
         ensures empty { result.slots ≡ [] }
-        ensures first { result.next ≡ 0 }
+        ensures first { result.next ≡ 1 }
     {
         Table {
             slots: Slab::new(alloc),
             places: BTreeMap::new(alloc),
-            next: 0,
+            next: 1,
         }
     }
 
@@ -61,10 +61,11 @@ impl<K: Ord + Copy, T, A: Allocator + Copy> Table<K, T, A> {
         }
     }
 
-    /// The slot of a handle's value, while that is there.
+    /// The slot of a handle's value, while that is there. Of a handle whose number is 0 there is none.
     #[must_use]
     pub fn slot_of(&self, id: Id) -> Option<usize>
-        ensures { result ≡ slot_of self.now id }
+        ensures slot { result ≡ slot_of self.now id }
+        ensures zero { id.number ≡ 0 → result ≡ None }
     {
         match self.slots.get(id.slot) {
             Some(held) if held.number == id.number => Some(id.slot),
@@ -77,6 +78,7 @@ impl<K: Ord + Copy, T, A: Allocator + Copy> Table<K, T, A> {
     pub fn held(&self, slot: usize) -> Option<&Held<K, T>>
         ensures held { option_copied result ≡ held_at self.now slot }
         ensures below { AreBelow self.now }
+        ensures above { AreAboveZero self.now }
     {
         self.slots.get(slot)
     }
@@ -86,6 +88,7 @@ impl<K: Ord + Copy, T, A: Allocator + Copy> Table<K, T, A> {
     pub fn id(&self, slot: usize) -> Option<Id>
         ensures handle { result ≡ id_at self.now slot }
         ensures below { AreBelow self.now }
+        ensures above { AreAboveZero self.now }
     {
         match self.slots.get(slot) {
             Some(held) => Some(Id {
@@ -107,13 +110,15 @@ impl<K: Ord + Copy, T, A: Allocator + Copy> Table<K, T, A> {
         }
     }
 
-    /// Puts a value under a key that has none, and gives its handle: no handle that was given before is equal. Where
-    /// there is no memory it comes back, and nothing changes; so it does behind 2^64 - 1 values.
+    /// Puts a value under a key that has none, and gives its handle: no handle that was given before is equal, and none
+    /// has the number 0. Where there is no memory the value comes back, and nothing changes; so it does behind 2^64 - 2
+    /// values.
     pub fn insert(&mut self, key: K, value: T) -> Result<Id, AllocFailed<T>>
         requires { LacksKey K.cmp self.old key }
         ensures changes { IfOk result (λ id. Changes self.old self.new id.slot (Some (record { key = key; number = id.number; value = value }))) }
         ensures was_free { IfOk result (λ id. held_at self.old id.slot ≡ None) }
         ensures number { IfOk result (λ id. id.number ≡ self.old.next) }
+        ensures above { IfOk result (λ id. 0 < id.number) }
         ensures next { OnOk result (self.new.next ≡ self.old.next + 1) }
         ensures value_returned { IfErr result (λ failed. failed.value ≡ value) }
         ensures err { OnErr result (IsAsBefore self.old self.new) }

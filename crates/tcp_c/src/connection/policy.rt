@@ -10,7 +10,7 @@ use crate::records::CPolicy;
 use tcp_connection::Policy;
 
 /// The policy of C's record.
-fn policy_of(policy: &CPolicy) -> Policy
+pub(crate) fn policy_of(policy: &CPolicy) -> Policy
     ensures { result ≡ policy_of policy.now }
 {
     Policy {

@@ -13,7 +13,7 @@ use crate::host::lodging::Lodging;
 use crate::records::CHostId;
 use region_heap::Still;
 use tcp_conn::{CallError, ConfigError};
-use tcp_host::{NotRetired, Pair, Socket};
+use tcp_host::{NotOpened, NotRetired, Pair, Socket};
 use tcp_table::Id;
 use tcp_wire::Addr;
 
@@ -51,9 +51,10 @@ impl Lodging {
         }
         match self.host.open(pair, Lodger { driven }) {
             Ok(id) => (DONE, id_told(Some(id)), None),
-            Err(refused) => {
+            Err(NotOpened::HasRecord(lodger)) => (TAKEN, no_id(), Some(lodger.driven)),
+            Err(NotOpened::NoMemory(lodger)) => {
                 let answer = u32::from(ConfigError::NoMemory.number());
-                (answer, no_id(), Some(refused.value.driven))
+                (answer, no_id(), Some(lodger.driven))
             }
         }
     }
@@ -84,7 +85,8 @@ impl Lodging {
 
 /// Moves a connection into the host, under its own address and port and its peer's: reports its name. The struct has no
 /// connection any more. 31 where a struct has none, 16 where the connection has no peer yet, 60 where an end of the host
-/// has these four values, 22 where there is no memory in the host's block: then nothing changes.
+/// has these four values, or a TIME-WAIT record of it (RFC 9293, 3.10.1), 22 where there is no memory in the host's block:
+/// then nothing changes.
 #[unsafe(no_mangle)]
 pub extern "C" fn tcp_c_host_open(
     handle: &mut HostHandle,

@@ -37,7 +37,7 @@ pub(crate) fn id_of(id: &CHostId) -> Id
     }
 }
 
-/// No name: all zero.
+/// No name: all zero, as no name is.
 pub(crate) fn no_id() -> CHostId
     ensures { result ≡ no_id }
 {

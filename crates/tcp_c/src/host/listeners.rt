@@ -58,6 +58,7 @@ impl Lodging {
             Ok(id) => (DONE, id_told(Some(id)), None),
             Err(NotAdmitted::Gone(lodger)) => (GONE, no_id(), Some(lodger.driven)),
             Err(NotAdmitted::Full(lodger)) => (BACKLOG_FULL, no_id(), Some(lodger.driven)),
+            Err(NotAdmitted::HasRecord(lodger)) => (TAKEN, no_id(), Some(lodger.driven)),
             Err(NotAdmitted::NoMemory(lodger)) => {
                 let answer = u32::from(ConfigError::NoMemory.number());
                 (answer, no_id(), Some(lodger.driven))
@@ -119,8 +120,8 @@ pub extern "C" fn tcp_c_host_unlisten(handle: &mut HostHandle, listener: &CHostI
 /// Moves a connection that listens into the host, for the listener that the segment asks which came from `src` to `dst`:
 /// it is in the listener's backlog until it is accepted. Reports its name; the segment comes again then. The struct has no
 /// connection any more. 31 where a struct has none, 1 where the bytes are too short for ports, 60 where an end of the host
-/// has its four values, 61 where the listener is gone, 62 where its backlog is full, 22 where there is no memory in the
-/// host's block: then nothing changes.
+/// has its four values, or a TIME-WAIT record of it, 61 where the listener is gone, 62 where its backlog is full, 22 where
+/// there is no memory in the host's block: then nothing changes.
 #[unsafe(no_mangle)]
 pub extern "C" fn tcp_c_host_admit(
     handle: &mut HostHandle,

@@ -1,10 +1,12 @@
 //! The calls of the user of a connection in a host (RFC 9293, 3.10.2 to 3.10.6), each at its time, and by its name.
-ghost use Rattle.std.specs.Prelude.{◌≡◌, ◌++◌, drop, length, option_map};
+ghost use Rattle.std.specs.Prelude.{◌≡◌, ◌+◌, ◌<◌, ◌++◌, drop, length, option_map};
 ghost use Rattle.tcp_conn.specs.Calls.{abort_answer, close_answer, receive_answer, send_answer};
+ghost use Rattle.tcp_conn.specs.Lending.{consume_answer};
 ghost use Rattle.tcp_conn.specs.Status.{peer_of};
 ghost use Rattle.tcp_c.specs.Answers.{answer_of, call_number, done, number_written, received_number};
 ghost use Rattle.tcp_c.specs.Calls.{handed_bytes, received_count, taken_count};
-ghost use Rattle.tcp_c.specs.Hosts.{after_use, asked_of, guest_of, id_of, number_of, state_by, state_of};
+ghost use Rattle.tcp_c.specs.Hosts.{after_use, asked, asked_of, guest_of, id_of, number_by, number_of, state_by, state_of};
+ghost use Rattle.tcp_c.specs.Lent.{IsNullIfEmpty, peek_ends, peek_length, peek_number};
 ghost use Rattle.tcp_c.specs.Lodgers.{lodger_end, use_of_lodger};
 ghost use Rattle.tcp_c.specs.Status.{peer_address, peer_number, port_told, status_of};
 
@@ -12,7 +14,8 @@ use crate::answers::{DONE, GONE, NO_END, call_number, received_number};
 use crate::host::host_handle::HostHandle;
 use crate::host::ids::id_of;
 use crate::host::lodging::Lodging;
-use crate::records::{CAddr, CHostId, CStatus};
+use crate::lending::{lent_of, nothing_lent};
+use crate::records::{CAddr, CHostId, CLent, CStatus};
 use crate::status::{no_status, report_peer, status_of};
 use crate::user::{received_count, taken_count};
 use tcp_conn::{CallError, Peer, Received};
@@ -34,6 +37,29 @@ impl Lodging {
         ensures state { self.new ≡ after_use id (λ g. use_of_lodger.received g now (length out.old)) self.old }
     {
         self.host.receive(now, id, out)
+    }
+
+    /// What an end lends of what its user hasn't read, and the answer.
+    fn peek(&self, id: Id) -> (u32, CLent)
+        ensures answer { result.0 ≡ asked (λ g. peek_number (lodger_end g)) (guest_of self.now.host id) }
+        ensures lengths { result.1.first_length + result.1.second_length ≡ number_by (λ g. peek_length (lodger_end g)) (guest_of self.now.host id) }
+        ensures first { 0 < number_by (λ g. peek_length (lodger_end g)) (guest_of self.now.host id) → 0 < result.1.first_length }
+        ensures first_null { IsNullIfEmpty result.1.first result.1.first_length }
+        ensures second_null { IsNullIfEmpty result.1.second result.1.second_length }
+        ensures ends { result.1.ends ≡ number_by (λ g. peek_ends (lodger_end g)) (guest_of self.now.host id) }
+    {
+        match self.lodger(id) {
+            Some(lodger) => lent_of(&lodger.driven.connection.flow().driver().core().end),
+            None => (GONE, nothing_lent()),
+        }
+    }
+
+    /// The user of an end has read the first bytes where they lie.
+    fn consume(&mut self, now: u64, id: Id, count: usize) -> Option<Result<usize, CallError>>
+        ensures answer { result ≡ option_map (λ guest. consume_answer (lodger_end guest.end) count) (guest_of self.old.host id) }
+        ensures state { self.new ≡ after_use id (λ g. use_of_lodger.received g now count) self.old }
+    {
+        self.host.consume(now, id, count)
     }
 
     /// The user of an end has its window advertised.
@@ -134,6 +160,55 @@ pub extern "C" fn tcp_c_host_receive(
     };
     *count = received_count(&answer);
     received_number(answer)
+}
+
+/// Lends the unread bytes as [`tcp_c_connection_peek`](crate::tcp_c_connection_peek) does (RFC 9293, 3.10.3), until the
+/// next call that changes the host. 61 where the end is gone.
+#[unsafe(no_mangle)]
+pub extern "C" fn tcp_c_host_peek(handle: &mut HostHandle, id: &CHostId, lent: &mut CLent) -> u32
+    ensures answer { result ≡ answer_of (asked_of (id_of id.now) (λ g. peek_number (lodger_end g))) handle.old.held.host }
+    ensures lengths { lent.new.first_length + lent.new.second_length ≡ number_written (number_of (id_of id.now) (λ g. peek_length (lodger_end g))) handle.old.held.host }
+    ensures first { 0 < number_written (number_of (id_of id.now) (λ g. peek_length (lodger_end g))) handle.old.held.host → 0 < lent.new.first_length }
+    ensures first_null { IsNullIfEmpty lent.new.first lent.new.first_length }
+    ensures second_null { IsNullIfEmpty lent.new.second lent.new.second_length }
+    ensures ends { lent.new.ends ≡ number_written (number_of (id_of id.now) (λ g. peek_ends (lodger_end g))) handle.old.held.host }
+    ensures state { handle.new.held.host ≡ handle.old.held.host }
+{
+    let Some(lodging) = handle.take() else {
+        *lent = nothing_lent();
+        return NO_END;
+    };
+    let (answer, found) = lodging.peek(id_of(id));
+    handle.put(lodging);
+    *lent = found;
+    answer
+}
+
+/// Removes the first unread bytes, at most `count`, as [`tcp_c_connection_consume`](crate::tcp_c_connection_consume) does
+/// (RFC 9293, 3.10.3). 61 where the end is gone.
+#[unsafe(no_mangle)]
+pub extern "C" fn tcp_c_host_consume(
+    handle: &mut HostHandle,
+    now: u64,
+    id: &CHostId,
+    count: usize,
+    taken: &mut usize,
+) -> u32
+    ensures answer { result ≡ answer_of (asked_of (id_of id.now) (λ g. call_number (consume_answer (lodger_end g) count))) handle.old.held.host }
+    ensures taken { taken.new ≡ number_written (number_of (id_of id.now) (λ g. taken_count (consume_answer (lodger_end g) count))) handle.old.held.host }
+    ensures state { handle.new.held.host ≡ option_map (after_use (id_of id.now) (λ g. use_of_lodger.received g now count)) handle.old.held.host }
+{
+    *taken = 0;
+    let Some(mut lodging) = handle.take() else {
+        return NO_END;
+    };
+    let answer = lodging.consume(now, id_of(id), count);
+    handle.put(lodging);
+    let Some(answer) = answer else {
+        return GONE;
+    };
+    *taken = taken_count(&answer);
+    call_number(answer)
 }
 
 /// Makes an acknowledgement pending, which advertises the window as it is now (RFC 9293, 3.8.6.2.2). 61 where the end is
