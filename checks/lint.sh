@@ -20,7 +20,7 @@ if has shellcheck shellcheck --version; then
 fi
 if has clang-tidy clang-tidy --version; then
     # lwip.c, slirp.c and gvisor.c are read with headers of their own, by their compiler.
-    for source in c/tcpcore/*.c c/companions/*.c checks/peers/{cases,wire,own,own_connection,second,segments,sockets,kernel}.c apps/usernet/*.c; do
+    for source in c/tcpcore/*.c c/companions/*.c checks/peers/{cases,wire,own_connection,second,segments,sockets,kernel}.c apps/usernet/*.c; do
         clang-tidy --quiet --warnings-as-errors='*' --checks="$checks" "$source" -- -std=c11 -Ic -Ic/tcpcore -Ic/companions 2>/dev/null
         passed=$((passed + 1))
     done

@@ -1,28 +1,28 @@
 /*
- * jitter RUNS MSS BYTES WINDOW RATE TRIP JITTER LOSS SEED: one transfer between two ends, with the companions as an application uses
- * them (flow.h), over a simulated link in one process. It prints how many segments with text were sent again, how many were sent in
- * all, Mbit/s of text from the SYN to the last byte that was read, and the most runs that the path made: those of all that had arrived
- * out of order, whether it was kept or not. It fails where the bytes that came aren't those that were sent.
- * - RUNS: the runs of each end (0: the library's default; others where its config has them); MSS and BYTES of text; WINDOW: the bytes of
- *   each buffer, at most 1,048,576.
+ * jitter RUNS MSS BYTES WINDOW RATE TRIP JITTER LOSS SEED: one transfer between two connections with CUBIC's window, losses found by time
+ * and the default policy (tcpcore.h), over a simulated link in one process. It prints how many segments with text were sent again, how many
+ * were sent in all, Mbit/s of text from the SYN to the last byte that was read, and the most runs that the path made: those of all that had
+ * arrived out of order, whether it was kept or not. It fails where the bytes that came aren't those that were sent.
+ * - RUNS: the runs of each end (0: the library's default); MSS and BYTES of text; WINDOW: the bytes of each buffer, at most 1,048,576.
  * - RATE: of the link each way, in Mbit/s; TRIP: of the round trip without a load, in milliseconds.
  * - JITTER: each segment takes up to so many milliseconds more, drawn for it alone, so that one that is sent later may arrive earlier.
  * - LOSS: percent of the segments, each way; SEED: of what is drawn.
- * jitter memory RUNS: the bytes of such an end's block beside its buffers.
+ * jitter memory RUNS: the bytes of such a connection's block beside its buffers.
  */
-#include "flow.h"
 #include "link.h"
+#include "tcpcore.h"
 
 #include <stdio.h>
 #include <stdlib.h>
 #include <string.h>
 
-/* An end with its flow, and the direction of the link that leads to it. */
+/* A connection, the direction of the link that leads to it, and when it has to be called. */
 struct side {
-    tcpcore_end end;
-    struct flow flow;
+    tcpcore_connection connection;
     tcpcore_addr addr;
     struct link link;
+    uint64_t next;
+    uint8_t recovery[TCPCORE_RECOVERY_MEMORY];
 };
 
 /* What the words say of the link and of the text. */
@@ -77,18 +77,17 @@ static void carry(struct link *link, const uint8_t *segment, size_t length)
         push(link, left + (uint64_t)((trip / 2 + chance() * jitter) * (double)MILLISECOND), segment, length);
 }
 
-static uint64_t milliseconds(void) { return now / MILLISECOND; }
+/* The time that the connections are told. */
+static uint64_t micros(void) { return now / 1000; }
 
 static void emit(int at)
 {
-    struct side *side = sides + at;
-    uint8_t segment[TCPCORE_EMIT_ROOM];
-    tcpcore_addr to;
-    size_t length;
-    while (flow_emit(&side->flow, &side->end, segment, sizeof segment, &to, &length, milliseconds()) == TCPCORE_DONE) {
+    uint8_t bytes[TCPCORE_EMIT_ROOM];
+    struct tcpcore_connection_segment segment;
+    while (tcpcore_connection_emit(&sides[at].connection, micros(), UINT64_MAX, bytes, sizeof bytes, &segment) == TCPCORE_DONE) {
         if (at == 0)
-            count(segment, length);
-        carry(&sides[1 - at].link, segment, length);
+            count(bytes, (size_t)segment.length);
+        carry(&sides[1 - at].link, bytes, (size_t)segment.length);
     }
 }
 
@@ -98,11 +97,14 @@ static void arrive(int at)
     struct side *side = sides + at;
     while (next_arrival(&side->link) <= now) {
         struct packet *packet = pop(&side->link);
+        struct tcpcore_arrive_report report;
         if (at == 1)
             note(packet->bytes, packet->length);
-        flow_arrive(&side->flow, &side->end, sides[1 - at].addr, side->addr, packet->bytes, packet->length, milliseconds());
+        while (tcpcore_connection_arrive(&side->connection, micros(), sides[1 - at].addr, side->addr, packet->bytes, packet->length,
+                                         &report) == TCPCORE_EMIT_FIRST)
+            emit(at);
         free(packet);
-        if (side->flow.delayed_ack.is_urgent)
+        if (report.at_once)
             emit(at);
     }
 }
@@ -111,30 +113,30 @@ static void arrive(int at)
 static void use(int at)
 {
     static uint8_t read_bytes[CHUNK];
-    struct side *side = sides + at;
+    tcpcore_connection *connection = &sides[at].connection;
     size_t size = CHUNK;
     while (at == 0 && given < total && size > 0) {
         size_t left = total - given < CHUNK ? (size_t)(total - given) : CHUNK;
-        if (flow_send(&side->flow, &side->end, text + given % PERIOD, left, &size) != TCPCORE_DONE)
+        if (tcpcore_connection_send(connection, micros(), text + given % PERIOD, left, &size) != TCPCORE_DONE)
             return;
         given += size;
     }
-    while (at == 1 && flow_receive(&side->flow, &side->end, read_bytes, CHUNK, &size) == TCPCORE_DONE && size > 0) {
+    while (at == 1 && tcpcore_connection_receive(connection, micros(), read_bytes, CHUNK, &size) == TCPCORE_DONE && size > 0) {
         if (got + size > given || memcmp(read_bytes, text + got % PERIOD, size) != 0)
             fail("what came isn't what was sent");
         got += size;
     }
 }
 
-/* One turn of a side's loop, as flow.h says. */
+/* One turn of a side's loop, as tcpcore.h says. */
 static void turn(int at)
 {
-    struct side *side = sides + at;
+    uint32_t timer;
     arrive(at);
-    flow_run(&side->flow, &side->end, milliseconds());
     use(at);
     emit(at);
-    flow_run(&side->flow, &side->end, milliseconds());
+    while (tcpcore_connection_tick(&sides[at].connection, micros(), &timer, &sides[at].next) == TCPCORE_DONE)
+        emit(at);
 }
 
 /* To the next arrival or deadline. */
@@ -142,15 +144,11 @@ static void pass_time(void)
 {
     uint64_t next = UINT64_MAX;
     for (int at = 0; at < 2; at++) {
-        int wait = flow_wait(&sides[at].flow, milliseconds());
-        uint64_t deadline = wait < 0 ? UINT64_MAX : (milliseconds() + (uint64_t)wait) * MILLISECOND;
-        if (wait == 0)
-            deadline = now + 1000;
-        next = deadline < next ? deadline : next;
-        uint64_t arrival = next_arrival(&sides[at].link);
+        uint64_t arrival = next_arrival(&sides[at].link), deadline = sides[at].next < HOUR ? 1000 * sides[at].next : UINT64_MAX;
         next = arrival < next ? arrival : next;
+        next = deadline < next ? deadline : next;
     }
-    if (next == UINT64_MAX || next > HOUR)
+    if (next <= now || next > HOUR)
         fail("the transfer doesn't end");
     now = next;
 }
@@ -159,13 +157,7 @@ static tcpcore_config config_of(uint8_t last, unsigned runs, uint16_t mss)
 {
     tcpcore_config config = {.addr = {{10, 0, 0, last}}, .port = last, .mss = mss, .isn = ISN, .send_capacity = window,
                              .recv_capacity = window, .limit = TCPCORE_LIMIT, .window_shift = TCPCORE_LEAST_SHIFT(window),
-                             .scales = 1, .sack = 1};
-#ifdef TCPCORE_MAX_RUNS
-    config.runs = (uint16_t)runs;
-#else
-    if (runs > 0)
-        fail("this library has one number of runs");
-#endif
+                             .scales = 1, .sack = 1, .runs = (uint16_t)runs};
     return config;
 }
 
@@ -173,21 +165,27 @@ static void make(int at, unsigned runs, uint16_t mss)
 {
     struct side *side = sides + at;
     tcpcore_config config = config_of((uint8_t)(1 + at), runs, mss);
-    size_t room = tcpcore_room(&config);
+    struct tcpcore_connection_rules rules = TCPCORE_CONNECTION_RULES_DEFAULT;
+    struct tcpcore_policy policy = TCPCORE_POLICY_DEFAULT;
+    tcpcore_connection *connection = &side->connection;
+    tcpcore_addr peer = {{10, 0, 0, (uint8_t)(2 - at)}};
+    size_t room = tcpcore_connection_room(&config);
     void *block = malloc(room);
-    if (!block || tcpcore_new(&side->end, &config, block, room) != TCPCORE_DONE)
-        fail("no end");
     side->addr = config.addr;
-    flow_init(&side->flow, &config, &TIMERS_RULES, FLOW_ACK_DELAY);
+    if (!block ||
+        (at == 1 ? tcpcore_connection_listen(connection, &config, &rules, micros(), block, room)
+                 : tcpcore_connection_connect(connection, &config, &rules, peer, (uint16_t)(2 - at), micros(), block, room)) ||
+        tcpcore_connection_set_congestion(connection, TCPCORE_CONGESTION_CUBIC) ||
+        tcpcore_connection_set_recovery(connection, micros(), side->recovery, sizeof side->recovery) ||
+        tcpcore_connection_set_policy(connection, &policy))
+        fail("no connection");
 }
 
 static void transfer(unsigned runs, uint16_t mss)
 {
+    now = MILLISECOND;
     make(0, runs, mss);
     make(1, runs, mss);
-    if (tcpcore_listen(&sides[1].end) != TCPCORE_DONE || tcpcore_connect(&sides[0].end, sides[1].addr, 2) != TCPCORE_DONE)
-        fail("no connection");
-    now = MILLISECOND;
     for (;;) {
         turn(0);
         turn(1);
@@ -204,7 +202,7 @@ int main(int words, char **word)
     if (words == 3 && strcmp(word[1], "memory") == 0) {
         window = 16;
         tcpcore_config config = config_of(1, (unsigned)atoi(word[2]), 1460);
-        printf("%zu\n", tcpcore_room(&config) - 2 * 16);
+        printf("%zu\n", tcpcore_connection_room(&config) - 2 * 16);
         return 0;
     }
     if (words != 10)

@@ -1,6 +1,12 @@
-/* Keep-alives (see keep_alive.h). C over tcpcore.h, tested and not proved. */
+/* Keep-alives (see keep_alive.h). C beside tcpcore.h, tested and not proved. */
 #include "keep_alive.h"
 #include "segment.h"
+
+int keep_alive_may_ask(const struct tcpcore_status *status)
+{
+    return (status->phase == TCPCORE_PHASE_ESTABLISHED || status->phase == TCPCORE_PHASE_CLOSE_WAIT) && status->in_flight == 0 &&
+           status->queued == 0;
+}
 
 void keep_alive_heard(struct keep_alive *alive, uint64_t now)
 {
@@ -8,25 +14,26 @@ void keep_alive_heard(struct keep_alive *alive, uint64_t now)
     alive->unanswered = alive->is_due = 0;
 }
 
+/* So long behind a time, or UINT64_MAX where that is past all times. */
+static uint64_t behind(uint64_t time, uint64_t span) { return time > UINT64_MAX - span ? UINT64_MAX : time + span; }
+
 uint64_t keep_alive_at(const struct keep_alive *alive, int may_ask)
 {
     if (alive->rules.idle == 0 || !may_ask)
         return UINT64_MAX;
-    return alive->unanswered == 0 ? alive->heard_at + alive->rules.idle : alive->sent_at + alive->rules.interval;
+    return alive->unanswered == 0 ? behind(alive->heard_at, alive->rules.idle) : behind(alive->sent_at, alive->rules.interval);
 }
 
-uint32_t keep_alive_run(struct keep_alive *alive, tcpcore_end *end, int may_ask, uint64_t now)
+uint32_t keep_alive_run(struct keep_alive *alive, int may_ask, uint64_t now)
 {
-    if (keep_alive_at(alive, may_ask) > now)
+    uint64_t at = keep_alive_at(alive, may_ask);
+    if (at == UINT64_MAX || at > now)
         return KEEP_ALIVE_NONE;
-    if (alive->unanswered >= alive->rules.most) {
-        tcpcore_abort(end);
-        return KEEP_ALIVE_ABORTED;
-    }
+    if (alive->unanswered >= alive->rules.most)
+        return KEEP_ALIVE_GIVES_UP;
     alive->unanswered++;
     alive->sent_at = now;
     alive->is_due = 1;
-    tcpcore_acknowledge(end);
     return KEEP_ALIVE_ASKS;
 }
 

@@ -47,14 +47,4 @@ static inline unsigned bits_of(const uint8_t *segment, unsigned bits) { return s
 /* The bytes of the header with its options. */
 static inline size_t header_of(const uint8_t *segment) { return 4 * (size_t)(segment[AT_OFFSET] >> 4); }
 
-/* Whether a reset is withheld from an end of this status. In CLOSING and LAST-ACK all bytes of the peer's have come, and the end would
-   discard those that aren't read; in TIME-WAIT each reset is ignored (RFC 1337, 3). To the end it is as if it had been lost. */
-static inline int withholds_reset(const struct tcpcore_status *status, const uint8_t *segment, size_t length)
-{
-    int has_all = status->phase == TCPCORE_PHASE_CLOSING || status->phase == TCPCORE_PHASE_LAST_ACK;
-    if (!segment || length < SEGMENT_HEADER || !bits_of(segment, RST))
-        return 0;
-    return status->phase == TCPCORE_PHASE_TIME_WAIT || (has_all && status->unread > 0);
-}
-
 #endif

@@ -11,7 +11,7 @@ library=$(realpath -m "${1:-../../crates/tcp_c/out/libtcp_c.a}")
 warnings="-std=c11 -g -Wall -Wextra -Wpedantic -Werror"
 stricter="-Wcast-qual -Wconversion -Wshadow -Wstrict-prototypes"
 sanitizers="-O1 -fsanitize=address,undefined -fno-sanitize-recover=all"
-tests="timers congestion cubic answers flow recovery resets losses fuzz ip datagrams table demux crowd faults fragments ip6 pairs path trains wheel secret old_names"
+tests="ip datagrams faults fragments ip6 pairs path trains wheel secret keep_alive"
 passed=0
 
 pass() { passed=$((passed + 1)); }
@@ -54,7 +54,7 @@ check_file() {
     no_names "global state" "out/$name.o" 'NF == 3 && $2 ~ /[BbCDd]/'
     no_names "other names" "out/$name.o" "NF == 3 && \$2 ~ /[A-Z]/ && tolower(\$3) !~ /^${name}_/"
     no_names "what it needs" "out/$name.o" \
-        '$1 == "U" && $2 !~ /^(tcpcore|timers|congestion|cubic|loss_recovery|delayed_ack|silly_window|keep_alive|answers|flow|icmp|ip6?|secret|table)_|^TIMERS_RULES$|^mem(cpy|move|set|cmp)$/'
+        '$1 == "U" && $2 !~ /^(tcpcore|icmp|ip6?|secret)_|^mem(cpy|move|set|cmp)$/'
 }
 
 # All under sanitizers, and a test of them.
@@ -62,7 +62,7 @@ sanitized() { objects "$1" "$1" $sanitizers && build "$1" tests/ip.c ip.sanitize
 
 check_with() {
     local compiler=$1 package=$2 name level
-    for name in timers congestion cubic loss_recovery delayed_ack silly_window keep_alive answers flow ip ethernet icmp udp table demux faults fragments ip6 icmp6 pairs path trains wheel secret; do
+    for name in keep_alive ip ethernet icmp udp faults fragments ip6 icmp6 pairs path trains wheel secret; do
         check_file "$compiler" "$name"
     done
     # What it needs is the system's; ../../apps/usernet runs it.

@@ -1,9 +1,9 @@
 /*
  * wheel.h: the next deadlines of many ends, each found at its time in a few steps however many there are.
  *
- * This is C beside timers.h, tested and not proved. A node is in the struct of its connection. Times are counts of
+ * This is C alone, tested and not proved. A node is in the struct of its connection. Times are counts of
  * milliseconds that never go back; a node is found at most two ticks late, and never early but where its time lies
- * WHEEL_SLOTS ticks ahead: then timers_wait says how much is left, and it is put in again.
+ * WHEEL_SLOTS ticks ahead: then it is put in again with what is left.
  */
 #ifndef TCPCORE_WHEEL_H
 #define TCPCORE_WHEEL_H

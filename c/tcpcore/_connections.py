@@ -224,8 +224,8 @@ class Connection(Held):
 
     def set_recovery(self, now: float) -> None:
         """From `now` on losses are found by time, and the end of what is sent is probed, in the place of a round trip behind a gap (RFC 8985),
-        where both SYNs agree on selective acknowledgement. It takes memory of its own. Refused where it was called already, and where text
-        was sent."""
+        where both SYNs agree on selective acknowledgement; else silence alone is probed, by the first two segments in flight. It takes
+        memory of its own. Refused where it was called already, and where text was sent."""
         # The library uses it as long as the end: it is kept before the library has it, whatever interrupts this.
         memory = self.__dict__.setdefault("_recovery", ctypes.create_string_buffer(RECOVERY_MEMORY))
         self.ask("set_recovery", microseconds(now), memory, RECOVERY_MEMORY)

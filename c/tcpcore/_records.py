@@ -224,7 +224,8 @@ class Policy(NamedTuple):
     is how long text that isn't worth a segment waits, counted from when only its size holds it back: until then no small segment goes
     into a small window, and none goes out just for a window that opened by little; with None no text waits, and silly windows aren't
     avoided. With `nagle` text that doesn't fill a segment waits while anything is in flight. Of the acknowledgements that only answer
-    segments without text, SYN and FIN one goes out in `answer_interval`, some seconds at most; with 0 all do."""
+    segments without text and FIN, or a SYN in a synchronized state, one goes out in `answer_interval`, some seconds at most; with 0 all
+    do."""
 
     ack_delay: float = 0.04
     override_timeout: Optional[float] = 0.5

@@ -1081,11 +1081,17 @@ uint32_t tcp_c_host_timeout(struct handle *, uint64_t, struct tcpcore_host_told 
 uint32_t tcp_c_host_poll_at(struct handle *, uint64_t *);
 uint32_t tcp_c_host_send(struct handle *, uint64_t, const struct tcpcore_host_id *, const uint8_t *, size_t, size_t *);
 uint32_t tcp_c_host_receive(struct handle *, uint64_t, const struct tcpcore_host_id *, uint8_t *, size_t, size_t *);
+uint32_t tcp_c_host_peek(struct handle *, const struct tcpcore_host_id *, struct lent *);
+uint32_t tcp_c_host_consume(struct handle *, uint64_t, const struct tcpcore_host_id *, size_t, size_t *);
 uint32_t tcp_c_host_acknowledge(struct handle *, uint64_t, const struct tcpcore_host_id *);
 uint32_t tcp_c_host_close(struct handle *, uint64_t, const struct tcpcore_host_id *);
 uint32_t tcp_c_host_abort(struct handle *, uint64_t, const struct tcpcore_host_id *);
 uint32_t tcp_c_host_status(struct handle *, const struct tcpcore_host_id *, struct tcpcore_status *);
 uint32_t tcp_c_host_peer(struct handle *, const struct tcpcore_host_id *, tcpcore_addr *, uint16_t *);
+uint32_t tcp_c_host_set_policy(struct handle *, const struct tcpcore_host_id *, const struct tcpcore_policy *);
+uint32_t tcp_c_host_set_user_timeout(struct handle *, const struct tcpcore_host_id *, uint64_t);
+uint32_t tcp_c_host_resend_first(struct handle *, uint64_t, const struct tcpcore_host_id *);
+uint32_t tcp_c_host_resend(struct handle *, uint64_t, const struct tcpcore_host_id *, uint64_t, uint64_t);
 
 STEP struct handle *handle_of(tcpcore_host *host) { return (struct handle *)host->opaque; }
 
@@ -1324,6 +1330,35 @@ uint32_t tcpcore_host_receive(tcpcore_host *host, uint64_t now, const struct tcp
     return answer;
 }
 
+uint32_t tcpcore_host_peek(const tcpcore_host *host, const struct tcpcore_host_id *id, struct tcpcore_lent *lent)
+{
+    struct tcpcore_lent found = {.ends = 0};
+    struct place place = {lent, sizeof *lent};
+    uint32_t refused = id ? host_refusal_with(host, NULL, 0, place) : TCPCORE_NULL, answer = refused;
+    if (refused == TCPCORE_DONE) {
+        struct handle copy = copy_in(host->opaque);
+        struct tcpcore_host_id here = *id;
+        struct lent reported = {.ends = 0};
+        answer = tcp_c_host_peek(&copy, &here, &reported);
+        found = lent_of(&reported);
+    }
+    put(refused, place, host_at(host), NULL, 0, &found);
+    return answer;
+}
+
+uint32_t tcpcore_host_consume(tcpcore_host *host, uint64_t now, const struct tcpcore_host_id *id, size_t count, size_t *taken)
+{
+    size_t found = 0;
+    struct place place = {taken, sizeof *taken};
+    uint32_t refused = id ? host_refusal_with(host, NULL, 0, place) : TCPCORE_NULL, answer = refused;
+    if (refused == TCPCORE_DONE) {
+        struct tcpcore_host_id here = *id;
+        answer = tcp_c_host_consume(handle_of(host), now, &here, count, &found);
+    }
+    put(refused, place, host_at(host), NULL, 0, &found);
+    return answer;
+}
+
 uint32_t tcpcore_host_acknowledge(tcpcore_host *host, uint64_t now, const struct tcpcore_host_id *id)
 {
     uint32_t answer = host_refusal_by(host, id);
@@ -1379,6 +1414,43 @@ uint32_t tcpcore_host_peer(const tcpcore_host *host, const struct tcpcore_host_i
     put(refused, where, host_at(host), NULL, 0, &address);
     put(refused, place, host_at(host), NULL, 0, &found);
     return answer;
+}
+
+uint32_t tcpcore_host_set_policy(tcpcore_host *host, const struct tcpcore_host_id *id, const struct tcpcore_policy *policy)
+{
+    uint32_t answer = policy ? host_refusal_by(host, id) : TCPCORE_NULL;
+    if (answer != TCPCORE_DONE)
+        return answer;
+    struct tcpcore_host_id here = *id;
+    struct tcpcore_policy chosen = *policy;
+    return tcp_c_host_set_policy(handle_of(host), &here, &chosen);
+}
+
+uint32_t tcpcore_host_set_user_timeout(tcpcore_host *host, const struct tcpcore_host_id *id, uint64_t limit)
+{
+    uint32_t answer = host_refusal_by(host, id);
+    if (answer != TCPCORE_DONE)
+        return answer;
+    struct tcpcore_host_id here = *id;
+    return tcp_c_host_set_user_timeout(handle_of(host), &here, limit);
+}
+
+uint32_t tcpcore_host_resend_first(tcpcore_host *host, uint64_t now, const struct tcpcore_host_id *id)
+{
+    uint32_t answer = host_refusal_by(host, id);
+    if (answer != TCPCORE_DONE)
+        return answer;
+    struct tcpcore_host_id here = *id;
+    return tcp_c_host_resend_first(handle_of(host), now, &here);
+}
+
+uint32_t tcpcore_host_resend(tcpcore_host *host, uint64_t now, const struct tcpcore_host_id *id, uint64_t from, uint64_t to)
+{
+    uint32_t answer = host_refusal_by(host, id);
+    if (answer != TCPCORE_DONE)
+        return answer;
+    struct tcpcore_host_id here = *id;
+    return tcp_c_host_resend(handle_of(host), now, &here, from, to);
 }
 #endif
 

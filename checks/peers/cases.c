@@ -385,7 +385,7 @@ static void aborts(void)
         }
 }
 
-/* The peer vanishes with text under way: the end gives up, at the earliest after 924.6 s (timers.h). */
+/* The peer vanishes with text under way: the end gives up, at the earliest after 924.6 s. */
 static void vanishes(void)
 {
     for (int at = 1; at <= 4; at++) {
@@ -431,7 +431,7 @@ static void measure(int seeds)
             resent += own_resent(OWN);
             timeouts += own_timeouts(OWN);
         }
-        printf("    %s%s, %s: %llu ms for 20 MB, %llu segments, of which %llu again, %llu timeouts\n", PEER_NAME, OWN_NAME, cubic ? "CUBIC" : "Reno",
+        printf("    %s, %s: %llu ms for 20 MB, %llu segments, of which %llu again, %llu timeouts\n", PEER_NAME, cubic ? "CUBIC" : "Reno",
                (unsigned long long)sum / (unsigned)seeds, (unsigned long long)segments / (unsigned)seeds,
                (unsigned long long)resent / (unsigned)seeds, (unsigned long long)timeouts / (unsigned)seeds);
     }
@@ -492,9 +492,9 @@ int main(int words, char **word)
         measure(seeds);
     else
         all();
-    printf("%s%s: %llu segments came, of which the guard kept out %llu\n", PEER_NAME, OWN_NAME, (unsigned long long)own_came(),
+    printf("%s: %llu segments came, of which the guard kept out %llu\n", PEER_NAME, (unsigned long long)own_came(),
            (unsigned long long)own_kept_out());
     failed += own_came() == 0 || own_kept_out() > 0;
-    printf("%s%s: %d cases, %d failed\n", PEER_NAME, OWN_NAME, ran, failed);
+    printf("%s: %d cases, %d failed\n", PEER_NAME, ran, failed);
     return failed > 0;
 }

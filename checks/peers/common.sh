@@ -4,7 +4,7 @@
 # by --build.
 top=$(realpath ../..)
 library=$top/crates/tcp_c/out/libtcp_c.a
-words=() only_builds=
+words=() only_builds=''
 # shellcheck disable=SC2034
 for word in "$@"; do
     case $word in
@@ -18,7 +18,7 @@ mkdir -p out
 cd out || exit 1
 warnings="-std=gnu11 -g -O2 -Wall -Wextra -Wpedantic -Werror"
 ours="-I$top/checks/peers -I$top/c/tcpcore -I$top/c/companions"
-cases=0 failed=0
+cases=0 failed=0 programs=()
 
 # The objects of a folder, from these words for the compiler.
 objects() {
@@ -29,7 +29,7 @@ objects() {
     (cd "$folder" && gcc "$@")
 }
 
-# What all programs have of ours: the library's layer, which release/tcpcore.c has in it, and companions.
+# What all programs have of ours: the library's layer, which release/tcpcore.c has in it, and the companion for IPv4.
 common_objects() {
     objects common $warnings $ours -c "$top"/c/companions/ip.c
     if [[ $library == *.c ]]; then
@@ -38,23 +38,24 @@ common_objects() {
     else
         objects layer $warnings $ours -c "$top/c/tcpcore/tcpcore.c"
     fi
-    objects flow $warnings $ours -c "$top"/c/companions/{answers,congestion,cubic,delayed_ack,flow,keep_alive,loss_recovery,silly_window,timers}.c
 }
 
-# A program of ours against the peer that these words make: by an end with its companions. own.c stands between these and its arrivals, and
-# counts what the guard keeps out.
+# A program of ours against the peer that these words make.
 program() {
     local name=$1
     shift
-    gcc $warnings $ours "$top"/checks/peers/{cases,wire,own}.c common/*.o layer/*.o flow/*.o "$@" ${library:+"$library"} \
-        -Wl,--wrap=tcpcore_arrive_by -o "$name"
+    gcc $warnings $ours "$top"/checks/peers/{cases,wire,own_connection}.c common/*.o layer/*.o "$@" ${library:+"$library"} -o "$name"
+    programs+=("$name")
 }
 
-# The same by a connection.
-connection() {
-    local name=$1
-    shift
-    gcc $warnings $ours "$top"/checks/peers/{cases,wire,own_connection}.c common/*.o layer/*.o "$@" ${library:+"$library"} -o "$name"
+# Runs all programs, one after another, behind the words that are given.
+run_all() {
+    local program
+    for program in "${programs[@]}"; do
+        "$@" "./$program" "${words[@]}" >"$program.log" 2>&1 || true
+        cat "$program.log"
+        count "$program.log"
+    done
 }
 
 # Adds up what a program said in its last line.

@@ -1,8 +1,7 @@
 #!/usr/bin/env bash
-# One end of ours, with its companions, and a connection against gVisor's netstack: checks/peers/gvisor.sh [LIBRARY] [--long]. The cases
-# are those of lwip.sh; netstack runs in the same process, on the driver's clock. It installs Debian's golang-gvisor-gvisor-dev and
-# golang-go where this machine lacks them. The last line is `N cases, M failed`; what is gVisor's own fault isn't counted as failed, but
-# named, with the line of its source.
+# A connection against gVisor's netstack: checks/peers/gvisor.sh [LIBRARY] [--long]. The cases are those of lwip.sh; netstack runs in the
+# same process, on the driver's clock. It installs Debian's golang-gvisor-gvisor-dev and golang-go where this machine lacks them. The last
+# line is `N cases, M failed`; what is gVisor's own fault isn't counted as failed, but named, with the line of its source.
 set -euo pipefail
 cd "$(dirname "$0")"
 # shellcheck disable=SC2034
@@ -16,10 +15,5 @@ export GOPATH=$gocode GO111MODULE=off GOFLAGS='' GOCACHE=$PWD/go
 go build -buildmode=c-archive -o netstack.a "$top/checks/peers/gvisor/netstack.go"
 common_objects
 program gvisor -I. "$top/checks/peers/gvisor.c" netstack.a
-connection gvisor.connection -I. "$top/checks/peers/gvisor.c" netstack.a
-for program in gvisor gvisor.connection; do
-    "./$program" "${words[@]}" >"$program.log" 2>&1 || true
-    cat "$program.log"
-    count "$program.log"
-done
+run_all env
 total

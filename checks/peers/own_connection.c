@@ -18,8 +18,6 @@ static struct own {
 
 static uint64_t came, kept_out;
 
-const char *const OWN_NAME = ", a connection";
-
 /* A SYN that comes again is answered by an acknowledgement, and the SYN,ACK goes out again by its timeout, after 1, 3, 7, 15 and 31 s: when
    that comes lwIP, whose SYNs end after 18 s, is gone. */
 const int OWN_SYN_ACKS = 4;
@@ -49,7 +47,7 @@ static int choose(struct own *own)
            tcpcore_connection_set_policy(&own->end, &policy) == TCPCORE_DONE;
 }
 
-/* Its user timeout is that of the companions, 924.6 s, which the cases count on. */
+/* Its user timeout is Linux's, 924.6 s, which the cases count on. */
 void own_begin(int side)
 {
     struct own *own = &owns[side];

@@ -1,8 +1,7 @@
 /*
  * peer.h: a side of ours against another stack, in one process, on a clock and over a wire of the driver's: the same numbers at first
- * give the same run. What a program is linked from: cases.c (the cases), wire.c, one file for our side, own.c (an end with its
- * companions) or own_connection.c (a connection), and one for the other side: lwip.c, slirp.c, gvisor.c, kernel.c, or second.c, a side
- * of ours. The kernel's clock is the machine's.
+ * give the same run. What a program is linked from: cases.c (the cases), wire.c, own_connection.c for our side, and one file for the other
+ * side: lwip.c, slirp.c, gvisor.c, kernel.c, or second.c, a side of ours. The kernel's clock is the machine's.
  */
 #ifndef CHECKS_PEER_H
 #define CHECKS_PEER_H
@@ -47,7 +46,7 @@ struct trial {
     uint64_t segments;    /* no more than these while a user pauses, or 0 */
     uint64_t most;        /* no more than these of our end in all, or 0 */
     uint64_t again;       /* no more than these of our end again, or 0 */
-    uint32_t r2;          /* how long our end is patient, in milliseconds; 0: as timers.h has it */
+    uint32_t r2;          /* how long our end is patient, in milliseconds; 0: 924.6 s */
 };
 
 extern struct trial trial;
@@ -79,7 +78,7 @@ int wire_carry(void);
 uint64_t wire_next(void);
 uint64_t wire_count(int side);
 
-/* own.c, own_connection.c: our end, numbered as it stands in the trial. */
+/* own_connection.c: our end, numbered as it stands in the trial. */
 void own_begin(int side);
 void own_arrive(int side, const uint8_t *segment, size_t length);
 void own_turn(int side);
@@ -89,7 +88,6 @@ const char *own_fault(int side);
 void own_report(int side);
 uint64_t own_resent(int side); /* segments that it sent again, as its emissions were reported */
 uint64_t own_timeouts(int side);
-extern const char *const OWN_NAME; /* it stands behind the peer's name */
 extern const int OWN_SYN_ACKS; /* so many of its SYN,ACKs may be lost, one after another */
 uint64_t own_came(void);       /* segments that came in all cases */
 uint64_t own_kept_out(void);   /* and of these those that the guard kept out, and that would be taken without it */

@@ -364,7 +364,7 @@ public:
     // Chooses when an acknowledgement and a small segment go out: at once where this isn't called.
     void set_policy(const struct tcpcore_policy &policy) { detail::done(tcpcore_connection_set_policy(raw(), &policy)); }
     // From `now` on losses are found by time, and the end of what is sent is probed (RFC 8985), where both SYNs agree on selective
-    // acknowledgement; false where text was sent already. It takes TCPCORE_RECOVERY_MEMORY bytes of its own. Refused where it was called
+    // acknowledgement; else silence alone is probed, by the first two segments in flight. False where text was sent already. It takes TCPCORE_RECOVERY_MEMORY bytes of its own. Refused where it was called
     // already.
     bool set_recovery(time now)
     {

@@ -328,8 +328,8 @@ type Policy struct {
 	// then no small segment goes into a small window, and none goes out just for a window that opened by little. Never: no text waits, and a
 	// window that was opened by reading is advertised only where it was shut.
 	OverrideTimeout time.Duration
-	// Of the acknowledgements that only answer segments without text, SYN and FIN one goes out in so long (RFC 5961, 7), some seconds at
-	// most; 0: all do.
+	// Of the acknowledgements that only answer segments without text and FIN, or a SYN in a synchronized state, one goes out in so long (RFC
+	// 5961, 7), some seconds at most; 0: all do.
 	AnswerInterval time.Duration
 	// Text that doesn't fill a segment waits while anything is in flight, by the Nagle algorithm (RFC 9293, 3.7.4), unless OverrideTimeout is
 	// Never.
@@ -356,8 +356,8 @@ func (connection *Connection) SetPolicy(policy Policy) error {
 }
 
 // SetRecovery has losses found by time from `now` on, and the end of what is sent probed, in the place of a round trip behind a gap (RFC 8985),
-// where both SYNs agree on selective acknowledgement. It takes memory of C's of its own, which Free gives back. Behind text it is refused
-// with ErrBegun, and a second time with ErrInUse.
+// where both SYNs agree on selective acknowledgement; else silence alone is probed, by the first two segments in flight. It takes memory of
+// C's of its own, which Free gives back. Behind text it is refused with ErrBegun, and a second time with ErrInUse.
 func (connection *Connection) SetRecovery(now time.Time) error {
 	memory := C.malloc(C.TCPCORE_RECOVERY_MEMORY)
 	if memory == nil {

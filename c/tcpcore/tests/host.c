@@ -28,7 +28,11 @@ static void one_connection(void)
 {
     both_begin(4);
     CHECK(poll_at(&a) == TCPCORE_NEVER && poll_at(&b) == TCPCORE_NEVER, 1);
-    struct tcpcore_host_id client = connects(&a, 1001, 0), server, none;
+    struct tcpcore_host_id client = connects(&a, 1001, 0), server, none = {0, 0};
+    struct tcpcore_status of_none;
+    CHECK(client.number == 1 && listener.number == 1 && client.slot == 0, 1);
+    CHECK(tcpcore_host_status(&a.host, &none, &of_none), TCPCORE_GONE);
+    CHECK(tcpcore_host_accept(&b.host, &none, &server), TCPCORE_GONE);
     CHECK(tcpcore_host_accept(&b.host, &listener, &server), TCPCORE_NOBODY);
     CHECK(carries(&a, &b, 0), 1); /* SYN */
     CHECK(tcpcore_host_accept(&b.host, &listener, &server), TCPCORE_NOBODY);
@@ -71,8 +75,19 @@ static void one_connection(void)
     CHECK(told.place == TCPCORE_PLACE_END && same(told.id, client) && told.timer == TCPCORE_TIMER_RETRANSMIT, 1);
     CHECK(tcpcore_host_timeout(&a.host, 2 * SECOND, &told), TCPCORE_NOBODY);
     CHECK(carries(&a, &b, 2 * SECOND), 1);
-    CHECK(tcpcore_host_receive(&b.host, 2 * SECOND, &server, out, sizeof out, &count), TCPCORE_DONE);
-    CHECK(count == 4 && memcmp(out, "lost", 4) == 0, 1);
+    struct tcpcore_lent lent;
+    CHECK(tcpcore_host_peek(&b.host, &server, &lent), TCPCORE_DONE);
+    CHECK(lent.first.length == 4 && memcmp(lent.first.at, "lost", 4) == 0 && lent.second.at == NULL && !lent.ends, 1);
+    CHECK(tcpcore_host_consume(&b.host, 2 * SECOND, &server, 1, &count), TCPCORE_DONE);
+    CHECK(count, 1);
+    CHECK(tcpcore_host_peek(&b.host, &server, &lent), TCPCORE_DONE);
+    CHECK(lent.first.length == 3 && memcmp(lent.first.at, "ost", 3) == 0, 1);
+    CHECK(tcpcore_host_consume(&b.host, 2 * SECOND, &server, 9, &count), TCPCORE_DONE);
+    CHECK(count, 3);
+    CHECK(tcpcore_host_peek(&b.host, &server, &lent), TCPCORE_NOTHING);
+    CHECK(lent.first.at == NULL && lent.first.length == 0 && lent.second.length == 0, 1);
+    CHECK(tcpcore_host_peek(&b.host, &none, &lent) == TCPCORE_GONE && lent.first.at == NULL, 1);
+    CHECK(tcpcore_host_consume(&b.host, 2 * SECOND, &none, 1, &count) == TCPCORE_GONE && count == 0, 1);
     CHECK(carries(&b, &a, 2 * SECOND), 1);
 
     uint64_t now = 3 * SECOND;
@@ -104,6 +119,12 @@ static void one_connection(void)
     CHECK(tcpcore_connection_free(&connection), TCPCORE_DONE);
     CHECK(tcpcore_host_retire(&a.host, &client, &connection), TCPCORE_GONE);
     CHECK(poll_at(&a), now + TIME_WAIT);
+
+    /* While the record is there the connection exists already (3.10.1). */
+    tcpcore_config again = config_of(CLIENT, 1001, 7);
+    CHECK(tcpcore_connection_connect(&connection, &again, &RULES, SERVER, PORT, now, a.blocks[9], sizeof *a.blocks), TCPCORE_DONE);
+    CHECK(tcpcore_host_open(&a.host, &connection, &none), TCPCORE_TAKEN);
+    CHECK(none.number | none.slot, 0);
 
     /* The peer's FIN again has TIME-WAIT begin anew, and is acknowledged (3.10.7.4, eighth); a reset is withheld (RFC 1337, 3). */
     struct tcpcore_host_arrived arrived;
@@ -140,6 +161,10 @@ static void one_connection(void)
     memcpy(data, fin, sizeof data);
     data[0] = 3, data[1] = 233, data[2] = 0, data[3] = PORT, data[13] = ACK;
     CHECK(comes(&b, CLIENT, data, sizeof data, now), TCPCORE_PLACE_STRAY);
+
+    /* With the record gone its four values are free again. */
+    CHECK(tcpcore_host_open(&a.host, &connection, &none), TCPCORE_DONE);
+    CHECK(none.number, client.number + 1);
     both_end();
 }
 
@@ -256,6 +281,56 @@ static void what_moves(void)
     both_end();
 }
 
+/* What is chosen of a connection by its name is that of the connection: a delayed acknowledgement (RFC 9293, 3.8.6.3), what is sent again at
+   once (RFC 5681, 3.2), and the user timeout (RFC 9293, 3.8.3). */
+static void what_is_chosen(void)
+{
+    both_begin(1);
+    struct tcpcore_host_id client = connects(&a, 1001, 0), server, none = {0, 0};
+    while (carries(&a, &b, 0) + carries(&b, &a, 0) > 0)
+        ;
+    CHECK(tcpcore_host_accept(&b.host, &listener, &server), TCPCORE_DONE);
+    CHECK(tcpcore_host_resend_first(&a.host, 0, &client), TCPCORE_NO_RULE);
+    CHECK(tcpcore_host_resend(&a.host, 0, &client, 1, 5), TCPCORE_NO_RULE);
+    struct tcpcore_policy policy = {.ack_delay = 100 * MS, .override_timeout = TCPCORE_NEVER};
+    CHECK(tcpcore_host_set_policy(&b.host, &server, &policy), TCPCORE_DONE);
+
+    size_t count;
+    struct tcpcore_host_sent sent;
+    CHECK(tcpcore_host_send(&a.host, 0, &client, "text", 4, &count), TCPCORE_DONE);
+    CHECK(carries(&a, &b, 0), 1);
+    CHECK(carries(&b, &a, 0), 0);
+    CHECK(poll_at(&b), 100 * MS);
+    for (int again = 0; again < 2; again++) {
+        CHECK(again ? tcpcore_host_resend(&a.host, MS, &client, 1, 5) : tcpcore_host_resend_first(&a.host, MS, &client), TCPCORE_DONE);
+        CHECK(tcpcore_host_emit(&a.host, MS, UINT64_MAX, last, sizeof last, &sent), TCPCORE_DONE);
+        CHECK(same(sent.id, client) && sent.position == 1 && sent.count == 4 && memcmp(last + 20, "text", 4) == 0, 1);
+        CHECK(carries(&a, &b, MS), 0);
+    }
+    CHECK(tcpcore_host_resend(&a.host, MS, &client, 5, 9), TCPCORE_NO_RULE);
+
+    /* 9 s without an answer end it, of which 2 have passed when that is chosen. */
+    struct tcpcore_host_told told;
+    uint64_t now = 0;
+    CHECK(tcpcore_host_timeout(&a.host, 2 * SECOND, &told) == TCPCORE_DONE && told.timer == TCPCORE_TIMER_RETRANSMIT, 1);
+    carries(&a, &b, 2 * SECOND);
+    CHECK(tcpcore_host_set_user_timeout(&a.host, &client, 9 * SECOND), TCPCORE_DONE);
+    do {
+        now = poll_at(&a);
+        CHECK(now <= 9 * SECOND, 1);
+        CHECK(tcpcore_host_timeout(&a.host, now, &told), TCPCORE_DONE);
+        while (tcpcore_host_emit(&a.host, now, UINT64_MAX, last, sizeof last, &sent) != TCPCORE_NOBODY)
+            ;
+    } while (told.timer == TCPCORE_TIMER_RETRANSMIT);
+    CHECK(now == 9 * SECOND && told.timer == TCPCORE_TIMER_USER && phase_of(&a, client) == TCPCORE_PHASE_CLOSED, 1);
+
+    CHECK(tcpcore_host_set_policy(&a.host, &none, &policy), TCPCORE_GONE);
+    CHECK(tcpcore_host_set_user_timeout(&a.host, &none, SECOND), TCPCORE_GONE);
+    CHECK(tcpcore_host_resend_first(&a.host, now, &none), TCPCORE_GONE);
+    CHECK(tcpcore_host_resend(&a.host, now, &none, 1, 5), TCPCORE_GONE);
+    both_end();
+}
+
 /* Pointers, lengths, copies and overlaps: refused, and nothing changes. */
 static void misuse(void)
 {
@@ -325,8 +400,20 @@ static void misuse(void)
     CHECK(tcpcore_host_send(&host, 0, NULL, "x", 1, &count), TCPCORE_NULL);
     CHECK(tcpcore_host_send(&host, 0, &end, NULL, 1, &count), TCPCORE_NULL);
     CHECK(tcpcore_host_receive(&host, 0, &end, &host, sizeof host, &count), TCPCORE_OVERLAP);
+    struct tcpcore_lent lent;
+    CHECK(tcpcore_host_peek(&host, NULL, &lent), TCPCORE_NULL);
+    CHECK(tcpcore_host_peek(&host, &end, NULL), TCPCORE_NULL);
+    CHECK(tcpcore_host_peek(&copy, &end, &lent), TCPCORE_COPIED);
+    CHECK(tcpcore_host_consume(&host, 0, NULL, 1, &count), TCPCORE_NULL);
+    CHECK(tcpcore_host_consume(&host, 0, &end, 1, (size_t *)(void *)&host), TCPCORE_OVERLAP);
     CHECK(tcpcore_host_acknowledge(&host, 0, NULL), TCPCORE_NULL);
     CHECK(tcpcore_host_close(&copy, 0, &end), TCPCORE_COPIED);
+    struct tcpcore_policy policy = TCPCORE_POLICY_DEFAULT;
+    CHECK(tcpcore_host_set_policy(&host, &end, NULL), TCPCORE_NULL);
+    CHECK(tcpcore_host_set_policy(&host, NULL, &policy), TCPCORE_NULL);
+    CHECK(tcpcore_host_set_user_timeout(&host, NULL, 0), TCPCORE_NULL);
+    CHECK(tcpcore_host_resend_first(&copy, 0, &end), TCPCORE_COPIED);
+    CHECK(tcpcore_host_resend(&host, 0, NULL, 0, 1), TCPCORE_NULL);
     CHECK(tcpcore_host_status(&host, &end, NULL), TCPCORE_NULL);
     CHECK(tcpcore_host_retire(&host, NULL, &connection), TCPCORE_NULL);
     CHECK(tcpcore_host_remove(&host, &end, (tcpcore_connection *)(void *)&host), TCPCORE_OVERLAP);
@@ -334,6 +421,8 @@ static void misuse(void)
     CHECK(tcpcore_host_free(&host), TCPCORE_DONE);
     CHECK(tcpcore_host_poll_at(&host, &at), TCPCORE_NO_END);
     CHECK(tcpcore_host_send(&host, 0, &end, "x", 1, &count), TCPCORE_NO_END);
+    CHECK(tcpcore_host_peek(&host, &end, &lent), TCPCORE_NO_END);
+    CHECK(tcpcore_host_consume(&host, 0, &end, 1, &count), TCPCORE_NO_END);
     CHECK(tcpcore_host_remove(&host, &end, &connection), TCPCORE_NO_END);
     CHECK(tcpcore_host_new(&host, 0, 0, block, sizeof block), TCPCORE_DONE);
     CHECK(tcpcore_host_free(&host), TCPCORE_DONE);
@@ -344,6 +433,7 @@ int main(void)
     one_connection();
     a_full_backlog();
     what_moves();
+    what_is_chosen();
     misuse();
     printf("host: each call answers and reports what it has to, and no name finds another's connection\n");
     return checks > 100 ? 0 : 1;

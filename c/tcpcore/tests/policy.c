@@ -215,21 +215,27 @@ static void windows_are_advertised(void)
     free_both();
 }
 
-/* An acknowledgement of a number that wasn't sent is answered, and brings nothing. */
-static uint32_t arrives_bare(uint64_t now)
+/* An acknowledgement of `a` comes, of which the word at a place is so much more, and whose checksum fits that (RFC 1624, 3). */
+static uint32_t arrives_changed(size_t at, unsigned more, uint64_t now)
 {
-    unsigned char bytes[TCPCORE_EMIT_ROOM], again[TCPCORE_EMIT_ROOM];
+    unsigned char bytes[TCPCORE_EMIT_ROOM];
     struct tcpcore_connection_segment segment;
     struct tcpcore_arrive_report report;
     CHECK(tcpcore_connection_acknowledge(&a, now), TCPCORE_DONE);
     CHECK(tcpcore_connection_emit(&a, now, UINT64_MAX, bytes, sizeof bytes, &segment), TCPCORE_DONE);
-    memcpy(again, bytes, segment.length);
-    /* One acknowledges 2^16 more: 16 bits of the sum's complement fall by one. */
-    again[9]++;
-    for (int i = 17; i >= 16 && again[i]-- == 0; i--)
-        ;
-    return tcpcore_connection_arrive(&b, now, HERE, THERE, again, segment.length, &report);
+    unsigned word = (unsigned)bytes[at] << 8 | bytes[at + 1], sum = (~((unsigned)bytes[16] << 8 | bytes[17]) & 0xffff) + more;
+    word += more;
+    sum = ~((sum & 0xffff) + (sum >> 16));
+    bytes[at] = (unsigned char)(word >> 8), bytes[at + 1] = (unsigned char)word;
+    bytes[16] = (unsigned char)(sum >> 8), bytes[17] = (unsigned char)sum;
+    return tcpcore_connection_arrive(&b, now, HERE, THERE, bytes, segment.length, &report);
 }
+
+/* It acknowledges a number that wasn't sent, which is answered, and brings nothing. */
+static uint32_t arrives_bare(uint64_t now) { return arrives_changed(8, 1, now); }
+
+/* It is a SYN in the window, which is challenged (RFC 9293, 3.10.7.4, fourth). */
+static uint32_t arrives_with_syn(uint64_t now) { return arrives_changed(12, 2, now); }
 
 static void answers_are_limited(void)
 {
@@ -250,6 +256,39 @@ static void answers_are_limited(void)
     free_both();
 }
 
+static void challenges_are_limited(void)
+{
+    begin();
+    choose(&b, &DEFAULT);
+    CHECK(arrives_with_syn(NOW), TCPCORE_DROPPED);
+    loses(&b, NOW, 0);
+    CHECK(arrives_with_syn(NOW + 1), TCPCORE_DROPPED);
+    waits(&b, NOW + 1);
+    CHECK(arrives_with_syn(NOW + 500 * MS), TCPCORE_DROPPED);
+    loses(&b, NOW + 500 * MS, 0);
+    free_both();
+}
+
+/* Before its SYN is acknowledged an end answers each SYN. */
+static void syns_of_the_handshake_are_answered(void)
+{
+    unsigned char bytes[TCPCORE_EMIT_ROOM], answer[TCPCORE_EMIT_ROOM];
+    struct tcpcore_connection_segment segment, answered;
+    struct tcpcore_arrive_report report;
+    open_both();
+    choose(&b, &DEFAULT);
+    CHECK(tcpcore_connection_emit(&a, 0, UINT64_MAX, bytes, sizeof bytes, &segment), TCPCORE_DONE);
+    for (uint64_t now = 0; now < 5; now++) {
+        uint32_t taken = now == 0 ? TCPCORE_DONE : TCPCORE_DROPPED;
+        CHECK(tcpcore_connection_arrive(&b, now, HERE, THERE, bytes, segment.length, &report), taken);
+        CHECK(tcpcore_connection_emit(&b, now, UINT64_MAX, answer, sizeof answer, &answered), TCPCORE_DONE);
+        /* A SYN,ACK first, and an acknowledgement of the SYN each time. */
+        CHECK(answer[13], now == 0 ? 0x12 : 0x10);
+        CHECK(answer[11] - bytes[7], 1);
+    }
+    free_both();
+}
+
 static void trains_are_full(void)
 {
     static unsigned char out[TCPCORE_TRAIN_ROOM];
@@ -263,6 +302,27 @@ static void trains_are_full(void)
     CHECK(train.segments, 1);
     CHECK(tcpcore_connection_emit_train(&a, NOW, UINT64_MAX, out, sizeof out, 10, &train), TCPCORE_NOT_DUE);
     CHECK(poll_at(&a), NOW + 500 * MS);
+    free_both();
+    /* Without the Nagle algorithm it goes with them where the window has room for all of it, and else it waits. */
+    struct tcpcore_policy policy = DEFAULT;
+    policy.nagle = 0;
+    begin();
+    choose(&a, &policy);
+    sends(&a, NOW, FULL + FULL / 2);
+    CHECK(tcpcore_connection_emit_train(&a, NOW, UINT64_MAX, out, sizeof out, 10, &train), TCPCORE_DONE);
+    CHECK(train.whole.count, FULL + FULL / 2);
+    CHECK(train.segments, 2);
+    free_both();
+    begin();
+    choose(&a, &policy);
+    sends(&a, NOW, 200);
+    CHECK(carry(&a, HERE, &b, NOW), 1);
+    CHECK(carry(&b, THERE, &a, NOW), 1);
+    CHECK(status_of(&a).snd_wnd, CAPACITY - 200);
+    sends(&a, NOW, CAPACITY);
+    CHECK(tcpcore_connection_emit_train(&a, NOW, UINT64_MAX, out, sizeof out, 10, &train), TCPCORE_DONE);
+    CHECK(train.whole.count, FULL);
+    CHECK(tcpcore_connection_emit_train(&a, NOW, UINT64_MAX, out, sizeof out, 10, &train), TCPCORE_NOT_DUE);
     free_both();
 }
 
@@ -363,6 +423,8 @@ int main(void)
     silly_windows();
     windows_are_advertised();
     answers_are_limited();
+    challenges_are_limited();
+    syns_of_the_handshake_are_answered();
     trains_are_full();
     both_go_on();
     refusals();

@@ -121,6 +121,20 @@ static void again(uint64_t now, uint64_t at, uint64_t count)
     CHECK(poll_at() > now, 1);
 }
 
+/* At `now` two full segments of `a` go out, again, from byte `at` on; no timer has expired. */
+static void two_again(uint64_t now, uint64_t at)
+{
+    uint32_t timer;
+    emit(&flying, &a, now);
+    CHECK(flying.count, 2);
+    for (size_t which = 0; which < 2; which++) {
+        CHECK(flying.of[which].segment.position, 1 + at + which * FULL);
+        CHECK(flying.of[which].segment.count, FULL);
+    }
+    CHECK(tcpcore_connection_timeout(&a, now, &timer), TCPCORE_NOT_DUE);
+    CHECK(poll_at() > now, 1);
+}
+
 /* Text of `a` goes out at `now` as so many segments. */
 static void sends(uint64_t now, size_t segments)
 {
@@ -298,12 +312,54 @@ static void overtaking_is_no_loss(void)
 
 static void without_blocks(void)
 {
-    /* A lost end waits for the retransmission timeout, as ever. */
+    /* A single segment: as with blocks. */
     begin(0, TCPCORE_CONGESTION_NONE);
     sends(NOW, 1);
     trip(NOW, 1);
-    CHECK(poll_at(), NOW + SECOND);
+    CHECK(poll_at(), NOW + 400 * MS);
+    rests(NOW + 400 * MS - 1);
+    again(NOW + 400 * MS, 0, FULL);
+    trip(NOW + 400 * MS, 0);
+    is_over(FULL);
+    free_both();
+    /* The last two of three: both go out. */
+    begin(0, TCPCORE_CONGESTION_NONE);
+    sends(NOW, 3);
+    trip(NOW, 3 << 1);
+    CHECK(poll_at(), NOW + TRIP + 200 * MS);
+    two_again(NOW + TRIP + 200 * MS, FULL);
+    trip(NOW + TRIP + 200 * MS, 0);
+    is_over(3 * FULL);
+    free_both();
+    /* The last three of four: two go out, and two trips behind their acknowledgement the third, with the peer's delay. */
+    begin(0, TCPCORE_CONGESTION_NONE);
+    sends(NOW, 4);
+    trip(NOW, 7 << 1);
+    uint64_t now = NOW + TRIP + 200 * MS;
+    CHECK(poll_at(), now);
+    two_again(now, FULL);
+    trip(now, 0);
+    CHECK(poll_at(), now + TRIP + 400 * MS);
+    again(now + TRIP + 400 * MS, 3 * FULL, FULL);
+    trip(now + TRIP + 400 * MS, 0);
+    is_over(4 * FULL);
+    free_both();
+    /* The probe is lost, too: none follows, and the retransmission timeout expires. */
+    begin(0, TCPCORE_CONGESTION_NONE);
+    sends(NOW, 3);
+    trip(NOW, 7);
+    two_again(NOW + 200 * MS, 0);
+    flying.count = 0;
     rests(NOW + SECOND - 1);
+    uint32_t timer = 7;
+    uint64_t expires = poll_at();
+    CHECK(expires >= NOW + SECOND && expires <= NOW + 200 * MS + SECOND, 1);
+    CHECK(tcpcore_connection_timeout(&a, expires, &timer), TCPCORE_DONE);
+    CHECK(timer, TCPCORE_TIMER_RETRANSMIT);
+    emit(&flying, &a, expires);
+    CHECK(flying.count, 3);
+    trip(expires, 0);
+    is_over(3 * FULL);
     free_both();
 }
 
