@@ -352,10 +352,10 @@ def rows_look():
 @check
 def citations():
     """What shows a requirement has to stand in its file as a whole, and a test's function has to be called."""
-    same(conformance.is_cited("c/companions/tests/timers.c: no sample of what was sent again"), True)
-    same(conformance.is_cited("c/companions/tests/timers.c: sample of what was sent again"), False)
-    same(conformance.is_cited("c/companions/tests/timers.c: static void abandons_text(void)"), True)
-    same(conformance.is_cited("c/companions/tests/timers.c: static void abandons_text(void"), False)
+    same(conformance.is_cited("c/tcpcore/tests/connection.c: it expires after 1, 3 and 7 s, and then the path is suspect"), True)
+    same(conformance.is_cited("c/tcpcore/tests/connection.c: after 1, 3 and 7 s, and then the path is suspect"), False)
+    same(conformance.is_cited("c/tcpcore/tests/connection.c: static void user_timeouts(void)"), True)
+    same(conformance.is_cited("c/tcpcore/tests/connection.c: static void user_timeouts(void"), False)
     same(conformance.is_cited("docs/RULES.md: is the field shifted by the peer's shift"), False)
     with tempfile.NamedTemporaryFile("w", suffix=".c", dir=HERE / "out") as file:
         file.write("static void never(void)\n{\n}\n")

@@ -169,7 +169,7 @@ def shift_at_most_14(lab):
     scaled(peer, 15, 4)
     # The congestion window is opened first, so that the peer's is the limit.
     peer.window = 4
-    warm(peer, 60000)
+    warm(peer, 150000)
     # An acknowledgement of something new has the smaller window, since some take no smaller one from another.
     last = flight(peer, 1000)
     given(last, "the user's text isn't sent")

@@ -1,4 +1,4 @@
-"""Rows: transfers, of which our proved end with its companions is the other side, over a wire that harms what it carries (RFC 9293, 3.4, 3.8
+"""Rows: transfers, of which our own stack is the other side, over a wire that harms what it carries (RFC 9293, 3.4, 3.8
 and 3.10). All bytes are compared, and the stack's log is judged as that of each other row."""
 
 import heapq

@@ -39,7 +39,7 @@ from rows import MAY, ROWS, SHOULD  # noqa: E402
 from segments import ACK, RST, Segment, as_sent  # noqa: E402
 from stacks import Child, Device, Linux  # noqa: E402
 
-TITLES = {"ours": "Boqtilen with its companions", "lwip": "lwIP 2.1.3", "slirp": "libslirp", "gvisor": "gVisor's netstack"}
+TITLES = {"ours": "Boqtilen", "lwip": "lwIP 2.1.3", "slirp": "libslirp", "gvisor": "gVisor's netstack"}
 NAMES = ("linux", "ours", "lwip", "gvisor", "slirp")
 TURNS = 3  # how often a row is run at most that came late
 
