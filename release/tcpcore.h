@@ -135,7 +135,7 @@ extern "C" {
 #endif
 
 /* The version of this header: it grows with each change of a struct, a call or an answer. */
-#define TCPCORE_VERSION 19
+#define TCPCORE_VERSION 20
 
 /* Whether there are hosts (HOSTS, below): where tcpcore.c takes machine code, by the rule that stands at its top. */
 #if !defined(TCPCORE_HAS_HOSTS) && !defined(TCPCORE_PORTABLE) && defined(__GNUC__) && !defined(__TINYC__) && defined(__linux__) && \
@@ -1036,8 +1036,8 @@ struct tcpcore_policy {
        3.8.6.2): until then no small segment goes into a small window, and none goes out just for a window that opened by
        little. TCPCORE_NEVER: no text waits, and a window that was opened by reading is advertised only where it was shut. */
     uint64_t override_timeout;
-    /* Of the acknowledgements that only answer segments without text, SYN and FIN one goes out in so long (RFC 5961, 7). 0:
-       all do. */
+    /* Of the acknowledgements that only answer segments without text and FIN, or a SYN in a synchronized state, one goes out
+       in so long (RFC 5961, 7). 0: all do. */
     uint64_t answer_interval;
     /* Whether text that doesn't fill a segment waits while anything is in flight, by the Nagle algorithm (RFC 9293, 3.7.4):
        0 is no. It counts where `override_timeout` isn't TCPCORE_NEVER. */
@@ -1244,9 +1244,10 @@ uint32_t tcpcore_connection_congestion(const tcpcore_connection *connection, str
  *   again, a SYN, a FIN, a reset, a probe of a zero window, and all that is due behind a timer's expiry never wait.
  *   A window that reading has opened by a segment, or by half of the receive capacity, is advertised where the peer has less than half of
  *   that left (RFC 9293, 3.8.6.2.2): a user who reads needn't call tcpcore_connection_acknowledge.
- *   An acknowledgement that only answers segments without text, SYN and FIN goes out once in `answer_interval`, and is discarded meanwhile,
- *   as if it were lost: so two ends with zero windows answer each other once in that time, and not without end. Some seconds are as much as
- *   it should be. What answers text isn't limited. `out` of an emission may contain what was discarded, then, behind what goes out.
+ *   An acknowledgement that only answers segments without text and FIN, or, as of version 20, a SYN in a synchronized state, goes out once
+ *   in `answer_interval`, and is discarded meanwhile, as if it were lost: so two ends with zero windows answer each other once in that
+ *   time, and not without end. Some seconds are as much as it should be. What answers text isn't limited. `out` of an emission may contain
+ *   what was discarded, then, behind what goes out.
  * It may be called at any time, and again: an acknowledgement that waited is due then, and text begins to wait anew. *policy is read and
  * not kept. Of version 17.
  *   DONE; NO_END; NULL; COPIED.
@@ -1265,12 +1266,12 @@ uint32_t tcpcore_connection_set_policy(tcpcore_connection *connection, const str
  * sent last has all that is in flight sent again for each of its segments. That window shrinks once for all that is in flight when
  * a loss is found, also for a loss that a probe has repaired, and once more where what was sent again is lost again. The steps of `now`
  * have to be finer than a quarter of a round trip: by a coarser clock what isn't answered yet looks lost, and goes out again in vain.
- *   It counts where both SYNs agree on selective acknowledgement; else the same goes out as without it. What falls due by it goes out by an
- * emission, of which tcpcore_connection_poll_at has the time: emit then, whether or not a timer expires, too. At most 64 stretches of what
- * is in flight are kept in the `length` bytes at `block`; where there are more, what was joined is found lost later. The block is the
- * connection's until tcpcore_connection_free, whatever has become of the connection; TCPCORE_RECOVERY_MEMORY bytes are enough. Call it
- * once, any time before text is sent, also right after the making of the connection: of text that was sent before it wouldn't be known
- * when. Of version 18.
+ *   It counts where both SYNs agree on selective acknowledgement. Else, as of version 20, the first two segments in flight go out again as
+ * a probe, once until the first of them is acknowledged, and all else is as without it. What falls due by it goes out by an emission, of
+ * which tcpcore_connection_poll_at has the time: emit then, whether or not a timer expires, too. At most 64 stretches of what is in flight
+ * are kept in the `length` bytes at `block`; where there are more, what was joined is found lost later. The block is the connection's until
+ * tcpcore_connection_free, whatever has become of the connection; TCPCORE_RECOVERY_MEMORY bytes are enough. Call it once, any time before
+ * text is sent, also right after the making of the connection: of text that was sent before it wouldn't be known when. Of version 18.
  *   DONE; IN_USE: it was called already. NO_RULE: text was sent already, or a FIN. NO_MEMORY: the block is too small. At any answer but
  *   DONE nothing has changed, and the block is the caller's. NO_END; NULL; LENGTH; OVERLAP (the block lies over the struct); COPIED.
  */
@@ -1312,10 +1313,10 @@ typedef struct tcpcore_host {
 /* No host. */
 #define TCPCORE_HOST_INIT {{0, 0, 0}}
 
-/* The name of a connection or of a listener in a host: no other connection, or listener, has it or had it. Numbers begin at 0, so that zeros
-   are a name, too: go by the answers and by `place`. */
+/* The name of a connection or of a listener in a host: no other connection, or listener, has it or had it. The number of none is 0, so that
+   a caller keeps zeros where it has no name: calls by them find nothing. */
 struct tcpcore_host_id {
-    /* Its number, in the order in which they came. */
+    /* Its number, 1 or more, in the order in which they came. */
     uint64_t number;
     /* Its slot: a small number from 0 on, which another one has once this one is gone. A caller's own table goes by it. */
     uint64_t slot;
@@ -1406,8 +1407,9 @@ uint32_t tcpcore_host_unlisten(tcpcore_host *host, const struct tcpcore_host_id 
 /*
  * Moves a connection into the host, under its own address and port and its peer's: *id is its name, and *connection has none any more. It
  * waits for a turn. Its block, and that of its recovery, stay its own.
- *   DONE; NOT_CONNECTED: it has no peer yet. TAKEN: a connection of the host has these four values. NO_MEMORY: the host's block is too
- *   small. NO_END: a struct has none. NULL; OVERLAP; COPIED (of the host, or of the connection). At any answer but DONE nothing changes.
+ *   DONE; NOT_CONNECTED: it has no peer yet. TAKEN: a connection of the host has these four values, or, as of version 20, a TIME-WAIT
+ *   record of it (RFC 9293, 3.10.1). NO_MEMORY: the host's block is too small. NO_END: a struct has none. NULL; OVERLAP; COPIED (of the
+ *   host, or of the connection). At any answer but DONE nothing changes.
  */
 uint32_t tcpcore_host_open(tcpcore_host *host, tcpcore_connection *connection, struct tcpcore_host_id *id);
 
@@ -1415,7 +1417,7 @@ uint32_t tcpcore_host_open(tcpcore_host *host, tcpcore_connection *connection, s
  * Moves a connection that listens into the host, for a segment that has come from `src` to `dst` and asks this listener for a connection:
  * *id is its name, and *connection has none any more. It is in the listener's backlog until tcpcore_host_accept gives it. Then hand the
  * same segment in again.
- *   DONE; TOO_SHORT: the bytes have no ports. TAKEN: a connection of the host has these four values. GONE: the listener is. BACKLOG_FULL;
+ *   DONE; TOO_SHORT: the bytes have no ports. TAKEN, as of tcpcore_host_open. GONE: the listener is. BACKLOG_FULL;
  *   NO_MEMORY: the host's block is too small. NO_END: a struct has none. NULL; LENGTH; OVERLAP; COPIED (of the host, or of the connection).
  *   At any answer but DONE nothing changes.
  */
@@ -1486,17 +1488,30 @@ uint32_t tcpcore_host_timeout(tcpcore_host *host, uint64_t now, struct tcpcore_h
 uint32_t tcpcore_host_poll_at(const tcpcore_host *host, uint64_t *at);
 
 /*
- * The calls of a connection's user, by its name: each as tcpcore_connection_send, receive, acknowledge, close, abort, status and peer.
+ * The calls of a connection's user, by its name: each as tcpcore_connection_send, receive, peek, consume, acknowledge, close, abort, status
+ * and peer. What tcpcore_host_peek lends may be read until the next call that changes the host. peek and consume are as of version 20.
  *   As those; GONE: the connection of this name is.
  */
 uint32_t tcpcore_host_send(tcpcore_host *host, uint64_t now, const struct tcpcore_host_id *id, const void *text, size_t length,
                            size_t *taken);
 uint32_t tcpcore_host_receive(tcpcore_host *host, uint64_t now, const struct tcpcore_host_id *id, void *out, size_t room, size_t *count);
+uint32_t tcpcore_host_peek(const tcpcore_host *host, const struct tcpcore_host_id *id, struct tcpcore_lent *lent);
+uint32_t tcpcore_host_consume(tcpcore_host *host, uint64_t now, const struct tcpcore_host_id *id, size_t count, size_t *taken);
 uint32_t tcpcore_host_acknowledge(tcpcore_host *host, uint64_t now, const struct tcpcore_host_id *id);
 uint32_t tcpcore_host_close(tcpcore_host *host, uint64_t now, const struct tcpcore_host_id *id);
 uint32_t tcpcore_host_abort(tcpcore_host *host, uint64_t now, const struct tcpcore_host_id *id);
 uint32_t tcpcore_host_status(const tcpcore_host *host, const struct tcpcore_host_id *id, struct tcpcore_status *status);
 uint32_t tcpcore_host_peer(const tcpcore_host *host, const struct tcpcore_host_id *id, tcpcore_addr *addr, uint16_t *port);
+
+/*
+ * What is chosen of a connection while it is in the host, and what its caller has sent again, by its name: each as the call of
+ * tcpcore_connection_.. Of version 20.
+ *   As those; GONE: the connection of this name is.
+ */
+uint32_t tcpcore_host_set_policy(tcpcore_host *host, const struct tcpcore_host_id *id, const struct tcpcore_policy *policy);
+uint32_t tcpcore_host_set_user_timeout(tcpcore_host *host, const struct tcpcore_host_id *id, uint64_t limit);
+uint32_t tcpcore_host_resend_first(tcpcore_host *host, uint64_t now, const struct tcpcore_host_id *id);
+uint32_t tcpcore_host_resend(tcpcore_host *host, uint64_t now, const struct tcpcore_host_id *id, uint64_t from, uint64_t to);
 #endif
 
 /*

@@ -24,14 +24,4 @@
 #define TCPCORE_NO_REST TCPCORE_NO_TIME_WAIT
 #define TCPCORE_NOT_AT_REST TCPCORE_NOT_TIME_WAIT
 
-/* The companions of c/companions. */
-#define timers_taken timers_arrived_with_report
-#define answers_told answers_sent
-#define flow_keep keep_alive_rules
-#define congestion_duplicate congestion_limited_transmit
-#define congestion_clocked congestion_ack_clocked
-#define TIMERS_GAVE_UP TIMERS_ABORTED
-#define FLOW_DELAY FLOW_ACK_DELAY
-#define FLOW_OVERRIDE SILLY_WINDOW_OVERRIDE
-
 #endif
