@@ -99,7 +99,7 @@ class Flow:
         if recovering and not blocks:
             if said.endswith("again"):
                 self.drops = 0 if acked > 2 * self.path.smss else min(2, self.drops + 1)
-            elif self.repeats == 3 and acked > cwnd:
+            elif self.drops < 2 or self.repeats == 3 and acked > cwnd:
                 self.drops = 0
         self.repeats = 0
         return said

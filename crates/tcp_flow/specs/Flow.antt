@@ -60,8 +60,8 @@ with_first m f now again =
     if again then record f { driving = after_user m f.driving (at f.driving now) (m.first_resent f.driving.core) } else f
 
 -- A PEER THAT KEEPS NOTHING OUT OF ORDER lacks all that was sent behind a loss, and a segment for each partial acknowledgement (RFC
--- 6582, 4) would be long in coming to its end. Where blocks say nothing, two partial acknowledgements in a row that cover no more than
--- two segments, as one may (RFC 5681, 4.2), are of such a peer (own); until the first acknowledgement behind all that was sent again
+-- 6582, 4) would be long in coming to its end. Where blocks say nothing, two partial acknowledgements in a row of one recovery that cover
+-- no more than two segments, as one may (RFC 5681, 4.2), are of such a peer (own); until the first acknowledgement behind all that was sent again
 -- covers more than the window had let out again of it
 abbrev pub most_drops : ℕ
 most_drops = 2
@@ -71,7 +71,8 @@ most_repeats = 3
 
 abbrev pub drops_after : ℕ → ℕ → ℕ → Bool → Bool → ℕ
 drops_after before smss acked partial kept =
-    if partial then (if nat_lt smss (acked - smss) then 0 else min most_drops (before + 1)) else (if kept then 0 else before)
+    if partial then (if nat_lt smss (acked - smss) then 0 else min most_drops (before + 1))
+    else (if before == most_drops && not kept then most_drops else 0)
 
 abbrev pub counted_drops : {S W : Type 0} → Machine S → Control W → Flowing S W → ℕ → ℕ
 counted_drops m c f acked =

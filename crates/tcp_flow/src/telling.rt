@@ -164,8 +164,8 @@ impl<C: Paced + Drop, W: Congestion + Drop> Flow<C, W> {
 
 ghost use Rattle.tcp_flow.specs.Flow.{drops_after};
 
-/// How many partial acknowledgements in a row covered no more than was sent again, behind one of `acked` bytes in a recovery, which
-/// says that the peer has kept something, or doesn't.
+/// How many partial acknowledgements in a row of a recovery covered no more than was sent again, behind an acknowledgement of `acked`
+/// bytes in it, which says that the peer has kept something, or doesn't. What says that it keeps nothing stays known behind the recovery.
 fn drops_after(before: u8, smss: u64, acked: u64, partial: bool, kept: bool) -> u8
     ensures { result ≡ drops_after before smss acked partial kept }
 {
@@ -175,9 +175,9 @@ fn drops_after(before: u8, smss: u64, acked: u64, partial: bool, kept: bool) -> 
         } else {
             MOST_DROPS.min(before.saturating_add(1))
         }
-    } else if kept {
-        0
+    } else if before == MOST_DROPS && !kept {
+        MOST_DROPS
     } else {
-        before
+        0
     }
 }

@@ -254,13 +254,13 @@ module _ {S L : Type 0} (cmp : Pair → Pair → Ordering) where
 
   abbrev pub IsUnopened : Hosting S L → Pair → S → NotOpened S → Type 0
   IsUnopened h pair end (opening.HasRecord back) = (back ≡ end) × HasRecordOf h pair
-  IsUnopened h pair end (opening.NoMemory back) = back ≡ end
+  IsUnopened h pair end (opening.NoMemory back) = (back ≡ end) × LacksKey cmp h.records pair
 
   abbrev pub IsRefused : Hosting S L → Id → Pair → S → NotAdmitted S → Type 0
   IsRefused h origin pair end (admitting.Gone back) = (back ≡ end) × (slot_of h.listeners origin ≡ None)
   IsRefused h origin pair end (admitting.Full back) = (back ≡ end) × IsSomeAnd (value_at h.listeners origin.slot) (λ door. is_full door ≡ true)
   IsRefused h origin pair end (admitting.HasRecord back) = (back ≡ end) × HasRecordOf h pair
-  IsRefused h origin pair end (admitting.NoMemory back) = back ≡ end
+  IsRefused h origin pair end (admitting.NoMemory back) = (back ≡ end) × LacksKey cmp h.records pair
 
 -- ---- A DRIVER IS TOLD for a timer alone: where the deadline of one has come, a timer of it expires (RFC 6298, 5)
 abbrev pub ToldDriversExpire : {S : Type 0} → Machine S → Type 0

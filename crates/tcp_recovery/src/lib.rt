@@ -24,8 +24,8 @@
 //! 4. It calls [`Rack::recovered`] when all is acknowledged that was in flight when a loss was found.
 //! 5. It calls [`Probe::acked`] for each acknowledgement, [`Probe::measured`] for each round trip that is measured, and
 //!    [`Probe::recovering`] when a loss begins to be repaired, or the retransmission timer has expired. Behind these
-//!    [`Probe::start`] follows each segment that is sent or acknowledged, where the connection uses blocks, none has
-//!    been reported of what is in flight, and no loss is being repaired (RFC 8985, 7.2). There it also follows a
+//!    [`Probe::start`] follows each segment that is sent or acknowledged, where no block reports anything of what is in
+//!    flight, and no loss is being repaired (RFC 8985, 7.2, for connections with blocks). There it also follows a
 //!    duplicate acknowledgement, which acknowledges nothing, where no probe is in doubt behind it any more: `end_seq`
 //!    was `Some` before [`Probe::acked`], and is `None`. Else new text that was sent meanwhile would have no probe.
 //!    [`Probe::stop`] follows where nothing is in flight any more, or a block has been reported. At [`Probe::deadline`]

@@ -34,8 +34,8 @@ impl Probe {
         }
     }
 
-    /// Something was sent or acknowledged, or a probe is in doubt no more, on a connection that uses blocks, while none
-    /// has been reported of what is in flight and no loss is being repaired: a probe waits from now on (RFC 8985, 7.2).
+    /// Something was sent or acknowledged, or a probe is in doubt no more, while no block has reported anything of what
+    /// is in flight and no loss is being repaired: a probe waits from now on (RFC 8985, 7.2, for connections with blocks).
     /// It waits for two round trips and, where one segment alone is in flight, for the peer's delay; but until `rto_at`
     /// at most, when the retransmission timer expires. None waits while one is out, or before a round trip was measured
     /// behind the last one. The standard asks these two when the time has come, and where one of them fails it starts

@@ -10,8 +10,8 @@
 //!
 //! The caller's loop is that of a connection. With a recovery a lost segment goes out again about a round trip and a quarter after
 //! it was sent, once something that was sent later has come, which needs blocks, on which both SYNs have to agree (RFC 2018, 2);
-//! and where the last of what was sent is lost, it goes out again after two round trips. Without blocks the first segment does
-//! then, once until it is acknowledged.
+//! and where the last of what was sent is lost, it goes out again after two round trips. Without blocks the first two segments
+//! do then, once until the first is acknowledged.
 #![tactic(auto)]
 
 mod arriving;
