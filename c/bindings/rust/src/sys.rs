@@ -2,7 +2,7 @@
 use core::ffi::c_void;
 use core::ptr;
 
-pub(crate) const VERSION: u32 = 19;
+pub(crate) const VERSION: u32 = 20;
 pub(crate) const END_SIZE: usize = 416;
 pub(crate) const CONNECTION_SIZE: usize = 1136;
 pub(crate) const RECOVERY_MEMORY: usize = 2863;
