@@ -186,8 +186,8 @@ def order(row):
 
 
 def checked():
-    """Ours alone: compared, and with its column of the page."""
-    _, findings = run_all("ours")
+    """Ours alone: compared, and with its column of the page, its counts there, and what the page says was seen where a row isn't met."""
+    title, findings = run_all("ours")
     wrong = compared(findings)
     rows = [[cell.strip() for cell in line.split("|")[1:-1]] for line in (PAGE.read_text() if PAGE.exists() else "").split("\n")]
     heads = next((cells for cells in rows if cells[:1] == ["Row"] and HEADS["ours"] in cells), [])
@@ -197,6 +197,17 @@ def checked():
         if cell != sign("ours", row, findings[row.name]):
             wrong += 1
             print(f"conformance: {row.name}: the page has {cell}, and the run {findings[row.name].verdict}")
+    counts = next((cells for cells in rows if cells[:1] == [""] and title in cells), [])
+    for verdict in telling.ORDER[:-1]:
+        count = sum(found.verdict == verdict for found in findings.values())
+        cell = next((cells[counts.index(title)] for cells in rows if counts and cells[:1] == [verdict] and len(cells) == len(counts)), "nothing")
+        if cell != str(count):
+            wrong += 1
+            print(f"conformance: {verdict}: the page counts {cell}, and the run {count}")
+    told = {cells[1] for cells in rows if len(cells) == 3 and cells[0] == HEADS["ours"]}
+    for name in sorted(told ^ {name for name, found in findings.items() if found.verdict not in (telling.MET, telling.NOT_SEEN)}):
+        wrong += 1
+        print(f"conformance: {name}: {'it is met or not seen, and the page has' if name in told else 'the page has not'} what was seen instead")
     left_out = named()
     for number, asked, shown in requirements():
         wanted = [number, asked, state(number, shown, findings, left_out)[0]]
