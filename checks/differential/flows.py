@@ -57,20 +57,26 @@ class Flow:
         answer = self.driver.arrive(now, ack, min(gap, 1), fin, window, flags)
         if not answer.startswith("taken"):
             return answer
-        self.reported = gap
+        was, self.reported = self.reported, gap
         if self.path is None:
             return answer
-        self.told(now, before, is_duplicate, window)
+        # RFC 6937, 2: DeliveredData is by how much SND.UNA and what blocks report have grown.
+        self.told(now, before, max(0, self.end.una - before + gap - was), is_duplicate, window)
         if self.path.fast_recovery:
             self.path.keep_pipe(self.reported)
         self.settle()
         return answer
 
-    def told(self, now, before, is_duplicate, window):
+    def told(self, now, before, delivered, is_duplicate, window):
         self.is_shut = window == 0
         una, blocks = self.end.una, "reorder" in self.end.wants()
+        # By what blocks report it grows where losses are found by time: else a gap is found lost a round trip later.
+        if not self.driver.is_patient:
+            delivered = una - before
+        if una == before and delivered and not self.path.fast_recovery:
+            self.path.delivered(delivered, self.flight, now, self.driver.estimator.srtt or 0)
         if una > before:
-            said = self.progress(now, una - before, blocks)
+            said = self.progress(now, una - before, delivered, blocks)
         elif is_duplicate and self.is_shut:
             # RFC 9293, 3.8.6.1: it answers a probe.
             return
@@ -92,10 +98,10 @@ class Flow:
             else:
                 self.driver.uses("resend-first", now)
 
-    def progress(self, now, acked, blocks):
+    def progress(self, now, acked, delivered, blocks):
         """What is acknowledged in a recovery says whether the peer keeps what comes out of order, where no blocks say so."""
         recovering, cwnd = self.path.fast_recovery, self.path.cwnd
-        said = self.path.acknowledged(acked, self.end.una, self.flight, now, self.driver.estimator.srtt or 0)
+        said = self.path.acknowledged(acked if recovering else delivered, self.end.una, self.flight, now, self.driver.estimator.srtt or 0)
         if recovering and not blocks:
             if said.endswith("again"):
                 self.drops = 0 if acked > 2 * self.path.smss else min(2, self.drops + 1)

@@ -4,6 +4,8 @@ Segments that were sent, answers that went out and text that came are kept one b
 
 from fractions import Fraction
 
+from hystart import HyStart
+
 HIGH = 2**40
 
 
@@ -22,10 +24,18 @@ class Reno:
         self.fast_recovery = self.is_found = self.resent_by_timer = self.lost_before = False
         self.dupacks = self.bytes_acked = 0
         self.pipe = 0
+        self.start = HyStart()
 
     def slow_start(self, acked):
-        # RFC 3465, 2.2 and 2.3: L is for the first slow start, before any loss.
-        self.cwnd = min(HIGH, self.cwnd + min(acked, self.smss if self.lost_before else self.limit * self.smss))
+        # RFC 3465, 2.2 and 2.3, and RFC 9406, 4.3: L and HyStart++ are for the first slow start.
+        is_later = self.lost_before or self.ssthresh < HIGH
+        self.cwnd = min(HIGH, self.cwnd + (min(acked, self.smss) if is_later else self.start.growth(acked, self.smss, self.limit)))
+
+    def measured(self, trip, una, nxt):
+        """RFC 9406, 4.2, in the first slow start."""
+        if not self.fast_recovery and self.ssthresh == HIGH and self.start.measured(trip, una, nxt):
+            self.ssthresh = max(self.cwnd, 2 * self.smss)
+        return self.shown()
 
     def grow(self, acked, now, rtt):
         if self.cwnd < self.ssthresh:
@@ -47,11 +57,7 @@ class Reno:
         self.dupacks, self.resent_by_timer = 0, False
         self.pipe = max(0, self.pipe - acked)
         if not self.fast_recovery:
-            if Fraction(acked + flight, self.cwnd) < Fraction(1, 2):
-                self.unused(now)
-            else:
-                self.grow(acked, now, rtt)
-            return self.shown()
+            return self.delivered(acked, flight, now, rtt)
         if una >= self.recover:
             self.cwnd = min(self.ssthresh, max(flight, self.smss) + self.smss)
             self.fast_recovery, self.bytes_acked = False, 0
@@ -62,6 +68,15 @@ class Reno:
         self.cwnd = max(self.cwnd, self.smss)
         # RFC 6582, 1: where losses are found by time, that says what else is lost.
         return self.shown("" if self.is_found else "again")
+
+    def delivered(self, count, flight, now=0, rtt=0):
+        """RFC 6937, 2: DeliveredData is what is acknowledged, and what blocks report more."""
+        if not self.fast_recovery:
+            if Fraction(count + flight, self.cwnd) < Fraction(1, 2):
+                self.unused(now)
+            else:
+                self.grow(count, now, rtt)
+        return self.shown()
 
     def begin_recovery(self, left, flight, nxt):
         """RFC 5681, 3.2, 2 and 3, with so many segments that have left the network."""
@@ -314,7 +329,7 @@ class Windows:
     MADE = {"reno": Reno, "cubic": Cubic, "delayed": Delayed, "sws": Sws, "limiter": Limiter}
     CALLS = {
         **dict.fromkeys(
-            ("acknowledged", "duplicate", "reported", "lost", "lost-again", "finds-by-time", "keep-pipe", "timed-out", "resent", "may-resend", "syn-lost", "idle", "room"), "path"
+            ("acknowledged", "delivered", "duplicate", "reported", "lost", "lost-again", "finds-by-time", "keep-pipe", "timed-out", "resent", "measured", "may-resend", "syn-lost", "idle", "room"), "path"
         ),
         **dict.fromkeys(("arrived", "answered", "due"), "delayed"),
         **dict.fromkeys(("window", "segment"), "sws"),
@@ -343,6 +358,16 @@ def curve(smss, start, rounds, rtt):
     return [f"acknowledged {20 * smss + n * smss // 2} 130001 {20 * smss} {start + n * rtt} {rtt}" for n in range(1, rounds + 1)]
 
 
+def longer(smss, trips):
+    """Rounds of nine acknowledgements, each of which measures the round trip of its round."""
+    lines, una = [], 1
+    for trip in trips:
+        for _ in range(9):
+            una += smss
+            lines += [f"acknowledged {smss} {una} {1000 * smss}", f"measured {trip} {una} {una + 9 * smss}"]
+    return lines
+
+
 # In segments of 100 bytes: slow start, a loss that the third duplicate finds with a partial acknowledgement and a full one, congestion
 # avoidance, duplicates of what was sent again, and two timeouts in a row.
 WORKED = [
@@ -368,6 +393,11 @@ WORKED = [
     "lost 16501 6000 22501", "acknowledged 6000 22501 0", "timed-out 4000 26501", "lost 22501 4000 26501", "acknowledged 2000 24501 2000",
     "acknowledged 2000 26501 2000", "lost 26501 2000 28501", "reno 1000 2", "lost 1 500 501", "reno 1000", "reported", "duplicate 1 3000 3001",
     "duplicate 1 3000 3001", "reported", "duplicate 1 3000 3001",
+    # Round trips that become longer end the first slow start, unless they become shorter again; neither in a recovery nor behind one.
+    "reno 1000", *longer(1000, (50_000, 60_000, 70_000, 80_000, 90_000, 100_000, 110_000, 120_000)), "reno 1000 2",
+    *longer(1000, (50_000, 50_000, 57_000, 50_000, 54_000, 55_000, 62_000)), "cubic 1000", *longer(1000, (20_000, 40_000, 30_000, 60_000, 60_000, 60_000, 60_000, 60_000)),
+    "reno 1000", "lost 1 20000 20001", *longer(1000, (50_000, 60_000, 70_000)), "cubic 1000 8", "measured 0 1 1", "acknowledged 20000 20001 20000",
+    "measured 4611686018427387904 20001 40001", "timed-out 20000 40001", *longer(1000, (50_000, 60_000)),
     # What was sent again was lost again, and once more: each time the window shrinks, and the recovery lasts until what is in flight then is
     # acknowledged.
     "reno 1000 8", "acknowledged 9000 9001 30000", "reported", "lost 9001 30000 39001", "finds-by-time", "reported", "lost-again", "reported", "lost-again",
@@ -377,6 +407,12 @@ WORKED = [
     "reno 1000", "keep-pipe 3000", "lost 1 20000 20001", "keep-pipe 0", "keep-pipe 7000", "acknowledged 12000 12001 8000", "keep-pipe 0",
     "keep-pipe 2500", "keep-pipe 2305843009213693952", "finds-by-time", "keep-pipe 0", "lost-again", "keep-pipe 1", "acknowledged 9000 21001 0", "keep-pipe 9",
     "cubic 1000", "lost 1 20000 20001", "keep-pipe 4000", "timed-out 20000 20001", "keep-pipe 4000",
+    # What blocks report more lets the window grow as what is acknowledged does: in slow start and past ssthresh, but not in a recovery, nor
+    # where half of the window isn't used.
+    "reno 1000", "delivered 1000 9000 1000 0", "delivered 4000 9000 1000 0", "delivered 1000 3000 1000 0", "lost 1 20000 20001",
+    "delivered 1000 20000 2000 0", "acknowledged 20000 20001 9000", "delivered 9000 9000 3000 0", "acknowledged 3000 23001 9000",
+    "cubic 1000", "delivered 1000 9000 1000 0", "lost 1 20000 20001", "delivered 1000 9000 2000 0", "acknowledged 20000 20001 9000 3000 50000",
+    "delivered 8000 9000 60000 50000", "delivered 8000 9000 120000 50000", "delivered 100 200 180000 50000",
     # CUBIC: up to ssthresh and past it by slow start, below W_max by the curve, past it, with a second loss below the first one's window;
     # a path so short that Reno's window is greater; half of a window in use, an idle time, and a timeout, behind which W_max is the window.
     "cubic 0", "cubic 1460 9", "cubic 65535 8", "cubic 1000 2", *curve(1000, 0, 20, 100_000), "lost 40001 40000 90001", "acknowledged 50000 90001 28000 2100000 100000",
@@ -423,8 +459,10 @@ def random_calls(draw, count):
                 una += acked
                 rtt = draw.choice((0, 500, 50_000, 2**draw.randrange(62)))
                 yield f"acknowledged {acked} {una} {nxt - una} {draw.choice((now,) * 30 + (2**draw.randrange(62),))} {rtt}"
+                if draw.randrange(2):
+                    yield f"measured {draw.choice((20_000, 30_000, 40_000, 2**draw.randrange(62)))} {una} {nxt}"
         elif kind < 10:
-            yield from [draw.choice((f"duplicate {una} {nxt - una} {nxt}", "reported", f"lost {una} {nxt - una} {nxt}"))] * draw.randrange(1, 6)
+            yield from [draw.choice((f"duplicate {una} {nxt - una} {nxt}", "reported", f"delivered {size} {nxt - una} {now} 0", f"lost {una} {nxt - una} {nxt}"))] * draw.randrange(1, 6)
         elif kind == 10:
             yield draw.choice((f"timed-out {nxt - una} {nxt}", f"timed-out {nxt - una} {nxt}", "lost-again", "finds-by-time", f"keep-pipe {size}", f"resent {size}", "may-resend", "syn-lost", "idle"))
             yield from ("may-resend", f"resent {draw.choice((size, 2**61))}", "may-resend")

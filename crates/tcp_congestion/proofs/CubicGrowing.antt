@@ -4,10 +4,11 @@ use Rattle.std.specs.Prelude.{min, max, nat_le, nat_lt, if◌then◌else◌}
 use Rattle.std.proofs.Math.Nat.{div-le_of_le-mul}
 use Rattle.std.proofs.lemmas.Nat.{mul-le}
 use Rattle.std.proofs.lemmas.Bool.Decides.{nat_tests}
+use Rattle.tcp_congestion.proofs.Longer.{started-le}
 use Rattle.tcp_congestion.specs.Sizes.{latest, max_window}
-use Rattle.tcp_congestion.specs.Reno.{Window, begins_recovery, counted, deflated, inflated, is_new_loss, is_third, is_used, recovered, slow_started, with_progress}
+use Rattle.tcp_congestion.specs.Reno.{Window, begins_recovery, counted, deflated, has_pipe, inflated, is_new_loss, is_third, is_used, recovered, slow_started, started_by, with_progress}
 use Rattle.tcp_congestion.specs.Cubic.{CubicWindow, IsCubic, parts, after_loss, approached, after_growth, avoided, befriended, est_rate, estimated, grown, in_stage, is_friendly, recovering, reduced, stage_begun, target_of, timed}
-use Rattle.tcp_congestion.specs.CubicGrowth.{TimedAcknowledgement, CubicEvent, Acknowledges, Duplicates, Reports, Loses, AllShortOf, CubicGrowsByHalf, CubicGrowthIsAcknowledged, CubicIsFriendly, CubicLossShrinks, CubicOneLossAWindow, IsShortOf, after_acks, after_event, after_events, total as total_of, reached}
+use Rattle.tcp_congestion.specs.CubicGrowth.{TimedAcknowledgement, CubicEvent, Acknowledges, Duplicates, Reports, Loses, Finds, Pipes, Measures, AllShortOf, CubicGrowsByHalf, CubicGrowthIsAcknowledged, CubicIsFriendly, CubicLossShrinks, CubicOneLossAWindow, IsShortOf, after_acks, after_event, after_events, total as total_of, reached}
 
 -- the window and W_est, in parts of a byte, are within a bound
 record IsWithin (v : CubicWindow) (bound : ℕ) : Type 0 where
@@ -162,8 +163,9 @@ slow w v acked bound h =
     let est = h.within.est in
     let l = h.kept.least in
     let m = h.most in
+    let s : started_by v.window acked ≤ acked = started-le v.window acked in
     record {
-      within = record { wide = omega (arith, wide); est = omega (arith, est) };
+      within = record { wide = omega (arith, wide, s); est = omega (arith, est) };
       kept = record { smss = h.kept.smss; threshold = h.kept.threshold; open_still = h.kept.open_still; least = omega (arith, l, m) };
       most = omega arith;
     }
@@ -194,9 +196,12 @@ use-by w v acked now rtt bound each false two least more h =
     wider w (record v { counted = now }) bound (bound + acked * each) (omega arith)
     (record { within = record { wide = h.within.wide; est = h.within.est }; kept = h.kept; most = h.most })
 
-when-open : (P : CubicWindow → Type 0) (v x y : CubicWindow) (b : Bool) → b ≡ false → P y → P (if b then x else y)
-when-open P v x y true e h = absurd (cc)
-when-open P v x y false e h = h
+-- an acknowledgement is one of growth where fast recovery doesn't go on, and so is one by blocks
+by-blocks : (P : CubicWindow → Type 0) (v x y z : CubicWindow) (by_blocks b : Bool) → b ≡ false → P z → P y
+    → P (if by_blocks then (if b then v else z) else (if b then x else y))
+by-blocks P v x y z by_blocks true e h i = absurd (cc)
+by-blocks P v x y z true false e h i = h
+by-blocks P v x y z false false e h i = i
 
 -- ---- over many
 abbrev start : CubicWindow → ℕ
@@ -230,7 +235,12 @@ grew c each is calm least more (ack ∷ earlier) =
     use-by c.window p ack.acked ack.now ack.rtt (start c + total_of earlier * each) each (is_used p.window ack.acked ack.flight) two least
     (λ e. more v.window.cwnd h.kept.least (at-threshold v.window.cwnd v.window.ssthresh c.window.ssthresh t e)) k in
     let sum : (start c + total_of earlier * each) + ack.acked * each ≤ start c + (ack.acked + total_of earlier) * each = omega arith in
-    when-open (λ u. Grows c.window u (start c + (ack.acked + total_of earlier) * each)) v _ _ v.window.is_recovering shut
+    let other : Grows c.window (after_growth v ack.acked ack.flight ack.now ack.rtt) ((start c + total_of earlier * each) + ack.acked * each) =
+    use-by c.window v ack.acked ack.now ack.rtt (start c + total_of earlier * each) each (is_used v.window ack.acked ack.flight) two least
+    (λ e. more v.window.cwnd h.kept.least (at-threshold v.window.cwnd v.window.ssthresh c.window.ssthresh t e)) h in
+    by-blocks (λ u. Grows c.window u (start c + (ack.acked + total_of earlier) * each)) v _ _ _ ack.by_blocks v.window.is_recovering shut
+    (wider c.window (after_growth v ack.acked ack.flight ack.now ack.rtt) ((start c + total_of earlier * each) + ack.acked * each)
+    (start c + (ack.acked + total_of earlier) * each) sum other)
     (wider c.window (after_growth p ack.acked ack.flight ack.now ack.rtt) ((start c + total_of earlier * each) + ack.acked * each)
     (start c + (ack.acked + total_of earlier) * each) sum one)
 
@@ -376,15 +386,37 @@ not-new : (v x : CubicWindow) (past : Bool) (ssthresh w_max snd_nxt : ℕ) (b : 
 not-new v x past ssthresh w_max snd_nxt true e h = h
 not-new v x past ssthresh w_max snd_nxt false e h = let g = h.going in absurd (cc)
 
+acking : (v x y z : CubicWindow) (by_blocks : Bool) (ssthresh w_max snd_nxt : ℕ) (b : Bool) → v.window.is_recovering ≡ b → IsRepaired v ssthresh w_max snd_nxt
+    → IsRepaired (if b then x else y) ssthresh w_max snd_nxt
+    → IsRepaired (if by_blocks then (if b then v else z) else (if b then x else y)) ssthresh w_max snd_nxt
+acking v x y z true ssthresh w_max snd_nxt true e h i = h
+acking v x y z true ssthresh w_max snd_nxt false e h i = let g = h.going in absurd (cc)
+acking v x y z false ssthresh w_max snd_nxt b e h i = i
+
+piping : (v : CubicWindow) (cwnd ssthresh w_max snd_nxt : ℕ) (b : Bool) → IsRepaired v ssthresh w_max snd_nxt
+    → IsRepaired (record v { window = if b then record v.window { cwnd = cwnd } else v.window }) ssthresh w_max snd_nxt
+piping v cwnd ssthresh w_max snd_nxt true h = record { threshold = h.threshold; most = h.most; recover = h.recover; going = h.going }
+piping v cwnd ssthresh w_max snd_nxt false h = record { threshold = h.threshold; most = h.most; recover = h.recover; going = h.going }
+
+measuring : (v : CubicWindow) (x : Window) (ssthresh w_max snd_nxt : ℕ) (b : Bool) → v.window.is_recovering ≡ b → IsRepaired v ssthresh w_max snd_nxt
+    → IsRepaired (record v { window = if b then v.window else x }) ssthresh w_max snd_nxt
+measuring v x ssthresh w_max snd_nxt true e h = record { threshold = h.threshold; most = h.most; recover = h.recover; going = h.going }
+measuring v x ssthresh w_max snd_nxt false e h = let g = h.going in absurd (cc)
+
 repairs : (v : CubicWindow) (ssthresh w_max snd_nxt : ℕ) (event : CubicEvent) → IsShortOf snd_nxt event → IsRepaired v ssthresh w_max snd_nxt
     → IsRepaired (after_event v event) ssthresh w_max snd_nxt
 repairs v ssthresh w_max snd_nxt (Acknowledges ack) short h =
-    partial v _ ack.acked ack.snd_una ack.flight ssthresh w_max snd_nxt v.window.is_recovering (nat_lt ack.snd_una v.window.recover) refl refl short h
+    acking v _ _ _ ack.by_blocks ssthresh w_max snd_nxt v.window.is_recovering refl h
+    (partial v _ ack.acked ack.snd_una ack.flight ssthresh w_max snd_nxt v.window.is_recovering (nat_lt ack.snd_una v.window.recover) refl refl short h)
 repairs v ssthresh w_max snd_nxt (Duplicates snd_una flight nxt) short h =
     duplicating v _ (is_third v.window snd_una) ssthresh w_max snd_nxt v.window.is_recovering refl h
 repairs v ssthresh w_max snd_nxt Reports short h = reporting v ssthresh w_max snd_nxt v.window.is_recovering refl h
 repairs v ssthresh w_max snd_nxt (Loses snd_una flight nxt) short h =
     not-new v _ (nat_le v.window.recover snd_una) ssthresh w_max snd_nxt v.window.is_recovering refl h
+repairs v ssthresh w_max snd_nxt Finds short h = record { threshold = h.threshold; most = h.most; recover = h.recover; going = h.going }
+repairs v ssthresh w_max snd_nxt (Pipes reported) short h =
+    piping v (min max_window (v.window.ssthresh + reported)) ssthresh w_max snd_nxt (has_pipe v.window reported) h
+repairs v ssthresh w_max snd_nxt (Measures trip snd_una nxt) short h = measuring v _ ssthresh w_max snd_nxt v.window.is_recovering refl h
 
 all-repair : (v : CubicWindow) (ssthresh w_max snd_nxt : ℕ) (events : List CubicEvent) → AllShortOf snd_nxt events → IsRepaired v ssthresh w_max snd_nxt
     → IsRepaired (after_events v events) ssthresh w_max snd_nxt

@@ -3,9 +3,10 @@ use Rattle.std.proofs.Common.{◌≡◌, ℕ, suc, ◌+◌, ◌-◌, ◌*◌, �
 use Rattle.std.specs.Prelude.{min, max, nat_le, nat_lt, ◌==◌, if◌then◌else◌}
 use Rattle.std.proofs.Math.Nat.{mul-le-mul_left}
 use Rattle.std.proofs.lemmas.Bool.Decides.{nat_tests}
+use Rattle.tcp_congestion.proofs.Longer.{started-le}
 use Rattle.tcp_congestion.specs.Sizes.{max_window}
-use Rattle.tcp_congestion.specs.Reno.{Window, IsWindow, with_progress, is_used, avoided, slow_started, grown, after_growth, after_recovering, is_new_loss, is_third, after_loss, recovered, deflated, begun, halved, inflated, limited}
-use Rattle.tcp_congestion.specs.Growth.{Acknowledgement, AllShortOf, AvoidanceIsSlow, Event, Acknowledges, Duplicates, Reports, Loses, IsShortOf, OneLossAWindow, after_event, after_events, GrowthIsAcknowledged, LossShrinks, FlightStaysInWindow, ResendsStayInWindow, after_acks, total as total_of}
+use Rattle.tcp_congestion.specs.Reno.{Window, IsWindow, with_progress, is_used, avoided, slow_started, started_by, grown, after_growth, after_recovering, has_pipe, is_new_loss, is_third, after_loss, recovered, deflated, begun, halved, inflated, limited}
+use Rattle.tcp_congestion.specs.Growth.{Acknowledgement, AllShortOf, AvoidanceIsSlow, Event, Acknowledges, Duplicates, Reports, Loses, Delivers, Finds, Pipes, Measures, IsShortOf, OneLossAWindow, after_event, after_events, GrowthIsAcknowledged, LossShrinks, FlightStaysInWindow, ResendsStayInWindow, after_acks, total as total_of}
 
 -- so far: it grew this many times, and what was acknowledged is used up or kept
 record Grew (w v : Window) (total : ℕ) : Type 0 where
@@ -72,12 +73,15 @@ progressed w v total acked h = record {
   open_still = h.open_still;
 }
 
--- an acknowledgement is one of growth where fast recovery doesn't go on
-when-open : (P : Window → Type 0) (w : Window) (acked snd_una flight : ℕ) (b : Bool) → w.is_recovering ≡ b → b ≡ false
-    → P (after_growth (with_progress w acked) acked flight)
-    → P (if b then after_recovering (with_progress w acked) acked snd_una flight else after_growth (with_progress w acked) acked flight)
-when-open P w acked snd_una flight true e calm h = absurd (cc)
-when-open P w acked snd_una flight false e calm h = h
+-- an acknowledgement is one of growth where fast recovery doesn't go on, and so is one by blocks
+by-blocks : (P : Window → Type 0) (w : Window) (ack : Acknowledgement) (b by_blocks : Bool) → w.is_recovering ≡ b → b ≡ false
+    → P (after_growth w ack.acked ack.flight) → P (after_growth (with_progress w ack.acked) ack.acked ack.flight)
+    → P (if by_blocks then (if b then w else after_growth w ack.acked ack.flight)
+    else (if b then after_recovering (with_progress w ack.acked) ack.acked ack.snd_una ack.flight
+    else after_growth (with_progress w ack.acked) ack.acked ack.flight))
+by-blocks P w ack true by_blocks e calm h i = absurd (cc)
+by-blocks P w ack false true e calm h i = h
+by-blocks P w ack false false e calm h i = i
 
 grew : (w : Window) (acks : List Acknowledgement) → IsWindow w → w.is_recovering ≡ false → w.ssthresh ≤ w.cwnd → Grew w (after_acks w acks) (total_of acks)
 grew w [] is calm past = record {
@@ -94,8 +98,9 @@ grew w (ack ∷ earlier) is calm past =
     let h : Grew w (after_acks w earlier) (total_of earlier) = grew w earlier is calm past in
     let t = h.threshold in
     let l = h.least in
-    when-open (λ v. Grew w v (ack.acked + total_of earlier)) (after_acks w earlier) ack.acked ack.snd_una ack.flight
-    (after_acks w earlier).is_recovering refl h.open_still
+    by-blocks (λ v. Grew w v (ack.acked + total_of earlier)) (after_acks w earlier) ack
+    (after_acks w earlier).is_recovering ack.by_blocks refl h.open_still
+    (by-use w (after_acks w earlier) (total_of earlier) ack.acked (is_used (after_acks w earlier) ack.acked ack.flight) (omega (arith, t, l, past)) h)
     (by-use w (with_progress (after_acks w earlier) ack.acked) (total_of earlier) ack.acked (is_used (after_acks w earlier) ack.acked ack.flight)
     (omega (arith, t, l, past)) (progressed w (after_acks w earlier) (total_of earlier) ack.acked h))
 
@@ -131,7 +136,8 @@ most-by-phase w v total acked true h =
     let b = h.both in
     let l = h.least in
     let m = h.most in
-    record { both = omega (arith, b); least = omega (arith, l, m); most = omega arith; open_still = h.open_still }
+    let s : started_by v acked ≤ acked = started-le v acked in
+    record { both = omega (arith, b, s); least = omega (arith, l, m); most = omega arith; open_still = h.open_still }
 most-by-phase w v total acked false h =
     most-by-size w v total (v.bytes_acked + min acked v.cwnd) acked (nat_le v.cwnd (v.bytes_acked + min acked v.cwnd)) refl h (omega arith)
 
@@ -145,8 +151,9 @@ grew-at-most w (ack ∷ earlier) is calm =
     let h : GrewAtMost w (after_acks w earlier) (total_of earlier) = grew-at-most w earlier is calm in
     let p : GrewAtMost w (with_progress (after_acks w earlier) ack.acked) (total_of earlier) =
     record { both = h.both; least = h.least; most = h.most; open_still = h.open_still } in
-    when-open (λ v. GrewAtMost w v (ack.acked + total_of earlier)) (after_acks w earlier) ack.acked ack.snd_una ack.flight
-    (after_acks w earlier).is_recovering refl h.open_still
+    by-blocks (λ v. GrewAtMost w v (ack.acked + total_of earlier)) (after_acks w earlier) ack
+    (after_acks w earlier).is_recovering ack.by_blocks refl h.open_still
+    (most-by-use w (after_acks w earlier) (total_of earlier) ack.acked (is_used (after_acks w earlier) ack.acked ack.flight) h)
     (most-by-use w (with_progress (after_acks w earlier) ack.acked) (total_of earlier) ack.acked (is_used (after_acks w earlier) ack.acked ack.flight) p)
 
 pub acknowledged_lem : GrowthIsAcknowledged
@@ -256,6 +263,16 @@ not-new : (v x : Window) (c : Bool) (ssthresh snd_nxt : ℕ) (b : Bool) → v.is
 not-new v x c ssthresh snd_nxt true e h = h
 not-new v x c ssthresh snd_nxt false e h = let g = h.going in absurd (cc)
 
+delivering : (v x : Window) (ssthresh snd_nxt : ℕ) (b : Bool) → v.is_recovering ≡ b → IsRepaired v ssthresh snd_nxt
+    → IsRepaired (if b then v else x) ssthresh snd_nxt
+delivering v x ssthresh snd_nxt true e h = h
+delivering v x ssthresh snd_nxt false e h = let g = h.going in absurd (cc)
+
+piping : (v : Window) (cwnd ssthresh snd_nxt : ℕ) (b : Bool) → IsRepaired v ssthresh snd_nxt
+    → IsRepaired (if b then record v { cwnd = cwnd } else v) ssthresh snd_nxt
+piping v cwnd ssthresh snd_nxt true h = record { threshold = h.threshold; recover = h.recover; going = h.going }
+piping v cwnd ssthresh snd_nxt false h = h
+
 repairs : (v : Window) (ssthresh snd_nxt : ℕ) (event : Event) → IsShortOf snd_nxt event → IsRepaired v ssthresh snd_nxt
     → IsRepaired (after_event v event) ssthresh snd_nxt
 repairs v ssthresh snd_nxt (Acknowledges acked snd_una flight) short h =
@@ -263,6 +280,10 @@ repairs v ssthresh snd_nxt (Acknowledges acked snd_una flight) short h =
 repairs v ssthresh snd_nxt (Duplicates snd_una flight snd_nxt') short h = inflating v _ ssthresh snd_nxt v.is_recovering refl h
 repairs v ssthresh snd_nxt Reports short h = inflating v _ ssthresh snd_nxt v.is_recovering refl h
 repairs v ssthresh snd_nxt (Loses snd_una flight snd_nxt') short h = not-new v _ (nat_le v.recover snd_una) ssthresh snd_nxt v.is_recovering refl h
+repairs v ssthresh snd_nxt (Delivers count flight) short h = delivering v _ ssthresh snd_nxt v.is_recovering refl h
+repairs v ssthresh snd_nxt Finds short h = record { threshold = h.threshold; recover = h.recover; going = h.going }
+repairs v ssthresh snd_nxt (Pipes reported) short h = piping v (min max_window (v.ssthresh + reported)) ssthresh snd_nxt (has_pipe v reported) h
+repairs v ssthresh snd_nxt (Measures trip snd_una snd_nxt') short h = delivering v _ ssthresh snd_nxt v.is_recovering refl h
 
 all-repair : (v : Window) (ssthresh snd_nxt : ℕ) (events : List Event) → AllShortOf snd_nxt events → IsRepaired v ssthresh snd_nxt
     → IsRepaired (after_events v events) ssthresh snd_nxt

@@ -3,4 +3,6 @@ mod Roots
 mod CubicGrowing
 mod Apart
 mod Late
+mod Longer
 mod Silly
+mod Compared

@@ -1,5 +1,5 @@
 -- The window that a connection has: none, Reno's or CUBIC's, as functions of it, each of which is that of its case.
-use Rattle.std.specs.Prelude.{ℕ, ◌-◌, Bool, false, true}
+use Rattle.std.specs.Prelude.{◌-◌, false, true}
 use Rattle.tcp_congestion.specs.Control.{Control, reno_control, cubic_control}
 use Rattle.tcp_congestion.specs.Cubic.{CubicWindow}
 use Rattle.tcp_congestion.specs.Reno.{Window}
@@ -31,6 +31,8 @@ any_control = record {
   is_partial = λ w snd_una. of_each (λ r. reno_control.is_partial r snd_una) (λ c. cubic_control.is_partial c snd_una) false w;
   acknowledged = λ w acked snd_una flight now rtt.
       each_after (λ r. reno_control.acknowledged r acked snd_una flight now rtt) (λ c. cubic_control.acknowledged c acked snd_una flight now rtt) w;
+  delivered = λ w count flight now rtt.
+      each_after (λ r. reno_control.delivered r count flight now rtt) (λ c. cubic_control.delivered c count flight now rtt) w;
   begins_recovery = λ w snd_una. of_each (λ r. reno_control.begins_recovery r snd_una) (λ c. cubic_control.begins_recovery c snd_una) false w;
   duplicated = λ w snd_una flight snd_nxt.
       each_after (λ r. reno_control.duplicated r snd_una flight snd_nxt) (λ c. cubic_control.duplicated c snd_una flight snd_nxt) w;
@@ -43,6 +45,8 @@ any_control = record {
   timed_out = λ w flight snd_nxt. each_after (λ r. reno_control.timed_out r flight snd_nxt) (λ c. cubic_control.timed_out c flight snd_nxt) w;
   may_resend = λ w. of_each reno_control.may_resend cubic_control.may_resend true w;
   resent = λ w count. each_after (λ r. reno_control.resent r count) (λ c. cubic_control.resent c count) w;
+  measured = λ w trip snd_una snd_nxt.
+      each_after (λ r. reno_control.measured r trip snd_una snd_nxt) (λ c. cubic_control.measured c trip snd_una snd_nxt) w;
   agreed = λ w smss. each_after (λ r. reno_control.agreed r smss) (λ c. cubic_control.agreed c smss) w;
   syn_resent = λ w. each_after reno_control.syn_resent cubic_control.syn_resent w;
   idle = λ w. each_after reno_control.idle cubic_control.idle w;

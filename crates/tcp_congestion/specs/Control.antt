@@ -18,6 +18,8 @@ pub record Control (W : Type 0) : Type 0 where
   -- something was acknowledged: whether the first segment goes out again, and the state after it
   pub is_partial : W → ℕ → Bool
   pub acknowledged : W → ℕ → ℕ → ℕ → ℕ → ℕ → W
+  -- blocks report so many bytes more, and SND.UNA stays
+  pub delivered : W → ℕ → ℕ → ℕ → ℕ → W
   -- a duplicate acknowledgement, by number or with a new block
   pub begins_recovery : W → ℕ → Bool
   pub duplicated : W → ℕ → ℕ → ℕ → W
@@ -34,6 +36,8 @@ pub record Control (W : Type 0) : Type 0 where
   -- what is sent again
   pub may_resend : W → Bool
   pub resent : W → ℕ → W
+  -- behind an acknowledgement a round trip was measured
+  pub measured : W → ℕ → ℕ → ℕ → W
   -- both SYNs agreed on SMSS, a SYN was lost, or nothing was sent for long
   pub agreed : W → ℕ → W
   pub syn_resent : W → W
@@ -49,6 +53,7 @@ reno_control = record {
   is_recovering = λ w. w.is_recovering;
   is_partial = λ w snd_una. reno.is_partial w snd_una;
   acknowledged = λ w acked snd_una flight now rtt. reno.after_acknowledgement w acked snd_una flight;
+  delivered = λ w count flight now rtt. reno.after_delivery w count flight;
   begins_recovery = λ w snd_una. reno.begins_recovery w snd_una;
   duplicated = λ w snd_una flight snd_nxt. reno.after_duplicate w snd_una flight snd_nxt;
   reported = λ w. reno.after_report w;
@@ -60,6 +65,7 @@ reno_control = record {
   timed_out = λ w flight snd_nxt. reno.after_timeout w flight snd_nxt;
   may_resend = λ w. reno.may_resend w;
   resent = λ w count. reno.after_resent w count;
+  measured = λ w trip snd_una snd_nxt. reno.after_measurement w trip snd_una snd_nxt;
   agreed = λ w smss. reno.after_agreement w smss;
   syn_resent = λ w. reno.after_syn_resent w;
   idle = λ w. reno.after_idle w;
@@ -75,6 +81,7 @@ cubic_control = record {
   is_recovering = λ c. c.window.is_recovering;
   is_partial = λ c snd_una. reno.is_partial c.window snd_una;
   acknowledged = λ c acked snd_una flight now rtt. cubic.after_acknowledgement c acked snd_una flight now rtt;
+  delivered = λ c count flight now rtt. cubic.after_delivery c count flight now rtt;
   begins_recovery = λ c snd_una. reno.begins_recovery c.window snd_una;
   duplicated = λ c snd_una flight snd_nxt. cubic.after_duplicate c snd_una flight snd_nxt;
   reported = λ c. cubic.after_report_of c;
@@ -86,6 +93,7 @@ cubic_control = record {
   timed_out = λ c flight snd_nxt. cubic.after_timeout c flight snd_nxt;
   may_resend = λ c. reno.may_resend c.window;
   resent = λ c count. record c { window = reno.after_resent c.window count };
+  measured = λ c trip snd_una snd_nxt. record c { window = reno.after_measurement c.window trip snd_una snd_nxt };
   agreed = λ c smss. record c { window = reno.after_agreement c.window smss };
   syn_resent = λ c. record c { window = reno.after_syn_resent c.window };
   idle = λ c. cubic.after_idle_time c;

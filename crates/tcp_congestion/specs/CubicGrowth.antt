@@ -1,20 +1,27 @@
 -- How CUBIC's window grows and shrinks (RFC 9438), over many acknowledgements.
-use Rattle.std.specs.Prelude.{◌≡◌, ℕ, ◌+◌, ◌*◌, ◌/◌, ◌<◌, ◌≤◌, max, true, false, if◌then◌else◌, List, [], ◌∷◌}
-use Rattle.tcp_congestion.specs.Reno.{begins_recovery, is_new_loss, is_used}
-use Rattle.tcp_congestion.specs.Cubic.{CubicWindow, IsCubic, parts, is_friendly, after_acknowledgement, after_duplicate, after_loss, after_report_of, after_timeout}
+use Rattle.std.specs.Prelude.{◌≡◌, ℕ, ◌+◌, ◌*◌, ◌/◌, ◌<◌, ◌≤◌, max, Bool, true, false, if◌then◌else◌, List, [], ◌∷◌}
+use Rattle.tcp_congestion.specs.Reno.{after_finding, after_measurement, begins_recovery, is_new_loss, is_used, with_pipe}
+use Rattle.tcp_congestion.specs.Cubic.{CubicWindow, IsCubic, parts, is_friendly, after_acknowledgement, after_delivery, after_duplicate, after_loss, after_report_of, after_timeout}
 
--- an acknowledgement, its time, and the smoothed round trip then
+-- an acknowledgement, its time, the smoothed round trip then, and whether it tells by blocks, while SND.UNA stays
 pub record TimedAcknowledgement : Type 0 where
   pub acked : ℕ
   pub snd_una : ℕ
   pub flight : ℕ
   pub now : ℕ
   pub rtt : ℕ
+  pub by_blocks : Bool
+
+abbrev pub after_ack : CubicWindow → TimedAcknowledgement → CubicWindow
+after_ack c ack =
+    if ack.by_blocks
+    then after_delivery c ack.acked ack.flight ack.now ack.rtt
+    else after_acknowledgement c ack.acked ack.snd_una ack.flight ack.now ack.rtt
 
 -- these came one after another, the newest of which comes first
 abbrev pub after_acks : CubicWindow → List TimedAcknowledgement → CubicWindow
 after_acks c [] = c
-after_acks c (ack ∷ earlier) = after_acknowledgement (after_acks c earlier) ack.acked ack.snd_una ack.flight ack.now ack.rtt
+after_acks c (ack ∷ earlier) = after_ack (after_acks c earlier) ack
 
 abbrev pub total : List TimedAcknowledgement → ℕ
 total [] = 0
@@ -66,18 +73,24 @@ pub record CubicShrinks (c : CubicWindow) (snd_una flight snd_nxt : ℕ) : Type 
 abbrev pub CubicLossShrinks : Type 0
 CubicLossShrinks = (c : CubicWindow) (snd_una flight snd_nxt : ℕ) → IsCubic c → CubicShrinks c snd_una flight snd_nxt
 
--- ---- what happens to a window, but for a timeout
+-- ---- what happens to a window, but for a timeout and a second loss of what was sent again
 pub data CubicEvent : Type 0 where
   Acknowledges : TimedAcknowledgement → CubicEvent
   Duplicates : ℕ → ℕ → ℕ → CubicEvent
   Reports : CubicEvent
   Loses : ℕ → ℕ → ℕ → CubicEvent
+  Finds : CubicEvent
+  Pipes : ℕ → CubicEvent
+  Measures : ℕ → ℕ → ℕ → CubicEvent
 
 abbrev pub after_event : CubicWindow → CubicEvent → CubicWindow
-after_event c (Acknowledges ack) = after_acknowledgement c ack.acked ack.snd_una ack.flight ack.now ack.rtt
+after_event c (Acknowledges ack) = after_ack c ack
 after_event c (Duplicates snd_una flight snd_nxt) = after_duplicate c snd_una flight snd_nxt
 after_event c Reports = after_report_of c
 after_event c (Loses snd_una flight snd_nxt) = after_loss c snd_una flight snd_nxt
+after_event c Finds = record c { window = after_finding c.window }
+after_event c (Pipes reported) = record c { window = with_pipe c.window reported }
+after_event c (Measures trip snd_una snd_nxt) = record c { window = after_measurement c.window trip snd_una snd_nxt }
 
 abbrev pub after_events : CubicWindow → List CubicEvent → CubicWindow
 after_events c [] = c
@@ -89,6 +102,9 @@ IsShortOf position (Acknowledges ack) = ack.snd_una < position
 IsShortOf position (Duplicates snd_una flight snd_nxt) = Unit {0}
 IsShortOf position Reports = Unit {0}
 IsShortOf position (Loses snd_una flight snd_nxt) = Unit {0}
+IsShortOf position Finds = Unit {0}
+IsShortOf position (Pipes reported) = Unit {0}
+IsShortOf position (Measures trip snd_una snd_nxt) = Unit {0}
 
 abbrev pub AllShortOf : ℕ → List CubicEvent → Type 0
 AllShortOf position [] = Unit {0}

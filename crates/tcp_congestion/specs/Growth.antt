@@ -1,17 +1,22 @@
 -- How the window grows and shrinks (RFC 5681, 3), over many acknowledgements.
-use Rattle.std.specs.Prelude.{◌≡◌, ℕ, ◌+◌, ◌*◌, ◌/◌, ◌<◌, ◌≤◌, max, true, false, List, [], ◌∷◌}
-use Rattle.tcp_congestion.specs.Reno.{Window, IsWindow, after_acknowledgement, after_duplicate, after_loss, after_report, after_timeout, after_resent, begins_recovery, is_new_loss, may_resend, room_of}
+use Rattle.std.specs.Prelude.{◌≡◌, ℕ, ◌+◌, ◌*◌, ◌/◌, ◌<◌, ◌≤◌, max, Bool, true, false, if◌then◌else◌, List, [], ◌∷◌}
+use Rattle.tcp_congestion.specs.Reno.{Window, IsWindow, after_acknowledgement, after_delivery, after_duplicate, after_finding, after_loss, after_measurement, after_report, after_timeout, after_resent, begins_recovery, is_new_loss, may_resend, room_of, with_pipe}
 
--- an acknowledgement: what it acknowledges anew, up to which position, and what is in flight behind it
+-- an acknowledgement: what it tells anew, up to which position all is acknowledged, what is in flight behind it, and whether it tells by
+-- blocks, while SND.UNA stays
 pub record Acknowledgement : Type 0 where
   pub acked : ℕ
   pub snd_una : ℕ
   pub flight : ℕ
+  pub by_blocks : Bool
+
+abbrev pub after_ack : Window → Acknowledgement → Window
+after_ack w ack = if ack.by_blocks then after_delivery w ack.acked ack.flight else after_acknowledgement w ack.acked ack.snd_una ack.flight
 
 -- these came one after another, the newest of which comes first
 abbrev pub after_acks : Window → List Acknowledgement → Window
 after_acks w [] = w
-after_acks w (ack ∷ earlier) = after_acknowledgement (after_acks w earlier) ack.acked ack.snd_una ack.flight
+after_acks w (ack ∷ earlier) = after_ack (after_acks w earlier) ack
 
 abbrev pub total : List Acknowledgement → ℕ
 total [] = 0
@@ -29,7 +34,8 @@ AvoidanceIsSlow =
     (w : Window) (acks : List Acknowledgement) → IsWindow w → w.is_recovering ≡ false → w.ssthresh ≤ w.cwnd
     → GrewSlowly w (after_acks w acks) (total acks)
 
--- NO FASTER THAN WHAT IS ACKNOWLEDGED, in slow start, too (RFC 5681, 3.1), so that a window is at most doubled in a round trip
+-- NO FASTER THAN WHAT IS TOLD ANEW, in slow start, too (RFC 5681, 3.1): what is told once lets a window be doubled in a round trip, at
+-- most
 abbrev pub GrowthIsAcknowledged : Type 0
 GrowthIsAcknowledged =
     (w : Window) (acks : List Acknowledgement) → IsWindow w → w.is_recovering ≡ false
@@ -49,18 +55,26 @@ pub record Shrinks (w : Window) (snd_una flight snd_nxt : ℕ) : Type 0 where
 abbrev pub LossShrinks : Type 0
 LossShrinks = (w : Window) (snd_una flight snd_nxt : ℕ) → Shrinks w snd_una flight snd_nxt
 
--- what happens to a window, but for a timeout
+-- what happens to a window, but for a timeout and a second loss of what was sent again
 pub data Event : Type 0 where
   Acknowledges : ℕ → ℕ → ℕ → Event
   Duplicates : ℕ → ℕ → ℕ → Event
   Reports : Event
   Loses : ℕ → ℕ → ℕ → Event
+  Delivers : ℕ → ℕ → Event
+  Finds : Event
+  Pipes : ℕ → Event
+  Measures : ℕ → ℕ → ℕ → Event
 
 abbrev pub after_event : Window → Event → Window
 after_event w (Acknowledges acked snd_una flight) = after_acknowledgement w acked snd_una flight
 after_event w (Duplicates snd_una flight snd_nxt) = after_duplicate w snd_una flight snd_nxt
 after_event w Reports = after_report w
 after_event w (Loses snd_una flight snd_nxt) = after_loss w snd_una flight snd_nxt
+after_event w (Delivers count flight) = after_delivery w count flight
+after_event w Finds = after_finding w
+after_event w (Pipes reported) = with_pipe w reported
+after_event w (Measures trip snd_una snd_nxt) = after_measurement w trip snd_una snd_nxt
 
 abbrev pub after_events : Window → List Event → Window
 after_events w [] = w
@@ -72,6 +86,10 @@ IsShortOf position (Acknowledges acked snd_una flight) = snd_una < position
 IsShortOf position (Duplicates snd_una flight snd_nxt) = Unit {0}
 IsShortOf position Reports = Unit {0}
 IsShortOf position (Loses snd_una flight snd_nxt) = Unit {0}
+IsShortOf position (Delivers count flight) = Unit {0}
+IsShortOf position Finds = Unit {0}
+IsShortOf position (Pipes reported) = Unit {0}
+IsShortOf position (Measures trip snd_una snd_nxt) = Unit {0}
 
 abbrev pub AllShortOf : ℕ → List Event → Type 0
 AllShortOf position [] = Unit {0}

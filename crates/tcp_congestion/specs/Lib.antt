@@ -6,6 +6,7 @@ pub mod Control
 pub mod AnyWindow
 pub mod Growth
 pub mod CubicGrowth
+pub mod HyStart
 pub mod Limiter
 pub mod DelayedAck
 pub mod SwsAvoidance

@@ -1,6 +1,7 @@
 -- The congestion window (RFC 5681, 3 and 4.1; RFC 6582, 3.2; RFC 3042, 2). All sizes are bytes, and positions count from the SYN, which
 -- is at 0, in the direction of what is sent (RFC 9293, 3.4). `flight` is FlightSize: what was sent and isn't acknowledged.
 use Rattle.std.specs.Prelude.{ℕ, ◌+◌, ◌-◌, ◌*◌, ◌/◌, ◌<◌, ◌≤◌, ◌==◌, ◌&&◌, ◌||◌, not, min, max, Bool, true, false, nat_lt, nat_le, if◌then◌else◌}
+use Rattle.tcp_congestion.specs.HyStart.{IsSlowStart, SlowStart, after_trip, growth_of, is_complete, new_start}
 use Rattle.tcp_congestion.specs.Sizes.{max_limit, max_segment, max_window}
 
 pub record Window : Type 0 where
@@ -24,6 +25,8 @@ pub record Window : Type 0 where
   pub duplicates : ℕ
   -- what was sent again since the last loss was found, and isn't acknowledged
   pub resent : ℕ
+  -- the first slow start, which ends before a loss where round trips become longer (RFC 9406)
+  pub start : SlowStart
 
 -- IW (RFC 6928, 2)
 abbrev pub initial_window : ℕ → ℕ
@@ -44,6 +47,7 @@ new_window smss = record {
   is_timed_out = false;
   duplicates = 0;
   resent = 0;
+  start = new_start;
 }
 
 -- the same with another limit
@@ -52,13 +56,18 @@ new_window_with smss limit = record (new_window smss) { limit = limit }
 
 -- ---- how it grows
 
--- L (RFC 3465, 2.2 and 2.3): behind a loss it is a segment, since an acknowledgement may cover there what had come long before
-abbrev pub limit_of : Window → ℕ
-limit_of w = if w.ssthresh == max_window then w.limit * w.smss else w.smss
+-- nothing was lost yet, and slow start goes on (RFC 5681, 3.1): HyStart++ is for this one alone (RFC 9406, 4.3)
+abbrev pub is_first_start : Window → Bool
+is_first_start w = w.ssthresh == max_window
 
--- SLOW START (RFC 5681, 3.1, equation 2; RFC 3465, 2.2): cwnd += min (N, L)
+-- min (N, L), and less in Conservative Slow Start (RFC 9406, 4.2; RFC 3465, 2.2 and 2.3): behind a loss L is a segment, since an
+-- acknowledgement may cover there what had come long before
+abbrev pub started_by : Window → ℕ → ℕ
+started_by w acked = if is_first_start w then growth_of w.start acked w.smss w.limit else min acked w.smss
+
+-- SLOW START (RFC 5681, 3.1, equation 2; RFC 9406, 4.2)
 abbrev pub slow_started : Window → ℕ → Window
-slow_started w acked = record w { cwnd = min max_window (w.cwnd + min acked (limit_of w)) }
+slow_started w acked = record w { cwnd = min max_window (w.cwnd + started_by w acked) }
 
 -- CONGESTION AVOIDANCE (RFC 5681, 3.1; RFC 3465, 2.1): cwnd += SMSS once a window was acknowledged
 abbrev pub avoided : Window → ℕ → Window
@@ -130,6 +139,24 @@ after_acknowledgement w acked snd_una flight =
     if w.is_recovering
     then after_recovering (with_progress w acked) acked snd_una flight
     else after_growth (with_progress w acked) acked flight
+
+-- BLOCKS REPORT SO MANY BYTES MORE, and SND.UNA stays: they were delivered (DeliveredData: RFC 6937, 2), and the window grows as where so
+-- much is acknowledged (own: RFC 5681 has what SND.UNA passes alone, which comes at once and late where segments overtake each other); in
+-- a recovery it doesn't
+abbrev pub after_delivery : Window → ℕ → ℕ → Window
+after_delivery w delivered flight = if w.is_recovering then w else after_growth w delivered flight
+
+-- A ROUND TRIP WAS MEASURED in the first slow start (RFC 9406, 4.2): once the rounds of Conservative Slow Start are complete, ssthresh is
+-- cwnd, and two segments at least
+abbrev pub with_trip : Window → ℕ → ℕ → ℕ → Window
+with_trip w curr_rtt snd_una snd_nxt = record w {
+  ssthresh = if is_complete w.start snd_una then max w.cwnd (2 * w.smss) else w.ssthresh;
+  start = after_trip w.start curr_rtt snd_una snd_nxt;
+}
+
+abbrev pub after_measurement : Window → ℕ → ℕ → ℕ → Window
+after_measurement w curr_rtt snd_una snd_nxt =
+    if w.is_recovering then w else (if is_first_start w then with_trip w curr_rtt snd_una snd_nxt else w)
 
 -- THE THIRD DUPLICATE of an acknowledgement of more than recover (RFC 5681, 3.2, 2; RFC 6582, 3.2, 2): what is before recover may have
 -- been sent twice, and then duplicates say nothing
@@ -253,3 +280,4 @@ pub record IsWindow (w : Window) : Type 0 where
   pub acked : w.bytes_acked ≤ max_window
   pub duplicates : w.duplicates ≤ 3
   pub resent : w.resent ≤ max_window
+  pub start : IsSlowStart w.start

@@ -77,6 +77,14 @@ impl Congestion for AnyWindow {
         }
     }
 
+    fn delivered(&mut self, count: u64, flight: u64, now: u64, rtt: u64) {
+        match self {
+            AnyWindow::Unlimited => {}
+            AnyWindow::Reno(window) => Congestion::delivered(window, count, flight, now, rtt),
+            AnyWindow::Cubic(window) => Congestion::delivered(window, count, flight, now, rtt),
+        }
+    }
+
     fn duplicate(&mut self, snd_una: u64, flight: u64, snd_nxt: u64) -> bool {
         match self {
             AnyWindow::Unlimited => false,
@@ -146,6 +154,14 @@ impl Congestion for AnyWindow {
             AnyWindow::Unlimited => {}
             AnyWindow::Reno(window) => Congestion::resent(window, count),
             AnyWindow::Cubic(window) => Congestion::resent(window, count),
+        }
+    }
+
+    fn measured(&mut self, trip: u64, snd_una: u64, snd_nxt: u64) {
+        match self {
+            AnyWindow::Unlimited => {}
+            AnyWindow::Reno(window) => Congestion::measured(window, trip, snd_una, snd_nxt),
+            AnyWindow::Cubic(window) => Congestion::measured(window, trip, snd_una, snd_nxt),
         }
     }
 

@@ -41,11 +41,16 @@ pub trait Congestion {
         ensures value { result ≡ control.room self.now flight }
         ensures within { result + flight ≤ max flight (control.cwnd self.now + 2 * control.smss self.now) };
 
-    /// SND.UNA has moved on to `snd_una`, by `acked` bytes, and `flight` bytes are in flight; `rtt` is the smoothed round
-    /// trip. Returns whether the first segment has to be sent again.
+    /// SND.UNA has moved on to `snd_una`, by `acked` bytes that weren't told before, and `flight` bytes are in flight; `rtt` is the
+    /// smoothed round trip. Returns whether the first segment has to be sent again.
     fn acknowledged(&mut self, acked: u64, snd_una: u64, flight: u64, now: u64, rtt: u64) -> bool
         ensures again { result ≡ control.is_partial self.old snd_una }
         ensures after { self.new ≡ control.acknowledged self.old acked snd_una flight now rtt };
+
+    /// Blocks report `count` bytes more of what is in flight, and SND.UNA stays: they were delivered (RFC 6937, 2), so that the window
+    /// grows as where so much is acknowledged, unless a recovery goes on. What is acknowledged later is less by so much.
+    fn delivered(&mut self, count: u64, flight: u64, now: u64, rtt: u64)
+        ensures { self.new ≡ control.delivered self.old count flight now rtt };
 
     /// A duplicate acknowledgement has come, where no blocks are exchanged. Returns whether the first segment has to be sent
     /// again.
@@ -87,6 +92,11 @@ pub trait Congestion {
     /// A segment with `count` bytes was sent again.
     fn resent(&mut self, count: u64)
         ensures { self.new ≡ control.resent self.old count };
+
+    /// Behind an acknowledgement of all before `snd_una`, up to the position `snd_nxt` of what was sent, a round trip of `trip`
+    /// microseconds is measured: where these become longer, the first slow start ends before anything is lost (RFC 9406).
+    fn measured(&mut self, trip: u64, snd_una: u64, snd_nxt: u64)
+        ensures { self.new ≡ control.measured self.old trip snd_una snd_nxt };
 
     /// Both SYNs have agreed on full segments of `smss` bytes, and no text was sent yet.
     fn agreed(&mut self, smss: u64)
@@ -144,6 +154,10 @@ impl Congestion for Reno {
         Reno::acknowledged(self, acked, snd_una, flight)
     }
 
+    fn delivered(&mut self, count: u64, flight: u64, _now: u64, _rtt: u64) {
+        Reno::delivered(self, count, flight);
+    }
+
     fn duplicate(&mut self, snd_una: u64, flight: u64, snd_nxt: u64) -> bool {
         Reno::duplicate(self, snd_una, flight, snd_nxt)
     }
@@ -178,6 +192,10 @@ impl Congestion for Reno {
 
     fn resent(&mut self, count: u64) {
         Reno::resent(self, count);
+    }
+
+    fn measured(&mut self, trip: u64, snd_una: u64, snd_nxt: u64) {
+        Reno::measured(self, trip, snd_una, snd_nxt);
     }
 
     fn agreed(&mut self, smss: u64) {
@@ -226,6 +244,10 @@ impl Congestion for Cubic {
         Cubic::acknowledged(self, acked, snd_una, flight, now, rtt)
     }
 
+    fn delivered(&mut self, count: u64, flight: u64, now: u64, rtt: u64) {
+        Cubic::delivered(self, count, flight, now, rtt);
+    }
+
     fn duplicate(&mut self, snd_una: u64, flight: u64, snd_nxt: u64) -> bool {
         Cubic::duplicate(self, snd_una, flight, snd_nxt)
     }
@@ -260,6 +282,10 @@ impl Congestion for Cubic {
 
     fn resent(&mut self, count: u64) {
         Cubic::resent(self, count);
+    }
+
+    fn measured(&mut self, trip: u64, snd_una: u64, snd_nxt: u64) {
+        Cubic::measured(self, trip, snd_una, snd_nxt);
     }
 
     fn agreed(&mut self, smss: u64) {

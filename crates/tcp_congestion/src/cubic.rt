@@ -72,8 +72,8 @@ impl Model for Cubic {
 }
 
 impl Cubic {
-    ghost use Rattle.tcp_congestion.specs.Cubic.{after_acknowledgement, after_duplicate, after_idle_time, after_loss, after_report_of, after_second_loss, after_timeout, new_cubic};
-    ghost use Rattle.tcp_congestion.specs.Reno.{after_agreement, after_finding, after_resent, after_syn_resent, begins_recovery, is_new_loss, is_partial, may_resend, room_of, with_pipe};
+    ghost use Rattle.tcp_congestion.specs.Cubic.{after_acknowledgement, after_delivery, after_duplicate, after_idle_time, after_loss, after_report_of, after_second_loss, after_timeout, new_cubic};
+    ghost use Rattle.tcp_congestion.specs.Reno.{after_agreement, after_finding, after_measurement, after_resent, after_syn_resent, begins_recovery, is_new_loss, is_partial, may_resend, room_of, with_pipe};
     ghost use Rattle.tcp_congestion.specs.Sizes.{max_limit, max_segment, max_window};
 
     /// The window of a connection that begins, as [`Reno::with_limit`] has it: of full segments of `smss` bytes, of which an
@@ -157,6 +157,15 @@ impl Cubic {
             self.grow(acked, flight, now, rtt);
         }
         again
+    }
+
+    /// Blocks report `count` bytes more of what is in flight at this time, and SND.UNA stays, as for [`Reno::delivered`].
+    pub fn delivered(&mut self, count: u64, flight: u64, now: u64, rtt: u64)
+        ensures { self.new ≡ after_delivery self.old count flight now rtt }
+    {
+        if !self.window.is_recovering() {
+            self.grow(count, flight, now, rtt);
+        }
     }
 
     /// A duplicate acknowledgement has come (RFC 5681, 2), as for [`Reno::duplicate`]. Returns whether the first segment has
@@ -248,6 +257,14 @@ impl Cubic {
         ensures { self.new ≡ record self.old { window = after_resent self.old.window count } }
     {
         self.window.resent(count);
+    }
+
+    /// Behind an acknowledgement of all before `snd_una` a round trip of `trip` microseconds is measured: [`Reno::measured`] (RFC 9438,
+    /// 4.10; RFC 9406).
+    pub fn measured(&mut self, trip: u64, snd_una: u64, snd_nxt: u64)
+        ensures { self.new ≡ record self.old { window = after_measurement self.old.window trip snd_una snd_nxt } }
+    {
+        self.window.measured(trip, snd_una, snd_nxt);
     }
 
     /// The handshake is over, and its SYN was lost (RFC 5681, 3.1), as for [`Reno::syn_was_resent`].

@@ -3,6 +3,7 @@
 ghost use Rattle.tcp_congestion.specs.DelayedAck.{NoAcknowledgementIsLate};
 ghost use Rattle.tcp_congestion.specs.SwsAvoidance.{NoSillySegment, NothingWaitsLonger};
 ghost use Rattle.tcp_congestion.specs.Limiter.{FewAnswers, OneInAnInterval};
+ghost use Rattle.tcp_congestion.specs.HyStart.{CssIsShort, HyStartGrowthIsLimited, JitterIsNoDelay};
 ghost use Rattle.tcp_congestion.specs.CubicGrowth.{CubicGrowsByHalf, CubicGrowthIsAcknowledged, CubicIsFriendly, CubicLossShrinks, CubicOneLossAWindow};
 ghost use Rattle.tcp_congestion.specs.Growth.{AvoidanceIsSlow, FlightStaysInWindow, GrowthIsAcknowledged, LossShrinks, OneLossAWindow, ResendsStayInWindow};
 
@@ -11,7 +12,7 @@ pub fn avoidance_is_slow()
     ensures { AvoidanceIsSlow }
 {}
 
-/// The window never grows by more than what is acknowledged, so that slow start at most doubles it in a round trip (RFC
+/// The window never grows by more than what is acknowledged, or reported by blocks and acknowledged later, so that slow start at most doubles it in a round trip (RFC
 /// 5681, 3.1).
 pub fn growth_is_acknowledged()
     ensures { GrowthIsAcknowledged }
@@ -57,8 +58,23 @@ pub fn cubic_one_loss_a_window()
     ensures { CubicOneLossAWindow }
 {}
 
-/// Who sends again when it may has no more than a window of it and a segment in flight; after a timeout that is one segment,
-/// if it is a full one, until something is acknowledged (RFC 5681, 3.1).
+/// In slow start the window grows by what is acknowledged at most, and by eight segments (RFC 9406, 4.2).
+pub fn hy_start_growth_is_limited()
+    ensures { HyStartGrowthIsLimited }
+{}
+
+/// Round trips that lie within 4 ms never end slow start, nor slow it (RFC 9406, 4.2 and 4.3).
+pub fn jitter_is_no_delay()
+    ensures { JitterIsNoDelay }
+{}
+
+/// Conservative Slow Start lasts for five rounds at most (RFC 9406, 4.2).
+pub fn css_is_short()
+    ensures { CssIsShort }
+{}
+
+/// Who sends again when it may has no more than a window of it and a segment in flight; right after a timeout that is one
+/// segment, if it is a full one (RFC 5681, 3.1).
 pub fn resends_stay_in_window()
     ensures { ResendsStayInWindow }
 {}

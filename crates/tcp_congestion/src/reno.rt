@@ -1,5 +1,6 @@
 ghost use Rattle.std.specs.Prelude.{◌≡◌, ◌≤◌, ◌<◌, ◌*◌};
 
+use crate::hystart::HyStart;
 use std::marker::Model;
 
 mod growing;
@@ -17,18 +18,20 @@ pub const MAX_LIMIT: u64 = 8;
 /// 3042). Sizes are bytes; positions count from the SYN, which is at 0, in the direction of what is sent (RFC 9293, 3.4).
 #[derive(Clone, Copy, Debug, PartialEq, Eq)]
 pub struct Reno {
-    smss: u64,
-    limit: u64,
-    cwnd: u64,
-    ssthresh: u64,
-    bytes_acked: u64,
-    recover: u64,
+    smss: u16,
+    limit: u8,
+    duplicates: u8,
     is_recovering: bool,
     /// Losses are found by time in it.
     is_found: bool,
     is_timed_out: bool,
-    duplicates: u64,
+    cwnd: u64,
+    ssthresh: u64,
+    bytes_acked: u64,
+    recover: u64,
     resent: u64,
+    /// The first slow start.
+    start: HyStart,
 }
 
 impl Model for Reno {
@@ -48,6 +51,7 @@ impl Model for Reno {
       is_timed_out = r.is_timed_out;
       duplicates = r.duplicates;
       resent = r.resent;
+      start = r.start;
     } };
 
     ghost invariant = { λ r. IsWindow (record {
@@ -62,6 +66,7 @@ impl Model for Reno {
       is_timed_out = r.is_timed_out;
       duplicates = r.duplicates;
       resent = r.resent;
+      start = r.start;
     }) };
 
     ghost inverse = { λ w. record {
@@ -76,11 +81,12 @@ impl Model for Reno {
       is_timed_out = w.is_timed_out;
       duplicates = w.duplicates;
       resent = w.resent;
+      start = w.start;
     } };
 }
 
 impl Reno {
-    ghost use Rattle.tcp_congestion.specs.Reno.{new_window, new_window_with, room_of, after_acknowledgement, after_agreement, after_finding, after_loss, with_pipe, after_report, after_second_loss, is_new_loss, is_partial, after_duplicate, begins_recovery, after_timeout, after_resent, may_resend, after_syn_resent, after_idle};
+    ghost use Rattle.tcp_congestion.specs.Reno.{new_window, new_window_with, room_of, after_acknowledgement, after_agreement, after_delivery, after_finding, after_loss, with_pipe, after_report, after_second_loss, is_new_loss, is_partial, after_duplicate, begins_recovery, after_timeout, after_resent, may_resend, after_syn_resent, after_idle};
     ghost use Rattle.tcp_congestion.specs.Sizes.{max_limit, max_segment, max_window};
 
     /// The window of a connection that begins, with full segments of `smss` bytes as both SYNs agreed on them: IW (RFC
@@ -103,8 +109,8 @@ impl Reno {
         ensures { result ≡ new_window_with smss limit }
     {
         Reno {
-            smss,
-            limit,
+            smss: smss as u16,
+            limit: limit as u8,
             cwnd: initial_window(smss),
             ssthresh: MAX_WINDOW,
             bytes_acked: 0,
@@ -114,6 +120,7 @@ impl Reno {
             is_timed_out: false,
             duplicates: 0,
             resent: 0,
+            start: HyStart::new(),
         }
     }
 
@@ -172,6 +179,17 @@ impl Reno {
         again
     }
 
+    /// Blocks report `count` bytes more of what is in flight, and SND.UNA stays: they were delivered (RFC 6937, 2), so that the window
+    /// grows as where so much is acknowledged, unless a recovery goes on. What [`acknowledged`](Reno::acknowledged) is told later is
+    /// less by so much.
+    pub fn delivered(&mut self, count: u64, flight: u64)
+        ensures { self.new ≡ after_delivery self.old count flight }
+    {
+        if !self.is_recovering {
+            self.grow(count, flight);
+        }
+    }
+
     /// A duplicate acknowledgement has come (RFC 5681, 2), so that SND.UNA is still `snd_una`, while `flight` bytes are in
     /// flight, up to the position `snd_nxt`. Returns whether the first segment has to be sent again, because this is the third one and begins
     /// fast recovery (RFC 5681, 3.2; RFC 6582, 3.2, 2).
@@ -196,7 +214,7 @@ impl Reno {
         ensures { self.new ≡ after_report self.old }
     {
         if self.is_recovering {
-            self.cwnd = MAX_WINDOW.min(self.cwnd + self.smss);
+            self.cwnd = MAX_WINDOW.min(self.cwnd + self.smss());
         } else {
             self.duplicates = 3.min(self.duplicates + 1);
         }
@@ -212,7 +230,7 @@ impl Reno {
             return false;
         }
         self.halve(flight);
-        self.begin_recovery(self.duplicates, snd_nxt);
+        self.begin_recovery(self.duplicates(), snd_nxt);
         true
     }
 
@@ -277,7 +295,7 @@ impl Reno {
     pub fn syn_was_resent(&mut self)
         ensures { self.new ≡ after_syn_resent self.old }
     {
-        self.cwnd = self.smss;
+        self.cwnd = self.smss();
     }
 
     /// Both SYNs have agreed on full segments of `smss` bytes: the window begins with them as [`Reno::with_limit`] has it, or with
@@ -287,8 +305,8 @@ impl Reno {
         requires most { smss ≤ max_segment }
         ensures { self.new ≡ after_agreement self.old smss }
     {
-        let was_lost = self.cwnd == self.smss;
-        *self = Reno::with_limit(smss, self.limit);
+        let was_lost = self.cwnd == self.smss();
+        *self = Reno::with_limit(smss, u64::from(self.limit));
         if was_lost {
             self.cwnd = smss;
         }
@@ -299,14 +317,14 @@ impl Reno {
     pub fn was_idle(&mut self)
         ensures { self.new ≡ after_idle self.old }
     {
-        self.cwnd = initial_window(self.smss).min(self.cwnd);
+        self.cwnd = initial_window(self.smss()).min(self.cwnd);
         self.bytes_acked = 0;
     }
 }
 
 // What CUBIC's window does as well.
 impl Reno {
-    ghost use Rattle.tcp_congestion.specs.Reno.{after_recovering, base_of, begins_recovery, begun, deflated, is_new_loss, is_partial, is_used, limit_of, lowered, recovered, restarted, slow_started, with_progress};
+    ghost use Rattle.tcp_congestion.specs.Reno.{after_recovering, base_of, begins_recovery, begun, deflated, is_new_loss, is_partial, is_used, lowered, recovered, restarted, with_progress};
     ghost use Rattle.tcp_congestion.specs.Sizes.{max_threshold, max_window};
 
     /// SMSS.
@@ -315,7 +333,7 @@ impl Reno {
         ensures least { 0 < result }
         ensures most { result ≤ max_segment }
     {
-        self.smss
+        u64::from(self.smss)
     }
 
     /// Whether the timer has expired, and nothing was acknowledged since.
@@ -330,7 +348,7 @@ impl Reno {
         ensures value { result ≡ self.now.duplicates }
         ensures few { result ≤ 3 }
     {
-        self.duplicates
+        u64::from(self.duplicates)
     }
 
     /// Whether an acknowledgement of all before `snd_una` is a partial one, where losses aren't found by time (RFC 6582, 3.2, 3).
@@ -370,24 +388,6 @@ impl Reno {
         self.resent = self.resent.saturating_sub(acked);
     }
 
-    /// L, in bytes (RFC 3465, 2.2 and 2.3).
-    fn limit(&self) -> u64
-        ensures { result ≡ limit_of self.now }
-    {
-        if self.ssthresh == MAX_WINDOW {
-            self.limit * self.smss
-        } else {
-            self.smss
-        }
-    }
-
-    /// Slow start (RFC 5681, 3.1, equation 2; RFC 3465, 2.2).
-    pub(crate) fn slow_start(&mut self, acked: u64)
-        ensures { self.new ≡ slow_started self.old acked }
-    {
-        self.cwnd = MAX_WINDOW.min(self.cwnd + acked.min(self.limit()));
-    }
-
     /// The window is so large.
     pub(crate) fn set_cwnd(&mut self, cwnd: u64)
         requires least { self.old.smss ≤ cwnd }
@@ -412,7 +412,7 @@ impl Reno {
         requires low { self.old.ssthresh ≤ max_threshold }
         ensures { self.new ≡ begun self.old left snd_nxt }
     {
-        self.cwnd = self.ssthresh + left * self.smss;
+        self.cwnd = self.ssthresh + left * self.smss();
         self.bytes_acked = 0;
         self.recover = snd_nxt;
         self.is_recovering = true;
@@ -435,9 +435,9 @@ impl Reno {
         ensures { self.new ≡ lowered self.old least }
     {
         let base = self.base();
-        self.ssthresh = least.max(2 * self.smss);
+        self.ssthresh = least.max(2 * self.smss());
         self.cwnd = self
-            .smss
+            .smss()
             .max(self.cwnd - base.saturating_sub(self.ssthresh));
         self.bytes_acked = 0;
     }
@@ -457,15 +457,17 @@ impl Reno {
     fn deflate(&mut self, acked: u64)
         ensures { self.new ≡ deflated self.old acked }
     {
-        let added_back = if self.smss <= acked { self.smss } else { 0 };
-        self.cwnd = self.smss.max(self.cwnd.saturating_sub(acked) + added_back);
+        let smss = self.smss();
+        let added_back = if smss <= acked { smss } else { 0 };
+        self.cwnd = smss.max(self.cwnd.saturating_sub(acked) + added_back);
     }
 
     /// A full one (RFC 6582, 3.2, 3).
     fn end_recovery(&mut self, flight: u64)
         ensures { self.new ≡ recovered self.old flight }
     {
-        let needed = flight.min(MAX_WINDOW).max(self.smss) + self.smss;
+        let smss = self.smss();
+        let needed = flight.min(MAX_WINDOW).max(smss) + smss;
         self.cwnd = self.ssthresh.min(needed);
         self.bytes_acked = 0;
         self.is_recovering = false;
@@ -475,7 +477,7 @@ impl Reno {
     pub(crate) fn restart(&mut self, snd_nxt: u64)
         ensures { self.new ≡ restarted self.old snd_nxt }
     {
-        self.cwnd = self.smss;
+        self.cwnd = self.smss();
         self.bytes_acked = 0;
         self.recover = snd_nxt;
         self.is_recovering = false;

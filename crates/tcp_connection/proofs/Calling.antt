@@ -3,11 +3,12 @@ use Rattle.std.proofs.Common.{◌≡◌, ℕ, List, [], ◌∷◌, Bool, true, f
 use Rattle.std.specs.Prelude.{◌&&◌, ◌==◌, if◌then◌else◌}
 use Rattle.tcp_congestion.specs.Control.{Control}
 use Rattle.tcp_driver.specs.declared.machine.Report.{Report}
+use Rattle.tcp_driver.specs.declared.machine.Timer.TheVariants.{Retransmit}
 use Rattle.tcp_driver.specs.Machine.{Machine}
 use Rattle.tcp_flow.specs.Calls.{FlowCall, Comes, Goes, GoesAsOne, Asks, after_flow_call}
-use Rattle.tcp_flow.specs.Flow.{Flowing, after_segment, after_use}
-use Rattle.tcp_connection.specs.Calls.{Arrives, Emits, EmitsAsOne, Ticks, Reads, Acknowledges, Uses, SetsPatience, SetsUserTimeout, SetsWindow, LosesOne, SetsPolicy, ConnectionIsFlow, after_flow_calls, emissions}
-use Rattle.tcp_connection.specs.Connection.{Connecting, agreed_by, before_in, core_of, edge_by, heard_if, reported, taken_by_flow}
+use Rattle.tcp_flow.specs.Flow.{Flowing, after_use}
+use Rattle.tcp_connection.specs.Calls.{Arrives, Emits, EmitsAsOne, Ticks, Reads, Acknowledges, Uses, SetsPatience, SetsUserTimeout, SetsWindow, LosesOne, MeasuresTrip, SetsPolicy, ConnectionIsFlow, after_flow_calls, answers_again, emissions, repeated}
+use Rattle.tcp_connection.specs.Connection.{Connecting, agreed_by, answers_syn, before_in, core_of, edge_by, heard_by, heard_if, reported, taken_by_flow, with_syn}
 use Rattle.tcp_connection.specs.declared.hearing.Before.{Before}
 use Rattle.tcp_connection.specs.Going.{after_going, asked, discards, flow_after, flow_sent, holds_back}
 use Rattle.tcp_connection.specs.Insight.{Insight}
@@ -19,15 +20,37 @@ chosen : {S W : Type 0} (b : Bool) (x y : Connecting S W) (f : Flowing S W) → 
 chosen true x y f e g = e
 chosen false x y f e g = g
 
+-- what the retransmission timer sends again goes out again
+abbrev with_retransmission : {S W : Type 0} → Machine S → Flowing S W → ℕ → Bool → Flowing S W
+with_retransmission m f now again = if again then after_use m f now (m.expired f.driving.core Retransmit) else f
+
 -- what is heard leaves the flow as it is
 agreed-flow : {S W : Type 0} (smss : Option ℕ) (k : Connecting S W) → (agreed_by smss k).flowing ≡ k.flowing
 agreed-flow None k = refl
 agreed-flow (Some smss) k = chosen (k.smss == smss) _ _ k.flowing refl refl
 
-heard-flow : {S W : Type 0} (i : Insight S) (smss_of : S → Option ℕ) (k : Connecting S W) (before : Before) (bytes : List ℕ) (report : Option Report) (now : ℕ)
-    → (heard_if i smss_of k before bytes report now).flowing ≡ k.flowing
-heard-flow i smss_of k before bytes None now = refl
-heard-flow i smss_of k before bytes (Some report) now = agreed-flow (smss_of (core_of k)) k
+-- but that the SYN goes out again behind the peer's
+again-flow : {S W : Type 0} (m : Machine S) (k : Connecting S W) (f : Flowing S W) (now : ℕ) (again : Bool) → k.flowing ≡ f
+    → (with_syn m k now again).flowing ≡ with_retransmission m f now again
+again-flow {S = S} {W = W} m k f now true e = ap (λ (x : Flowing S W). after_use m x now (m.expired x.driving.core Retransmit)) e
+again-flow m k f now false e = e
+
+heard-flow : {S W : Type 0} (m : Machine S) (i : Insight S) (smss_of : S → Option ℕ) (k : Connecting S W) (before : Before) (bytes : List ℕ) (report : Option Report) (now : ℕ)
+    → (heard_if m i smss_of k before bytes report now).flowing ≡ with_retransmission m k.flowing now (repeated before report)
+heard-flow m i smss_of k before bytes None now = refl
+heard-flow m i smss_of k before bytes (Some report) now =
+    again-flow m (heard_by i (agreed_by (smss_of (core_of k)) k) before bytes report now) k.flowing now (answers_syn before report)
+    (agreed-flow (smss_of (core_of k)) k)
+
+-- an arrival is one, or two where the SYN goes out again
+arrived-by : {S W : Type 0} (m : Machine S) (smss_of : S → Option ℕ) (c : Control W) (f : Flowing S W) (come : FlowCall S W) (now : ℕ) (any again : Bool) (x y : Connecting S W)
+    → x.flowing ≡ with_retransmission m (after_flow_call m smss_of c f come) now again
+    → y.flowing ≡ after_flow_call m smss_of c f come
+    → (if any then x else y).flowing
+    ≡ after_flow_calls m smss_of c f (if any && again then Asks now (λ s. m.expired s Retransmit) ∷ come ∷ [] else come ∷ [])
+arrived-by m smss_of c f come now true true x y e g = e
+arrived-by m smss_of c f come now true false x y e g = e
+arrived-by m smss_of c f come now false again x y e g = g
 
 urged-flow : {S W : Type 0} (k : Connecting S W) (now : ℕ) → (urged k now).flowing ≡ k.flowing
 urged-flow k now = chosen (holds_any k.policy) _ _ k.flowing refl refl
@@ -67,8 +90,8 @@ read-by m smss_of c f read ack false update x y z a b e = e
 pub flow_lem : {S W : Type 0} (m : Machine S) (i : Insight S) (smss_of : S → Option ℕ) (c : Control W) → ConnectionIsFlow m i smss_of c
 unfolding flow_after train_after flow_sent train_count
 flow_lem m i smss_of c k (Arrives now src dst bytes vouched) =
-    chosen (holds_any k.policy) _ _ (after_segment m smss_of c k.flowing now src dst bytes vouched)
-    (heard-flow i smss_of (taken_by_flow m smss_of c k now src dst bytes vouched) (before_in m i k) bytes
+    arrived-by m smss_of c k.flowing (Comes now src dst bytes vouched) now (holds_any k.policy) (answers_again m i k src dst bytes vouched) _ _
+    (heard-flow m i smss_of (taken_by_flow m smss_of c k now src dst bytes vouched) (before_in m i k bytes) bytes
     (reported m k.flowing.driving src dst bytes vouched) now)
     refl
 flow_lem m i smss_of c k (Emits now window) =
@@ -93,4 +116,5 @@ flow_lem m i smss_of c k (SetsUserTimeout limit) = refl
 flow_lem m i smss_of c k (SetsPatience patient) = refl
 flow_lem m i smss_of c k (SetsWindow window) = refl
 flow_lem m i smss_of c k (LosesOne loss) = refl
+flow_lem m i smss_of c k (MeasuresTrip trip) = refl
 flow_lem m i smss_of c k (SetsPolicy policy) = refl

@@ -41,7 +41,7 @@ pub arrived_plainly : {S W : Type 0} (m : Machine S) (i : Insight S) (smss_of : 
 arrived_plainly m i smss_of c k h flag f now src dst bytes vouched same any none is =
     ap (λ x. record k { flowing = x }) is
     ∙ plainly flag (holds_any k.policy)
-    (heard_if i smss_of (taken_by_flow m smss_of c k now src dst bytes vouched) (before_in m i k) bytes
+    (heard_if m i smss_of (taken_by_flow m smss_of c k now src dst bytes vouched) (before_in m i k bytes) bytes
     (reported m k.flowing.driving src dst bytes vouched) now)
     (taken_by_flow m smss_of c k now src dst bytes vouched) any none
     ∙ ap (λ x. after_arriving m i smss_of c x now src dst bytes vouched) same
@@ -50,18 +50,18 @@ pub arrived_heard : {S W T : Type 0} (m : Machine S) (i : Insight S) (smss_of : 
     (answer : S → List ℕ → List ℕ → List ℕ → Way → T) (k h new : Connecting S W) (flag : Bool) (f : Flowing S W) (before : Before) (taken : Taken T)
     (now : ℕ) (src dst bytes : List ℕ) (vouched : Bool)
     → k ≡ h → flag ≡ holds_any k.policy → flag ≡ true → f ≡ after_segment m smss_of c k.flowing now src dst bytes vouched
-    → before ≡ before_in m i h → taken ≡ arrival_answer m answer k.flowing.driving src dst bytes (way_of k.flowing.driving vouched)
-    → new ≡ heard_if i smss_of (record k { flowing = f }) before bytes (report_in taken) now
+    → before ≡ before_in m i h bytes → taken ≡ arrival_answer m answer k.flowing.driving src dst bytes (way_of k.flowing.driving vouched)
+    → new ≡ heard_if m i smss_of (record k { flowing = f }) before bytes (report_in taken) now
     → new ≡ after_arriving m i smss_of c h now src dst bytes vouched
 arrived_heard m i smss_of c answer k h new flag f before taken now src dst bytes vouched same any some is b t e =
     e
-    ∙ ap (λ x. heard_if i smss_of (record k { flowing = x }) before bytes (report_in taken) now) is
-    ∙ ap (λ x. heard_if i smss_of (taken_by_flow m smss_of c k now src dst bytes vouched) x bytes (report_in taken) now)
-    (b ∙ ap (λ x. before_in m i x) (sym same))
-    ∙ ap (λ x. heard_if i smss_of (taken_by_flow m smss_of c k now src dst bytes vouched) (before_in m i k) bytes x now)
+    ∙ ap (λ x. heard_if m i smss_of (record k { flowing = x }) before bytes (report_in taken) now) is
+    ∙ ap (λ x. heard_if m i smss_of (taken_by_flow m smss_of c k now src dst bytes vouched) x bytes (report_in taken) now)
+    (b ∙ ap (λ x. before_in m i x bytes) (sym same))
+    ∙ ap (λ x. heard_if m i smss_of (taken_by_flow m smss_of c k now src dst bytes vouched) (before_in m i k bytes) bytes x now)
     (ap report_in t ∙ report_is m answer k.flowing.driving src dst bytes vouched)
     ∙ where_any_holds flag (holds_any k.policy)
-    (heard_if i smss_of (taken_by_flow m smss_of c k now src dst bytes vouched) (before_in m i k) bytes
+    (heard_if m i smss_of (taken_by_flow m smss_of c k now src dst bytes vouched) (before_in m i k bytes) bytes
     (reported m k.flowing.driving src dst bytes vouched) now)
     (taken_by_flow m smss_of c k now src dst bytes vouched) any some
     ∙ ap (λ x. after_arriving m i smss_of c x now src dst bytes vouched) same

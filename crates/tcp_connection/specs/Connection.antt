@@ -10,14 +10,15 @@ use Rattle.tcp_congestion.specs.SwsAvoidance.{Sender, after_window}
 use Rattle.tcp_driver.specs.declared.driver.Taken.{Taken}
 use Rattle.tcp_driver.specs.declared.driver.Taken.TheVariants.{Done, EmitFirst, Withheld}
 use Rattle.tcp_driver.specs.declared.machine.Report.{Report}
+use Rattle.tcp_driver.specs.declared.machine.Timer.TheVariants.{Retransmit}
 use Rattle.tcp_driver.specs.Driver.{Driving, is_withheld, way_of}
 use Rattle.tcp_driver.specs.Machine.{Machine}
-use Rattle.tcp_flow.specs.Flow.{Flowing, after_segment}
+use Rattle.tcp_flow.specs.Flow.{Flowing, after_segment, after_use}
 use Rattle.tcp_connection.specs.declared.hearing.Before.{Before}
 use Rattle.tcp_connection.specs.declared.policy.Policy.{Policy}
 use Rattle.tcp_connection.specs.Insight.{Insight}
 use Rattle.tcp_connection.specs.Policy.{holds_any, no_ack, no_text}
-use Rattle.tcp_connection.specs.Segment.{is_exempt}
+use Rattle.tcp_connection.specs.Segment.{is_exempt, repeats_syn}
 
 pub record Connecting (S W : Type 0) : Type 0 where
   pub flowing : Flowing S W
@@ -76,11 +77,12 @@ abbrev pub new_connecting : {S W : Type 0} → Machine S → Insight S → (S �
 new_connecting m i smss_of f policy = beginning m i f policy (unwrap_or (smss_of f.driving.core) first_smss)
 
 -- ---- AN ARRIVAL: what the end says before it
-abbrev pub before_in : {S W : Type 0} → Machine S → Insight S → Connecting S W → Before
-before_in m i k = record {
+abbrev pub before_in : {S W : Type 0} → Machine S → Insight S → Connecting S W → List ℕ → Before
+before_in m i k bytes = record {
   is_pending = is_pending m k;
   rcv_nxt = i.rcv_nxt (core_of k);
   is_synchronized = i.is_synchronized (core_of k);
+  repeats_syn = repeats_syn (i.peer_syn (core_of k)) bytes;
 }
 
 -- both SYNs have agreed on full segments
@@ -109,8 +111,18 @@ heard_by i k before bytes report now = record k {
   bare = bare_after k before bytes report.at_once;
 }
 
-abbrev pub heard : {S W : Type 0} → Insight S → (S → Option ℕ) → Connecting S W → Before → List ℕ → Report → ℕ → Connecting S W
-heard i smss_of k before bytes report now = heard_by i (agreed_by (smss_of (core_of k)) k) before bytes report now
+-- THE PEER'S SYN AGAIN in SYN-RECEIVED, which the end answers by an acknowledgement (RFC 9293, 3.10.7.4, first), is answered by the
+-- SYN,ACK again in its place (own), which carries the acknowledgement: the peer is in SYN-SENT, and drops what has no SYN (3.10.7.3,
+-- fifth)
+abbrev pub answers_syn : Before → Report → Bool
+answers_syn before report = before.repeats_syn && report.at_once
+
+abbrev pub with_syn : {S W : Type 0} → Machine S → Connecting S W → ℕ → Bool → Connecting S W
+with_syn m k now again = if again then record k { flowing = after_use m k.flowing now (m.expired (core_of k) Retransmit) } else k
+
+abbrev pub heard : {S W : Type 0} → Machine S → Insight S → (S → Option ℕ) → Connecting S W → Before → List ℕ → Report → ℕ → Connecting S W
+heard m i smss_of k before bytes report now =
+    with_syn m (heard_by i (agreed_by (smss_of (core_of k)) k) before bytes report now) now (answers_syn before report)
 
 -- what is reported of it, where it is taken
 abbrev pub report_in : {T : Type 0} → Taken T → Option Report
@@ -122,9 +134,9 @@ abbrev pub reported : {S : Type 0} → Machine S → Driving S → List ℕ → 
 reported m d src dst bytes vouched =
     if d.times.bursting || is_withheld m d.core bytes then None else Some (m.report d.core src dst bytes (way_of d vouched))
 
-abbrev pub heard_if : {S W : Type 0} → Insight S → (S → Option ℕ) → Connecting S W → Before → List ℕ → Option Report → ℕ → Connecting S W
-heard_if i smss_of k before bytes None now = k
-heard_if i smss_of k before bytes (Some report) now = heard i smss_of k before bytes report now
+abbrev pub heard_if : {S W : Type 0} → Machine S → Insight S → (S → Option ℕ) → Connecting S W → Before → List ℕ → Option Report → ℕ → Connecting S W
+heard_if m i smss_of k before bytes None now = k
+heard_if m i smss_of k before bytes (Some report) now = heard m i smss_of k before bytes report now
 
 -- the flow takes it, and where anything may wait the policy hears of it
 abbrev pub taken_by_flow : {S W : Type 0} → Machine S → (S → Option ℕ) → Control W → Connecting S W → ℕ → List ℕ → List ℕ → List ℕ → Bool → Connecting S W
@@ -133,6 +145,6 @@ taken_by_flow m smss_of c k now src dst bytes vouched = record k { flowing = aft
 abbrev pub after_arriving : {S W : Type 0} → Machine S → Insight S → (S → Option ℕ) → Control W → Connecting S W → ℕ → List ℕ → List ℕ → List ℕ → Bool → Connecting S W
 after_arriving m i smss_of c k now src dst bytes vouched =
     if holds_any k.policy
-    then heard_if i smss_of (taken_by_flow m smss_of c k now src dst bytes vouched) (before_in m i k) bytes
+    then heard_if m i smss_of (taken_by_flow m smss_of c k now src dst bytes vouched) (before_in m i k bytes) bytes
     (reported m k.flowing.driving src dst bytes vouched) now
     else taken_by_flow m smss_of c k now src dst bytes vouched

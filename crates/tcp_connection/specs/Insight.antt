@@ -15,3 +15,5 @@ pub record Insight (S : Type 0) : Type 0 where
   pub capacity : S → ℕ
   -- it is in a synchronized state: none of CLOSED, LISTEN, SYN-SENT and SYN-RECEIVED (RFC 9293, 3.5.2)
   pub is_synchronized : S → Bool
+  -- in SYN-RECEIVED alone, the number of the peer's SYN, which is the one before RCV.NXT (RFC 9293, 3.4)
+  pub peer_syn : S → Option ℕ

@@ -4,7 +4,7 @@ use Rattle.tcp_congestion.specs.Control.{Control}
 use Rattle.tcp_congestion.specs.DelayedAck.{after_arrival}
 use Rattle.tcp_driver.specs.Machine.{Machine}
 use Rattle.tcp_flow.specs.declared.loss.Loss.{Loss}
-use Rattle.tcp_flow.specs.Flow.{after_loss, after_patience_of, after_timeout, after_use, after_user_limit, with_window}
+use Rattle.tcp_flow.specs.Flow.{after_loss, after_patience_of, after_timeout, after_trip, after_use, after_user_limit, with_window}
 use Rattle.tcp_connection.specs.declared.policy.Policy.{Policy}
 use Rattle.tcp_connection.specs.Connection.{Connecting, core_of, edge_by, new_connecting}
 use Rattle.tcp_connection.specs.Insight.{Insight}
@@ -55,6 +55,9 @@ choosing smss_of c k window = record k { flowing = with_window smss_of c k.flowi
 
 abbrev pub losing : {S W : Type 0} → Machine S → Control W → Connecting S W → Loss → Connecting S W
 losing m c k loss = record k { flowing = after_loss m c k.flowing loss }
+
+abbrev pub measuring : {S W : Type 0} → Machine S → Control W → Connecting S W → ℕ → Connecting S W
+measuring m c k trip = record k { flowing = after_trip m c k.flowing trip }
 
 abbrev pub with_policy : {S W : Type 0} → Machine S → Insight S → (S → Option ℕ) → Connecting S W → Policy → Connecting S W
 with_policy m i smss_of k policy = new_connecting m i smss_of k.flowing policy

@@ -1,5 +1,6 @@
 -- What a connection knows of an end of a TCP connection: each function is one of tcp_conn's.
-use Rattle.std.specs.Prelude.{ℕ, ◌-◌, ◌*◌, ◌^◌, Bool, true, false, Option, Some, None, min, option_map}
+use Rattle.std.specs.Prelude.{ℕ, ◌-◌, ◌*◌, ◌^◌, Bool, true, false, if◌then◌else◌, Option, Some, None, min, option_map}
+use Rattle.tcp_wire.specs.Position.{number}
 use Rattle.tcp_halves.specs.Config.{max_shift}
 use Rattle.tcp_halves.specs.Receiver.{rcv_position}
 use Rattle.tcp_conn.specs.declared.emit.transmit.Kind.TheVariants as kinds
@@ -7,6 +8,7 @@ use Rattle.tcp_conn.specs.declared.emit.transmit.Kind as conn
 use Rattle.tcp_conn.specs.declared.status.Negotiated.{Negotiated}
 use Rattle.tcp_conn.specs.declared.phase.Phase.{Phase}
 use Rattle.tcp_conn.specs.declared.phase.Phase.TheVariants.{Closed, Listen, SynSent, SynReceived}
+use Rattle.tcp_conn.specs.Phase.{is_syn_received}
 use Rattle.tcp_conn.specs.State.{State}
 use Rattle.tcp_conn.specs.Status.{in_flight_of, negotiated_of, queued_of}
 use Rattle.tcp_conn.specs.Transmission.{transmit_due}
@@ -33,6 +35,10 @@ shift_of (Some agreed) = min max_shift agreed.own_shift
 abbrev pub window_of : State → ℕ
 window_of s = window_field (shift_of (negotiated_of s)) (receive_window s) * 2 ^ shift_of (negotiated_of s)
 
+-- the number before RCV.NXT (RFC 9293, 3.4), while this end's SYN isn't acknowledged and the peer's was taken
+abbrev pub peer_syn_of : State → Option ℕ
+peer_syn_of s = if is_syn_received s.phase then Some (number s.receiving.rcv_nxt (2 ^ 32 - 1)) else None
+
 -- both SYNs are acknowledged (RFC 9293, 3.5.2)
 abbrev pub is_synchronized : Phase → Bool
 is_synchronized Closed = false
@@ -50,4 +56,5 @@ insight = record {
   window = λ w. window_of w.end;
   capacity = λ w. w.end.config.recv_capacity;
   is_synchronized = λ w. is_synchronized w.end.phase;
+  peer_syn = λ w. peer_syn_of w.end;
 }

@@ -113,7 +113,7 @@ impl<C: Deferring + Drop, W: Congestion + Drop> Connection<C, W> {
         if !self.is_deferring {
             return self.flow.arrive(now, src, dst, bytes);
         }
-        let before = self.before();
+        let before = self.before(bytes);
         let taken = self.flow.arrive(now, src, dst, bytes);
         self.hear_of(before, bytes, &taken, now);
         taken
@@ -133,7 +133,7 @@ impl<C: Deferring + Drop, W: Congestion + Drop> Connection<C, W> {
         if !self.is_deferring {
             return self.flow.arrive_vouched(now, src, dst, bytes);
         }
-        let before = self.before();
+        let before = self.before(bytes);
         let taken = self.flow.arrive_vouched(now, src, dst, bytes);
         self.hear_of(before, bytes, &taken, now);
         taken

@@ -64,6 +64,10 @@ pub trait Deferring: Paced {
     fn is_synchronized(&self) -> bool
         ensures { result ≡ insight.is_synchronized self.now };
 
+    /// In SYN-RECEIVED alone, the number of the peer's SYN, which is the one before RCV.NXT (RFC 9293, 3.4).
+    fn peer_syn(&self) -> Option<u32>
+        ensures { result ≡ insight.peer_syn self.now };
+
     /// What was written as one isn't sent.
     fn discard(train: Self::Train);
 }

@@ -4,7 +4,7 @@ ghost use Rattle.tcp_connection.specs.Connection.{report_in};
 
 use crate::connection::Connection;
 use crate::deferring::Deferring;
-use crate::segment::is_exempt;
+use crate::segment::{is_exempt, is_first_syn, is_numbered};
 use tcp_congestion::Congestion;
 use tcp_driver::{Report, Taken};
 
@@ -17,6 +17,8 @@ pub(crate) struct Before {
     pub rcv_nxt: u64,
     /// Whether it is in a synchronized state.
     pub is_synchronized: bool,
+    /// Whether it is in SYN-RECEIVED, and the segment is the peer's SYN again.
+    pub repeats_syn: bool,
 }
 
 /// What is reported of an arrival that was taken.
@@ -32,15 +34,16 @@ fn report_in<T>(taken: &Taken<T>) -> Option<Report>
 impl<C: Deferring + Drop, W: Congestion + Drop> Connection<C, W> {
     ghost use Rattle.tcp_connection.specs.Connection.{agreed_by, bare_after, before_in, core_of, heard, heard_if};
 
-    /// What the end says.
-    pub(crate) fn before(&self) -> Before
-        ensures { result ≡ before_in C.machine C.insight self.now }
+    /// What the end says before this segment.
+    pub(crate) fn before(&self, bytes: &[u8]) -> Before
+        ensures { result ≡ before_in C.machine C.insight self.now bytes.now }
     {
         let core = self.flow.driver().core();
         Before {
             is_pending: core.is_pending(),
             rcv_nxt: core.rcv_nxt(),
             is_synchronized: core.is_synchronized(),
+            repeats_syn: is_first_syn(bytes) && is_numbered(bytes, core.peer_syn()),
         }
     }
 
@@ -52,7 +55,7 @@ impl<C: Deferring + Drop, W: Congestion + Drop> Connection<C, W> {
         taken: &Taken<C::Arriving>,
         now: u64,
     )
-        ensures { self.new ≡ heard_if C.insight C.smss_of self.old before bytes.now (report_in taken.now) now }
+        ensures { self.new ≡ heard_if C.machine C.insight C.smss_of self.old before bytes.now (report_in taken.now) now }
     {
         if let Some(report) = report_in(taken) {
             self.hear(before, bytes, report, now);
@@ -61,7 +64,7 @@ impl<C: Deferring + Drop, W: Congestion + Drop> Connection<C, W> {
 
     /// A segment was taken, of which this is reported.
     fn hear(&mut self, before: Before, bytes: &[u8], report: Report, now: u64)
-        ensures { self.new ≡ heard C.insight C.smss_of self.old before bytes.now report now }
+        ensures { self.new ≡ heard C.machine C.insight C.smss_of self.old before bytes.now report now }
     {
         self.agree();
         let rcv_nxt = self.flow.driver().core().rcv_nxt();
@@ -71,6 +74,9 @@ impl<C: Deferring + Drop, W: Congestion + Drop> Connection<C, W> {
             self.text.window(window);
         }
         self.is_bare = self.is_bare_after(before, bytes, report.at_once);
+        if before.repeats_syn && report.at_once {
+            self.flow.retransmit(now);
+        }
     }
 
     /// Segments have the size that both SYNs agreed on, once they have.

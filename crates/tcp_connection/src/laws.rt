@@ -6,8 +6,8 @@ use crate::deferring::Deferring;
 use tcp_congestion::Congestion;
 
 /// Whatever is called, the flow in a connection is as after calls of its own: none where what is due is held back, one, or two
-/// where an answer is discarded or a read has opened the window. So every law of a flow holds of it ([`tcp_flow::laws`]), and
-/// of its driver ([`tcp_driver::laws`]).
+/// where an answer is discarded, a read has opened the window, or the SYN goes out again behind the peer's. So every law of a
+/// flow holds of it ([`tcp_flow::laws`]), and of its driver ([`tcp_driver::laws`]).
 pub fn connection_is_flow<C: Deferring, W: Congestion>()
     ensures { ConnectionIsFlow C.machine C.insight C.smss_of W.control }
 {}

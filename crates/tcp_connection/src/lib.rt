@@ -3,7 +3,7 @@
 //!
 //! - [`Connection`]: a [`Flow`](tcp_flow::Flow) whose acknowledgements wait for a second full segment (RFC 9293, 3.8.6.3),
 //!   whose text waits for a segment that is worth it (3.8.6.2.1 and 3.7.4), that advertises a window once it has grown
-//!   (3.8.6.2.2), and that doesn't answer everything (RFC 5961, 7).
+//!   (3.8.6.2.2), that doesn't answer everything (RFC 5961, 7), and that answers the peer's SYN again by the SYN,ACK again.
 //! - [`Policy`]: which of these it does, and how long.
 //! - [`Deferring`]: what it asks of an end for that.
 //! - [`laws`]: what follows, whatever the end and the window are and whatever is called.

@@ -13,7 +13,7 @@ impl<C: Deferring + Drop, W: Congestion + Drop> Connection<C, W> {
     ghost use Rattle.tcp_driver.specs.Times.{expiry, is_suspect};
     ghost use Rattle.tcp_connection.specs.Connection.{core_of};
     ghost use Rattle.tcp_connection.specs.Deadlines.{next_call};
-    ghost use Rattle.tcp_connection.specs.Using.{after_acknowledging, after_call, after_reading, after_tick, choosing, losing, is_update, opened, updated_if, urged, with_patience, with_user_limit};
+    ghost use Rattle.tcp_connection.specs.Using.{after_acknowledging, after_call, after_reading, after_tick, choosing, losing, measuring, is_update, opened, updated_if, urged, with_patience, with_user_limit};
     ghost use Rattle.tcp_connection.specs.Windows.{has_grown, is_scarce};
 
     /// It is `now`: the timer that has expired, if one has, as for the flow.
@@ -92,6 +92,14 @@ impl<C: Deferring + Drop, W: Congestion + Drop> Connection<C, W> {
         ensures { self.new ≡ losing C.machine W.control self.old loss }
     {
         self.flow.lose(loss);
+    }
+
+    /// Behind what came a caller that finds losses by itself has measured a round trip of `trip` microseconds, and the congestion window
+    /// is told (RFC 9406, 4.2).
+    pub fn measured(&mut self, trip: u64)
+        ensures { self.new ≡ measuring C.machine W.control self.old trip }
+    {
+        self.flow.measured(trip);
     }
 
     /// The user has text to send (RFC 9293, 3.10.2).

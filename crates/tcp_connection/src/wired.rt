@@ -59,6 +59,14 @@ impl<A: Allocator> Deferring for Wired<A> {
         )
     }
 
+    fn peer_syn(&self) -> Option<u32> {
+        if matches!(self.end.phase(), Phase::SynReceived) {
+            Some(self.end.rcv_nxt().plus(u32::MAX).0)
+        } else {
+            None
+        }
+    }
+
     fn discard(_train: Train) {}
 }
 

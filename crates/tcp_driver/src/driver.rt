@@ -38,6 +38,7 @@ impl<C: Core + Drop> Model for Driver<C> {
 
 impl<C: Core + Drop> Driver<C> {
     ghost use Rattle.std.specs.Prelude.{Some, false, is_some, true};
+    ghost use Rattle.tcp_driver.specs.declared.machine.Timer.TheVariants.{Retransmit};
     ghost use Rattle.tcp_driver.specs.Deadlines.{last};
     ghost use Rattle.tcp_driver.specs.Driver.{after_arrival, after_emission, after_patience, after_time, after_user, after_user_timeout, arrival_answer, at, new_driving, sent_of, way_of, written_of};
     ghost use Rattle.tcp_driver.specs.Rows.{after_emissions, emissions_of};
@@ -325,6 +326,16 @@ impl<C: Core + Drop> Driver<C> {
         let answer = self.core.resend(from, to);
         self.timers.follow(self.core.wants(), self.core.una(), now);
         answer
+    }
+
+    /// What the retransmission timer sends again goes out again at once, and it hasn't expired, so that nothing is backed off or
+    /// counted (RFC 9293, 3.8.1): a SYN that isn't acknowledged, or else all that is in flight, or a probe of a shut window.
+    pub fn retransmit(&mut self, now: u64)
+        ensures { self.new ≡ after_user C.machine self.old (at self.old now) (C.machine.expired self.old.core Retransmit) }
+    {
+        let now = self.timers.time_at(now);
+        self.core.expire(Timer::Retransmit);
+        self.timers.follow(self.core.wants(), self.core.una(), now);
     }
 
     /// The user has text to send (RFC 9293, 3.10.2).

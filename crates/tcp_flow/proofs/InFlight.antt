@@ -14,7 +14,7 @@ use Rattle.tcp_driver.specs.Machine.{Machine}
 use Rattle.tcp_driver.specs.Rows.{after_emissions, emissions_of}
 use Rattle.tcp_driver.specs.Times.{expiry}
 use Rattle.tcp_flow.proofs.Driving.{chosen_by, rest_by}
-use Rattle.tcp_flow.specs.Calls.{FlowCall, Comes, Goes, GoesAsOne, Passes, Asks, Limits, Waits, Chooses, Loses, FlowIsDriven, Resends, Nothing, First, Between, after_flow_call, after_flow_calls, behind}
+use Rattle.tcp_flow.specs.Calls.{FlowCall, Comes, Goes, GoesAsOne, Passes, Asks, Limits, Waits, Chooses, Loses, Measures, FlowIsDriven, Resends, Nothing, First, Between, after_flow_call, after_flow_calls, behind}
 use Rattle.tcp_flow.specs.Flow.{Flowing, allowed, flight_of, is_idle, rested, row_of, una_of}
 use Rattle.tcp_flow.specs.InFlight.{AllUseNone, CountsFlight, InFlightStaysInWindow, LetsOutTwoMore, UsesNone, flight_with, let_out, let_out_by, let_out_in_turn, most_let_out, reach}
 
@@ -169,6 +169,7 @@ step m Always smss_of c h more driven f (Waits patient) a none = stays m Always 
 step m Always smss_of c h more driven f (Chooses window) a none =
     subst (λ d. Has m Always d.core (max (flight_of m f) 0)) (sym (chosen_by _ _ (c.limits window) refl)) (stays m Always f.driving.core a)
 step m Always smss_of c h more driven f (Loses loss) a none = stays m Always f.driving.core a
+step m Always smss_of c h more driven f (Measures trip) a none = stays m Always f.driving.core a
 
 over-all : (now before out most : ℕ) → now ≤ max before out → before ≤ most → now ≤ max out most
 over-all now before out most e f = omega (arith, e, f)

@@ -46,8 +46,9 @@ told-by m smss_of c f k true false is said keeps = absurd (cc)
 told-by m smss_of c f k false says is said keeps = absurd (cc)
 
 pub pipe_lem : {S W : Type 0} (m : Machine S) (smss_of : S → Option ℕ) (c : Control W) → RecoveryKeepsPipe c → PipeStaysInThreshold m smss_of c
-pipe_lem m smss_of c keeps f una report now is said =
-    told-by m smss_of c f (flow.after_report m c (record f { shut = flow.shut_by report.window f.shut }) una report now) (c.limits f.window)
+pipe_lem m smss_of c keeps f una reported report now is said =
+    told-by m smss_of c f
+    (flow.after_report m c (record f { shut = flow.shut_by report.window f.shut }) una (flow.delivered_by m c f reported report) report now) (c.limits f.window)
     (flow.says_something m f una report) is said keeps
 
 -- ---- each window

@@ -5,9 +5,9 @@ use Rattle.tcp_driver.specs.Calls.{Call, Arrives, Emits, Expires, SetsPatience, 
 use Rattle.tcp_driver.specs.Machine.{Machine}
 use Rattle.tcp_driver.specs.Rows.{emissions_of}
 use Rattle.tcp_flow.specs.declared.loss.Loss.{Loss}
-use Rattle.tcp_flow.specs.Flow.{Flowing, after_loss, after_patience_of, after_segment, after_timeout, after_use, after_user_limit, allowed, emitted, emitted_as_one, rested, row_of, with_window}
+use Rattle.tcp_flow.specs.Flow.{Flowing, after_loss, after_patience_of, after_segment, after_timeout, after_trip, after_use, after_user_limit, allowed, emitted, emitted_as_one, rested, row_of, with_window}
 
--- each at a time, but a user timeout, patience, the choice of a window and a loss that the caller found; an arrival with its source and
+-- each at a time, but a user timeout, patience, the choice of a window, and a loss and a round trip that the caller found; an arrival with its source and
 -- destination, and whether a device has found its checksum right; an emission within the caller's window, and one of at most so many
 -- segments into so much room; a user's call with what the end is after it
 pub data FlowCall (S W : Type 0) : Type 0 where
@@ -20,6 +20,7 @@ pub data FlowCall (S W : Type 0) : Type 0 where
   Waits : Bool → FlowCall S W
   Chooses : W → FlowCall S W
   Loses : Loss → FlowCall S W
+  Measures : ℕ → FlowCall S W
 
 abbrev pub after_flow_call : {S W : Type 0} → Machine S → (S → Option ℕ) → Control W → Flowing S W → FlowCall S W → Flowing S W
 after_flow_call m smss_of c f (Comes now src dst bytes vouched) = after_segment m smss_of c f now src dst bytes vouched
@@ -31,6 +32,7 @@ after_flow_call m smss_of c f (Limits limit) = after_user_limit f limit
 after_flow_call m smss_of c f (Waits patient) = after_patience_of f patient
 after_flow_call m smss_of c f (Chooses window) = with_window smss_of c f window
 after_flow_call m smss_of c f (Loses loss) = after_loss m c f loss
+after_flow_call m smss_of c f (Measures trip) = after_trip m c f trip
 
 -- MANY, THE NEWEST FIRST
 abbrev pub after_flow_calls : {S W : Type 0} → Machine S → (S → Option ℕ) → Control W → Flowing S W → List (FlowCall S W) → Flowing S W
@@ -62,6 +64,7 @@ calls_of m c f resends (Limits limit) = SetsUserTimeout limit ∷ []
 calls_of m c f resends (Waits patient) = SetsPatience patient ∷ []
 calls_of m c f resends (Chooses window) = []
 calls_of m c f resends (Loses loss) = []
+calls_of m c f resends (Measures trip) = []
 
 -- WHATEVER IS CALLED, the driver in a flow is as after these, so that each of its laws holds of it
 pub record IsDriven {S W : Type 0} (m : Machine S) (smss_of : S → Option ℕ) (c : Control W) (f : Flowing S W) (call : FlowCall S W) : Type 0 where

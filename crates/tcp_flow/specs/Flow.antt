@@ -27,9 +27,11 @@ pub record Flowing (S W : Type 0) : Type 0 where
   pub drops : ℕ
   -- duplicates behind all that was sent again, of which three count
   pub repeats : ℕ
+  -- losses are found by time, not a round trip behind a gap
+  pub patient : Bool
 
 abbrev pub new_flowing : {S W : Type 0} → Driving S → W → ℕ → Flowing S W
-new_flowing driving window now = record { driving = driving; window = window; shut = false; sent_at = now; drops = 0; repeats = 0 }
+new_flowing driving window now = record { driving = driving; window = window; shut = false; sent_at = now; drops = 0; repeats = 0; patient = false }
 
 -- ---- WHAT IT KNOWS of its end: SND.UNA, how many numbers are in flight, SND.NXT, and whether blocks report a gap
 abbrev pub una_of : {S W : Type 0} → Machine S → Flowing S W → ℕ
@@ -91,11 +93,31 @@ with_all m c f now = record f {
 abbrev pub with_lost : {S W : Type 0} → Machine S → Control W → Flowing S W → ℕ → Bool → Flowing S W
 with_lost m c f now again = if again && f.drops == most_drops then with_all m c f now else with_first m f now again
 
+-- WHAT AN ARRIVAL HAS DELIVERED (DeliveredData: RFC 6937, 2): what it acknowledges and what blocks report then, but for what they had
+-- reported before it. By so much the window grows where losses are found by time, soon behind a gap. Elsewhere, where a gap is found lost a
+-- round trip later, in which it would grow on, and in a recovery, where it doesn't, what is acknowledged is told
+abbrev pub counts_blocks : {S W : Type 0} → Control W → Flowing S W → Bool
+counts_blocks c f = f.patient && not (c.is_recovering f.window)
+
+abbrev pub reported_before : {S W : Type 0} → Machine S → Control W → Flowing S W → ℕ
+reported_before m c f = if counts_blocks c f then m.reported f.driving.core else 0
+
+abbrev pub delivered_by : {S W : Type 0} → Machine S → Control W → Flowing S W → ℕ → Report → ℕ
+delivered_by m c f reported report =
+    if counts_blocks c f then min latest (report.acked + m.reported f.driving.core) - reported else report.acked
+
+-- where SND.UNA stays blocks alone tell of it
+abbrev pub with_delivery : {S W : Type 0} → Machine S → Control W → Flowing S W → ℕ → ℕ → Flowing S W
+with_delivery m c f delivered now =
+    if counts_blocks c f && not (delivered == 0)
+    then record f { window = c.delivered f.window delivered (flight_of m f) now (srtt_of f.driving.times.estimate.trip) }
+    else f
+
 -- SND.UNA HAS MOVED ON
-abbrev pub after_progress : {S W : Type 0} → Machine S → Control W → Flowing S W → ℕ → ℕ → Flowing S W
-after_progress m c f acked now =
+abbrev pub after_progress : {S W : Type 0} → Machine S → Control W → Flowing S W → ℕ → ℕ → ℕ → Flowing S W
+after_progress m c f acked delivered now =
     with_lost m c (record f {
-      window = c.acknowledged f.window acked (una_of m f) (flight_of m f) now (srtt_of f.driving.times.estimate.trip);
+      window = c.acknowledged f.window delivered (una_of m f) (flight_of m f) now (srtt_of f.driving.times.estimate.trip);
       drops = counted_drops m c f acked;
       repeats = 0;
     }) now (c.is_partial f.window (una_of m f) && not (has_blocks m f))
@@ -125,10 +147,10 @@ after_duplicate m c f now =
     else with_lost m c (record f { window = c.duplicated f.window (una_of m f) (flight_of m f) (nxt_of m f) }) now (c.begins_recovery f.window (una_of m f)))
 
 -- while the peer's window is shut what comes again and again answers probes, and says nothing of the path (RFC 9293, 3.8.6.1)
-abbrev pub after_report : {S W : Type 0} → Machine S → Control W → Flowing S W → ℕ → Report → ℕ → Flowing S W
-after_report m c f una report now =
-    if nat_lt una (una_of m f) then after_progress m c f report.acked now
-    else (if report.is_duplicate && not f.shut then after_duplicate m c f now else f)
+abbrev pub after_report : {S W : Type 0} → Machine S → Control W → Flowing S W → ℕ → ℕ → Report → ℕ → Flowing S W
+after_report m c f una delivered report now =
+    if nat_lt una (una_of m f) then after_progress m c f report.acked delivered now
+    else (if report.is_duplicate && not f.shut then after_duplicate m c (with_delivery m c f delivered now) now else with_delivery m c f delivered now)
 
 -- SMSS is what both SYNs agreed on, once they have (RFC 5681, 2)
 abbrev pub agreed_by : {W : Type 0} → Control W → W → Option ℕ → W
@@ -138,19 +160,20 @@ agreed_by c w (Some smss) = if c.smss w == smss then w else c.agreed w smss
 abbrev pub settled : {S W : Type 0} → (S → Option ℕ) → Control W → Flowing S W → Flowing S W
 settled smss_of c f = record f { window = agreed_by c f.window (smss_of f.driving.core) }
 
--- told of a segment that was taken, before which SND.UNA was this
-abbrev pub told : {S W : Type 0} → Machine S → (S → Option ℕ) → Control W → Flowing S W → ℕ → Report → ℕ → Flowing S W
-told m smss_of c f una report now =
+-- told of a segment that was taken, before which SND.UNA was this, and blocks reported so much
+abbrev pub told : {S W : Type 0} → Machine S → (S → Option ℕ) → Control W → Flowing S W → ℕ → ℕ → Report → ℕ → Flowing S W
+told m smss_of c f una reported report now =
     if c.limits f.window
     then settled smss_of c
-    (with_pipe_if (says_something m f una report) m c (after_report m c (record f { shut = shut_by report.window f.shut }) una report now))
+    (with_pipe_if (says_something m f una report) m c
+    (after_report m c (record f { shut = shut_by report.window f.shut }) una (delivered_by m c f reported report) report now))
     else f
 
 abbrev pub after_segment : {S W : Type 0} → Machine S → (S → Option ℕ) → Control W → Flowing S W → ℕ → List ℕ → List ℕ → List ℕ → Bool → Flowing S W
 after_segment m smss_of c f now src dst bytes vouched =
     if f.driving.times.bursting || is_withheld m f.driving.core bytes then f
     else told m smss_of c (record f { driving = after_arrival m f.driving (at f.driving now) src dst bytes (way_of f.driving vouched) }) (una_of m f)
-    (m.report f.driving.core src dst bytes (way_of f.driving vouched)) now
+    (reported_before m c f) (m.report f.driving.core src dst bytes (way_of f.driving vouched)) now
 
 -- ---- AN EMISSION. Nothing was in flight, and nothing sent for longer than the timeout (RFC 5681, 4.1)
 abbrev pub is_idle : {S W : Type 0} → Machine S → Flowing S W → ℕ → Bool
@@ -224,6 +247,10 @@ found_by m c f Repaired = c.found_by_time (c.lost f.window (una_of m f) (flight_
 abbrev pub after_loss : {S W : Type 0} → Machine S → Control W → Flowing S W → Loss → Flowing S W
 after_loss m c f loss = record f { window = if c.limits f.window then found_by m c f loss else f.window }
 
+-- A ROUND TRIP that a caller has measured by itself behind what came, which is one for HyStart++ (RFC 9406, 4.2)
+abbrev pub after_trip : {S W : Type 0} → Machine S → Control W → Flowing S W → ℕ → Flowing S W
+after_trip m c f trip = record f { window = if c.limits f.window then c.measured f.window trip (una_of m f) (nxt_of m f) else f.window }
+
 -- ---- A USER'S CALL is the driver's
 abbrev pub after_use : {S W : Type 0} → Machine S → Flowing S W → ℕ → S → Flowing S W
 after_use m f now core = record f { driving = after_user m f.driving (at f.driving now) core }
@@ -232,7 +259,7 @@ abbrev pub after_user_limit : {S W : Type 0} → Flowing S W → Option ℕ → 
 after_user_limit f limit = record f { driving = after_user_timeout f.driving limit }
 
 abbrev pub after_patience_of : {S W : Type 0} → Flowing S W → Bool → Flowing S W
-after_patience_of f patient = record f { driving = after_patience f.driving patient }
+after_patience_of f patient = record f { driving = after_patience f.driving patient; patient = patient }
 
 -- ANOTHER WINDOW, of an end that has sent no text
 abbrev pub with_window : {S W : Type 0} → (S → Option ℕ) → Control W → Flowing S W → W → Flowing S W

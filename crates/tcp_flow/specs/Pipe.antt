@@ -19,7 +19,7 @@ pub record RecoveryKeepsPipe {W : Type 0} (c : Control W) : Type 0 where
 -- of what is in flight, whatever it says and however often, no more than these is let out from SND.UNA on
 abbrev pub PipeStaysInThreshold : {S W : Type 0} → Machine S → (S → Option ℕ) → Control W → Type 0
 PipeStaysInThreshold {S = S} {W = W} m smss_of c =
-    (f : Flowing S W) (una : ℕ) (report : Report) (now : ℕ) → c.limits f.window ≡ true → says_something m f una report ≡ true
-    → c.is_recovering (told m smss_of c f una report now).window ≡ true → 0 < m.reported (told m smss_of c f una report now).driving.core
-    → c.room (told m smss_of c f una report now).window 0
-    ≤ c.ssthresh (told m smss_of c f una report now).window + m.reported (told m smss_of c f una report now).driving.core
+    (f : Flowing S W) (una reported : ℕ) (report : Report) (now : ℕ) → c.limits f.window ≡ true → says_something m f una report ≡ true
+    → c.is_recovering (told m smss_of c f una reported report now).window ≡ true → 0 < m.reported (told m smss_of c f una reported report now).driving.core
+    → c.room (told m smss_of c f una reported report now).window 0
+    ≤ c.ssthresh (told m smss_of c f una reported report now).window + m.reported (told m smss_of c f una reported report now).driving.core

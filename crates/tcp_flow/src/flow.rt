@@ -11,8 +11,10 @@ use tcp_driver::{Driver, Sent, Taken, Timer};
 pub struct Flow<C: Paced + Drop, W: Congestion + Drop> {
     pub(crate) driver: Driver<C>,
     pub(crate) window: W,
-    // These three lie in one word, so that a connection's block has kept its size.
+    // These four lie in one word, so that a connection's block has kept its size.
     pub(crate) is_shut: bool,
+    /// Losses are found by time.
+    pub(crate) is_patient: bool,
     /// Partial acknowledgements in a row that covered no more than was sent again, of which two count.
     pub(crate) drops: u8,
     /// Duplicates behind all that was sent again, of which three count.
@@ -25,11 +27,12 @@ impl<C: Paced + Drop, W: Congestion + Drop> Model for Flow<C, W> {
 
     ghost Value = { Flowing C W };
 
-    ghost view = { λ f. record { driving = f.driver; window = f.window; shut = f.is_shut; sent_at = f.sent_at; drops = f.drops; repeats = f.repeats } };
+    ghost view = { λ f. record { driving = f.driver; window = f.window; shut = f.is_shut; sent_at = f.sent_at; drops = f.drops; repeats = f.repeats; patient = f.is_patient } };
 }
 
 impl<C: Paced + Drop, W: Congestion + Drop> Flow<C, W> {
     ghost use Rattle.std.specs.Prelude.{false, true};
+    ghost use Rattle.tcp_driver.specs.declared.machine.Timer.TheVariants.{Retransmit};
     ghost use Rattle.tcp_driver.specs.Driver.{arrival_answer, at, sent_of, way_of, written_of};
     ghost use Rattle.tcp_driver.specs.Times.{expiry, next_expiry};
     ghost use Rattle.tcp_driver.specs.Times.{is_suspect};
@@ -43,6 +46,7 @@ impl<C: Paced + Drop, W: Congestion + Drop> Flow<C, W> {
             driver,
             window,
             is_shut: false,
+            is_patient: false,
             drops: 0,
             repeats: 0,
             sent_at: now,
@@ -98,11 +102,12 @@ impl<C: Paced + Drop, W: Congestion + Drop> Flow<C, W> {
         ensures state { self.new ≡ after_segment C.machine C.smss_of W.control self.old now src dst bytes.now false }
     {
         let una = self.driver.core().una();
+        let reported = self.reported_before();
         let taken = self.driver.arrive(now, src, dst, bytes);
         if self.window.limits() {
             if let Taken::Done(report, _) = &taken {
                 let report = *report;
-                self.told(una, report, now);
+                self.told(una, reported, report, now);
             }
         }
         taken
@@ -138,11 +143,12 @@ impl<C: Paced + Drop, W: Congestion + Drop> Flow<C, W> {
         ensures state { self.new ≡ after_segment C.machine C.smss_of W.control self.old now src dst bytes.now true }
     {
         let una = self.driver.core().una();
+        let reported = self.reported_before();
         let taken = self.driver.arrive_vouched(now, src, dst, bytes);
         if self.window.limits() {
             if let Taken::Done(report, _) = &taken {
                 let report = *report;
-                self.told(una, report, now);
+                self.told(una, reported, report, now);
             }
         }
         taken
@@ -332,6 +338,7 @@ impl<C: Paced + Drop, W: Congestion + Drop> Flow<C, W> {
         ensures { self.new ≡ after_patience_of self.old is_patient }
     {
         self.driver.set_patience(is_patient);
+        self.is_patient = is_patient;
     }
 
     /// Of what is in flight the first segment goes out again at once, for a caller that finds losses by itself (RFC 5681, 3.2):
@@ -350,6 +357,14 @@ impl<C: Paced + Drop, W: Congestion + Drop> Flow<C, W> {
         ensures state { self.new ≡ after_use C.machine self.old now (C.machine.resent self.old.driving.core from to) }
     {
         self.driver.resend(now, from, to)
+    }
+
+    /// What the retransmission timer sends again goes out again at once, as for the driver: a SYN that isn't acknowledged, say, for
+    /// who knows that it was lost. The window isn't told.
+    pub fn retransmit(&mut self, now: u64)
+        ensures { self.new ≡ after_use C.machine self.old now (C.machine.expired self.old.driving.core Retransmit) }
+    {
+        self.driver.retransmit(now);
     }
 
     /// The driver: its end, its estimator, and what it says of both.

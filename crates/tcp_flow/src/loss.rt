@@ -19,7 +19,7 @@ pub enum Loss {
 
 impl<C: Paced + Drop, W: Congestion + Drop> Flow<C, W> {
     ghost use Rattle.std.specs.Prelude.{true};
-    ghost use Rattle.tcp_flow.specs.Flow.{after_loss, found_by};
+    ghost use Rattle.tcp_flow.specs.Flow.{after_loss, after_trip, found_by};
 
     /// A caller that finds losses by itself has found this, and the window is told, as of a loss that blocks found.
     pub fn lose(&mut self, loss: Loss)
@@ -28,6 +28,19 @@ impl<C: Paced + Drop, W: Congestion + Drop> Flow<C, W> {
         if self.window.limits() {
             self.tell(loss);
         }
+    }
+
+    /// Behind what came a caller that finds losses by itself has measured a round trip of `trip` microseconds, and the window is told:
+    /// where round trips become longer, its first slow start ends before anything is lost (RFC 9406, 4.2).
+    pub fn measured(&mut self, trip: u64)
+        ensures { self.new ≡ after_trip C.machine W.control self.old trip }
+    {
+        if !self.window.limits() {
+            return;
+        }
+        let una = self.driver.core().una();
+        let nxt = self.nxt();
+        self.window.measured(trip, una, nxt);
     }
 
     /// The window is told of what was found.

@@ -14,19 +14,38 @@ const MOST_REPEATS: u8 = 3;
 
 impl<C: Paced + Drop, W: Congestion + Drop> Flow<C, W> {
     ghost use Rattle.std.specs.Prelude.{true};
-    ghost use Rattle.tcp_flow.specs.Flow.{after_duplicate, after_progress, after_report, says_something, settled, srtt_of, told, with_first, with_pipe_if};
+    ghost use Rattle.tcp_flow.specs.Flow.{after_duplicate, after_progress, after_report, counts_blocks, delivered_by, reported_before, says_something, settled, srtt_of, told, with_delivery, with_first, with_pipe_if};
+
+    /// Whether the window grows by what blocks report: where losses are found by time, and no recovery goes on.
+    fn counts_blocks(&self) -> bool
+        ensures { result ≡ counts_blocks W.control self.now }
+    {
+        self.is_patient && !self.window.is_recovering()
+    }
+
+    /// What blocks report before an arrival, where it counts.
+    pub(crate) fn reported_before(&self) -> u64
+        ensures { result ≡ reported_before C.machine W.control self.now }
+    {
+        if self.counts_blocks() {
+            self.driver.core().reported()
+        } else {
+            0
+        }
+    }
 
     /// What came is told to the window.
     #[inline(never)]
-    pub(crate) fn told(&mut self, una: u64, report: Report, now: u64)
+    pub(crate) fn told(&mut self, una: u64, reported: u64, report: Report, now: u64)
         requires { W.control.limits self.old.window ≡ true }
-        ensures { self.new ≡ told C.machine C.smss_of W.control self.old una report now }
+        ensures { self.new ≡ told C.machine C.smss_of W.control self.old una reported report now }
     {
         let says = self.says_something(una, report);
         if let Some(window) = report.window {
             self.is_shut = window == 0;
         }
-        self.report(una, report, now);
+        let delivered = self.delivered_by(reported, report);
+        self.report(una, delivered, report, now);
         self.keep_pipe(says);
         self.settle();
     }
@@ -38,15 +57,41 @@ impl<C: Paced + Drop, W: Congestion + Drop> Flow<C, W> {
         una < self.driver.core().una() || report.window.is_some()
     }
 
-    /// What was acknowledged is told to the window.
-    fn report(&mut self, una: u64, report: Report, now: u64)
-        ensures { self.new ≡ after_report C.machine W.control self.old una report now }
+    /// How much an arrival has delivered, before which blocks reported so much (RFC 6937, 2).
+    fn delivered_by(&self, reported: u64, report: Report) -> u64
+        ensures { result ≡ delivered_by C.machine W.control self.now reported report }
+    {
+        if !self.counts_blocks() {
+            return report.acked;
+        }
+        let delivered = report.acked.saturating_add(self.driver.core().reported());
+        delivered.saturating_sub(reported)
+    }
+
+    /// What was acknowledged or delivered is told to the window.
+    fn report(&mut self, una: u64, delivered: u64, report: Report, now: u64)
+        ensures { self.new ≡ after_report C.machine W.control self.old una delivered report now }
     {
         if una < self.driver.core().una() {
-            self.progress(report.acked, now);
-        } else if report.is_duplicate && !self.is_shut {
+            self.progress(report.acked, delivered, now);
+            return;
+        }
+        self.deliver(delivered, now);
+        if report.is_duplicate && !self.is_shut {
             self.duplicate(now);
         }
+    }
+
+    /// Blocks have told of what was delivered, while SND.UNA has stayed.
+    fn deliver(&mut self, delivered: u64, now: u64)
+        ensures { self.new ≡ with_delivery C.machine W.control self.old delivered now }
+    {
+        if !self.counts_blocks() || delivered == 0 {
+            return;
+        }
+        let flight = self.driver.flight();
+        let rtt = self.rtt();
+        self.window.delivered(delivered, flight, now, rtt);
     }
 
     /// The window is of the segments that both SYNs agreed on, once they have.
@@ -61,8 +106,8 @@ impl<C: Paced + Drop, W: Congestion + Drop> Flow<C, W> {
     }
 
     /// SND.UNA has moved on.
-    fn progress(&mut self, acked: u64, now: u64)
-        ensures { self.new ≡ after_progress C.machine W.control self.old acked now }
+    fn progress(&mut self, acked: u64, delivered: u64, now: u64)
+        ensures { self.new ≡ after_progress C.machine W.control self.old acked delivered now }
     {
         let una = self.driver.core().una();
         let flight = self.driver.flight();
@@ -71,7 +116,7 @@ impl<C: Paced + Drop, W: Congestion + Drop> Flow<C, W> {
         let counts = self.window.is_recovering() && !has_blocks;
         let smss = self.window.smss();
         let kept = self.repeats == MOST_REPEATS && self.window.cwnd() < acked;
-        let partial = self.window.acknowledged(acked, una, flight, now, rtt);
+        let partial = self.window.acknowledged(delivered, una, flight, now, rtt);
         if counts {
             self.drops = drops_after(self.drops, smss, acked, partial, kept);
         }

@@ -1,5 +1,5 @@
 -- The connection in a connection with a recovery is as after calls of its own.
-use Rattle.std.proofs.Common.{◌≡◌, ℕ, List, [], ◌∷◌, Option, Some, None, refl, ap}
+use Rattle.std.proofs.Common.{◌≡◌, ℕ, List, [], ◌∷◌, Option, Some, None, refl, ap, ◌∙◌}
 use Rattle.tcp_congestion.specs.Control.{Control}
 use Rattle.tcp_driver.specs.declared.machine.Report.{Report}
 use Rattle.tcp_driver.specs.Machine.{Machine}
@@ -10,9 +10,9 @@ use Rattle.tcp_connection.specs.Going as going
 use Rattle.tcp_connection.specs.Insight.{Insight}
 use Rattle.tcp_connection.specs.Trains as trains
 use Rattle.tcp_repair.specs.declared.seen.Again.{Again}
-use Rattle.tcp_repair.specs.Calls.{Calls, Comes, Goes, GoesAsOne, Passes, Recovers, RepairingIsConnection, after_connection_calls, calls_again, calls_ready, has_repaired_by, losses}
+use Rattle.tcp_repair.specs.Calls.{Calls, Comes, Goes, GoesAsOne, Passes, Recovers, RepairingIsConnection, after_connection_calls, calls_again, calls_ready, has_repaired_by, losses, measured_by, trips}
 use Rattle.tcp_repair.specs.Recovery.{Repair, at_time}
-use Rattle.tcp_repair.specs.Repairing.{again_in, before_in, going_again, heard_by, losing_if, ready, ready_by, repaired_if}
+use Rattle.tcp_repair.specs.Repairing.{again_in, before_in, going_again, heard_by, losing_if, measuring_if, ready, ready_by, repaired_if}
 use Rattle.tcp_repair.specs.Reports.{Reports}
 
 -- a loss that is told is one call more
@@ -20,6 +20,12 @@ lost-by : {S W : Type 0} (m : Machine S) (i : Insight S) (smss_of : S → Option
     → losing_if m c lost (after_connection_calls m i smss_of c k calls) ≡ after_connection_calls m i smss_of c k (losses lost calls)
 lost-by m i smss_of c k calls None = refl
 lost-by m i smss_of c k calls (Some loss) = refl
+
+-- and so is a round trip
+trip-by : {S W : Type 0} (m : Machine S) (i : Insight S) (smss_of : S → Option ℕ) (c : Control W) (k : Connecting S W) (calls : List (ConnectionCall S W)) (trip : Option ℕ)
+    → measuring_if m c trip (after_connection_calls m i smss_of c k calls) ≡ after_connection_calls m i smss_of c k (trips trip calls)
+trip-by m i smss_of c k calls None = refl
+trip-by m i smss_of c k calls (Some trip) = refl
 
 again-by : {S W : Type 0} (m : Machine S) (i : Insight S) (smss_of : S → Option ℕ) (c : Control W) (k : Connecting S W) (now : ℕ) (again : Option Again)
     → going_again m c k now again ≡ after_connection_calls m i smss_of c k (calls_again m now again)
@@ -32,13 +38,17 @@ ready-by : {S W : Type 0} (m : Machine S) (i : Insight S) (smss_of : S → Optio
 ready-by m i smss_of c b k None now = refl
 ready-by m i smss_of c b k (Some r) now = again-by m i smss_of c k now (again_in m smss_of b k (at_time r now))
 
--- an arrival, behind which a loss may be told
+-- an arrival, behind which a round trip and a loss may be told
 heard-by : {S W : Type 0} (m : Machine S) (i : Insight S) (smss_of : S → Option ℕ) (c : Control W) (b : Reports S) (k : Connecting S W) (calls : List (ConnectionCall S W)) (recovery : Option Repair) (report : Option Report) (now : ℕ)
     → (heard_by m i smss_of c b (before_in m i k) (after_connection_calls m i smss_of c k calls) recovery report now).connecting
-    ≡ after_connection_calls m i smss_of c k (losses (repaired_if (has_repaired_by m i smss_of b k (after_connection_calls m i smss_of c k calls) recovery report now)) calls)
+    ≡ after_connection_calls m i smss_of c k (losses (repaired_if (has_repaired_by m i smss_of b k (after_connection_calls m i smss_of c k calls) recovery report now))
+    (trips (measured_by m i smss_of b k (after_connection_calls m i smss_of c k calls) recovery report now) calls))
 heard-by m i smss_of c b k calls None report now = refl
 heard-by m i smss_of c b k calls (Some r) None now = refl
-heard-by m i smss_of c b k calls (Some r) (Some report) now = lost-by m i smss_of c k calls _
+heard-by m i smss_of c b k calls (Some r) (Some report) now =
+    let lost = repaired_if (has_repaired_by m i smss_of b k (after_connection_calls m i smss_of c k calls) (Some r) (Some report) now) in
+    let trip = measured_by m i smss_of b k (after_connection_calls m i smss_of c k calls) (Some r) (Some report) now in
+    ap (λ x. losing_if m c lost x) (trip-by m i smss_of c k calls trip) ∙ lost-by m i smss_of c k (trips trip calls) lost
 
 pub connection_lem : {S W T : Type 0} (m : Machine S) (i : Insight S) (smss_of : S → Option ℕ) (answer : S → ℕ → ℕ → ℕ → Option T) (start_of numbers_of : T → ℕ) (c : Control W) (b : Reports S)
     → RepairingIsConnection m i smss_of answer start_of numbers_of c b

@@ -1,5 +1,5 @@
 -- WHAT AN ARRIVAL TELLS a recovery (RFC 8985, 6.2, steps 1 to 4, and 7.4.2).
-use Rattle.std.specs.Prelude.{ℕ, zero, suc, ◌+◌, Bool, false, not, ◌&&◌, ◌||◌, ◌==◌, if◌then◌else◌, nat_lt, nat_le, Option, Some, None, is_some, min}
+use Rattle.std.specs.Prelude.{ℕ, zero, suc, ◌+◌, Bool, false, not, ◌&&◌, ◌||◌, ◌==◌, if◌then◌else◌, nat_lt, nat_le, Option, Some, None, is_some, min, unwrap_or}
 use Rattle.tcp_recovery.specs.declared.delivered.Delivered.{Delivered}
 use Rattle.tcp_recovery.specs.declared.probe.Probe.{Probe}
 use Rattle.tcp_recovery.specs.Probe.{after_ack, after_measurement, has_repaired}
@@ -11,15 +11,15 @@ use Rattle.tcp_repair.specs.declared.trips.LeastTrip.{LeastTrip}
 use Rattle.tcp_repair.specs.Recovery.{Repair, min_rtt_of, with_probe, with_probe_stopped}
 use Rattle.tcp_repair.specs.Trips.{after_trip}
 
--- ---- STEP 2: what is newly acknowledged (RFC 8985, 6.2). SND.UNA has moved, or a duplicate came
+-- ---- STEP 2: what is newly acknowledged (RFC 8985, 6.2), where SND.UNA has moved
 abbrev pub has_moved : Told → Seen → Bool
 has_moved t s = nat_lt t.una s.una
 
 abbrev pub with_acked : Repair → Seen → Told → Repair
 with_acked r s t =
     if has_moved t s
-    then record r { rack = after_received r.rack 0 s.una r.clock (min_rtt_of r); duplicates = 0 }
-    else record r { duplicates = if t.is_duplicate then min 3 (r.duplicates + 1) else r.duplicates }
+    then record r { rack = after_received r.rack 0 s.una r.clock (min_rtt_of r) }
+    else r
 
 -- whether any of these numbers is outstanding, where this is the first stretch from them on that is
 abbrev pub starts_before : Option (ℕ × ℕ) → ℕ → Bool
@@ -64,14 +64,31 @@ with_trip r before =
     then record r { trips = trips_after r.trips r.rack.delivered.rtt r.clock; probe = after_measurement r.probe }
     else r
 
+-- the congestion window is told of it, too
+abbrev pub trip_since : Delivered → Delivered → Option ℕ
+trip_since before after = if has_told before after && nat_lt 0 after.rtt then Some after.rtt else None
+
 -- ---- THE PROBE IS ACKNOWLEDGED (RFC 8985, 7.4.2). Both came, what was lost by the look of it and what went out again, where an
 -- acknowledgement says nothing new, and no gap is left: the standard has a D-SACK beside that, which isn't read here (own)
 abbrev pub both_came : Seen → Told → Bool
 both_came s t = not (has_moved t s) && t.is_echo && not s.has_gap
 
--- whether the probe has repaired a loss, of which the congestion window is told
+-- WITHOUT BLOCKS AN ANSWER THAT COVERS NO MORE THAN THE PROBE, which is two segments at most, while more is in flight, says that what
+-- was sent behind these is lost, too, or wasn't kept: it is being repaired up to SND.NXT (own). One that covers more is of a peer that
+-- keeps what comes out of order, and what else is lost there is left to the next probe. One by which no round trip was measured, as it
+-- came within the least one, isn't the probe's
+abbrev pub is_short : Told → Seen → Bool
+is_short t s = has_moved t s && nat_le s.una (t.una + s.smss + s.smss) && nat_lt s.una s.nxt
+
+abbrev pub shows_more : Repair → Seen → Told → Bool
+shows_more r s t = not s.has_agreed && is_some r.probe.end_seq && r.probe.is_retrans && r.probe.is_measured && is_short t s
+
+abbrev pub with_more : Bool → Repair → Seen → Repair
+with_more shows r s = if shows then record r { recover = Some (unwrap_or r.recover s.nxt) } else r
+
+-- whether the probe has repaired a loss, of which the congestion window is told; where more is being repaired it is told of that
 abbrev pub repairs : Repair → Seen → Told → Bool
-repairs r s t = has_repaired r.probe s.una (both_came s t)
+repairs r s t = has_repaired r.probe s.una (both_came s t) && not (shows_more r s t)
 
 abbrev pub with_probe_acked : Repair → Seen → Told → Repair
 with_probe_acked r s t = record r { probe = after_ack r.probe s.una (both_came s t) }
@@ -91,9 +108,18 @@ is_freed before after = is_some before.end_seq && not (is_some after.end_seq)
 abbrev pub with_deliveries : Repair → Seen → (ℕ → Option (ℕ × ℕ)) → Told → Repair
 with_deliveries r s unmarked t = with_trip (with_blocks (with_acked r s t) s unmarked) r.rack.delivered
 
-abbrev pub probed : Repair → Repair → Seen → Told → Repair
-probed before r s t =
-    if has_moved t s || is_freed before.probe r.probe then with_probe (with_repaired r s) s else with_probe_stopped (with_repaired r s) s
+-- the round trip that an arrival measured
+unfoldable pub trip_by : Repair → Seen → (ℕ → Option (ℕ × ℕ)) → Told → Option ℕ
+trip_by r s unmarked t = trip_since r.rack.delivered (with_blocks (with_acked r s t) s unmarked).rack.delivered
+
+abbrev pub probed : Repair → Repair → Bool → Seen → Told → Repair
+probed before r shows s t =
+    if has_moved t s || is_freed before.probe r.probe
+    then with_probe (with_more shows (with_repaired r s) s) s
+    else with_probe_stopped (with_more shows (with_repaired r s) s) s
+
+abbrev pub answered : Repair → Repair → Seen → Told → Repair
+answered before r s t = probed before (with_probe_acked r s t) (shows_more r s t) s t
 
 unfoldable pub heard : Repair → Seen → (ℕ → Option (ℕ × ℕ)) → Told → Repair
-heard r s unmarked t = probed r (with_probe_acked (with_deliveries r s unmarked t) s t) s t
+heard r s unmarked t = answered r (with_deliveries r s unmarked t) s t

@@ -3,12 +3,13 @@ use Rattle.std.specs.Prelude.{◌≡◌, ℕ, Bool, false, true, List, [], ◌�
 use Rattle.tcp_congestion.specs.Control.{Control}
 use Rattle.tcp_driver.specs.declared.machine.Report.{Report}
 use Rattle.tcp_driver.specs.Machine.{Machine}
-use Rattle.tcp_connection.specs.Calls.{ConnectionCall, Arrives, Emits, EmitsAsOne, LosesOne, SetsPatience, Ticks, Uses, after_connection_call}
+use Rattle.tcp_connection.specs.Calls.{ConnectionCall, Arrives, Emits, EmitsAsOne, LosesOne, MeasuresTrip, SetsPatience, Ticks, Uses, after_connection_call}
 use Rattle.tcp_connection.specs.Connection as connection
 use Rattle.tcp_connection.specs.Connection.{Connecting, core_of, reported}
 use Rattle.tcp_connection.specs.Insight.{Insight}
 use Rattle.tcp_flow.specs.declared.loss.Loss.{Loss}
 use Rattle.tcp_repair.specs.declared.seen.Again.{Again}
+use Rattle.tcp_repair.specs.Arrival.{trip_by}
 use Rattle.tcp_repair.specs.Recovery.{Repair, at_time}
 use Rattle.tcp_repair.specs.Repairing.{Repaired, after_arriving, after_emit, after_own, after_tick, after_train, again_in, before_in, repaired_if, repairs_by, seen_in, told_of, with_recovery}
 use Rattle.tcp_repair.specs.Reports.{Reports}
@@ -42,6 +43,11 @@ abbrev pub losses : {S W : Type 0} → Option Loss → List (ConnectionCall S W)
 losses None calls = calls
 losses (Some loss) calls = LosesOne loss ∷ calls
 
+-- and a round trip
+abbrev pub trips : {S W : Type 0} → Option ℕ → List (ConnectionCall S W) → List (ConnectionCall S W)
+trips None calls = calls
+trips (Some trip) calls = MeasuresTrip trip ∷ calls
+
 -- WHAT GOES OUT AGAIN before an emission is what a caller would ask for
 abbrev pub calls_again : {S W : Type 0} → Machine S → ℕ → Option Again → List (ConnectionCall S W)
 calls_again m now None = []
@@ -51,7 +57,13 @@ abbrev pub calls_ready : {S W : Type 0} → Machine S → (S → Option ℕ) →
 calls_ready m smss_of b k None now = []
 calls_ready m smss_of b k (Some r) now = calls_again m now (again_in m smss_of b k (at_time r now))
 
--- BEHIND AN ARRIVAL a probe may have repaired a loss
+-- BEHIND AN ARRIVAL a round trip may be measured, and a probe may have repaired a loss
+abbrev pub measured_by : {S W : Type 0} → Machine S → Insight S → (S → Option ℕ) → Reports S → Connecting S W → Connecting S W → Option Repair → Option Report → ℕ → Option ℕ
+measured_by m i smss_of b k after None report now = None
+measured_by m i smss_of b k after (Some r) None now = None
+measured_by m i smss_of b k after (Some r) (Some report) now =
+    trip_by (at_time r now) (seen_in m smss_of b after) (b.unmarked (core_of after)) (told_of i (before_in m i k) (core_of after) report)
+
 abbrev pub has_repaired_by : {S W : Type 0} → Machine S → Insight S → (S → Option ℕ) → Reports S → Connecting S W → Connecting S W → Option Repair → Option Report → ℕ → Bool
 has_repaired_by m i smss_of b k after None report now = false
 has_repaired_by m i smss_of b k after (Some r) None now = false
@@ -64,7 +76,10 @@ connection_calls m i smss_of c b w (Comes now src dst bytes vouched) =
     losses
     (repaired_if (has_repaired_by m i smss_of b w.connecting (connection.after_arriving m i smss_of c w.connecting now src dst bytes vouched) w.recovery
     (reported m w.connecting.flowing.driving src dst bytes vouched) now))
-    (Arrives now src dst bytes vouched ∷ [])
+    (trips
+    (measured_by m i smss_of b w.connecting (connection.after_arriving m i smss_of c w.connecting now src dst bytes vouched) w.recovery
+    (reported m w.connecting.flowing.driving src dst bytes vouched) now)
+    (Arrives now src dst bytes vouched ∷ []))
 connection_calls m i smss_of c b w (Goes now window) = Emits now window ∷ calls_ready m smss_of b w.connecting w.recovery now
 connection_calls m i smss_of c b w (GoesAsOne now window most room) = EmitsAsOne now window most room ∷ calls_ready m smss_of b w.connecting w.recovery now
 connection_calls m i smss_of c b w (Passes now) = Ticks now ∷ []

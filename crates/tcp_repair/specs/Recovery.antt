@@ -23,8 +23,6 @@ pub record Repair : Type 0 where
   pub trips : LeastTrip
   -- while a loss is being repaired: SND.NXT when it was found
   pub recover : Option ℕ
-  -- how many duplicates have come since SND.UNA moved, 3 at most
-  pub duplicates : ℕ
   -- when the congestion window was told of a loss last
   pub shrunk : ℕ
   -- the time of the last call
@@ -32,7 +30,7 @@ pub record Repair : Type 0 where
 
 -- it begins with nothing sent, and at the first time there is: 0 stands for one that isn't known
 abbrev pub new_repair : Repair
-new_repair = record { rack = new_flight; probe = new_probe; trips = no_trips; recover = None; duplicates = 0; shrunk = 0; clock = 1 }
+new_repair = record { rack = new_flight; probe = new_probe; trips = no_trips; recover = None; shrunk = 0; clock = 1 }
 
 -- THE TIME OF A CALL: it never goes back, and stands still at the last one
 abbrev pub clock_at : Repair → ℕ → ℕ
@@ -111,16 +109,14 @@ timed_out r s = record r { probe = after_probe r.probe s.nxt false; recover = So
 unfoldable pub after_expiry : Repair → Seen → Option Timer → Repair
 after_expiry r s timer = if is_loss timer && nat_lt s.una s.nxt then timed_out r s else r
 
--- THE REORDERING WINDOW (RFC 8985, 6.2, step 4). Three segments came behind a gap where as many duplicates did (own). Before a
--- round trip was measured it is of RACK.rtt. With RACK.rtt it is a microsecond at least, so that nothing is lost at the time at which
--- it is sent (own)
-abbrev pub is_certain : Repair → Bool
-is_certain r = is_some r.recover || (r.duplicates == 3)
-
+-- THE REORDERING WINDOW (RFC 8985, 6.2, step 4). No loss is certain, however many came behind it or whatever is being repaired (own: the
+-- standard has no window then, as long as no reordering was seen, so that the first segments that overtake each other shrink the
+-- congestion window). Before a round trip was measured it is of RACK.rtt. With RACK.rtt it is a microsecond at least, so that nothing is
+-- lost at the time at which it is sent (own)
 abbrev pub window_of : Repair → Seen → ℕ
 window_of r s =
     max (1 - r.rack.delivered.rtt)
-    (reo_wnd_of r.rack.delivered (unwrap_or s.srtt r.rack.delivered.rtt) (unwrap_or (least_of r.trips) r.rack.delivered.rtt) (is_certain r))
+    (reo_wnd_of r.rack.delivered (unwrap_or s.srtt r.rack.delivered.rtt) (unwrap_or (least_of r.trips) r.rack.delivered.rtt) false)
 
 -- WHAT IS LOST at a time (RFC 8985, 6.2, step 5) is looked for where blocks report a gap, or a loss is being repaired: else all
 -- that is in flight was sent behind all that was delivered

@@ -17,13 +17,13 @@ use Rattle.tcp_connection.specs.Insight.{Insight}
 use Rattle.tcp_flow.specs.declared.loss.Loss.{Loss}
 use Rattle.tcp_flow.specs.declared.loss.Loss.TheVariants.{Repaired as AsRepaired}
 use Rattle.tcp_connection.specs.Trains as connection_trains
-use Rattle.tcp_connection.specs.Using.{after_call, losing, with_patience}
+use Rattle.tcp_connection.specs.Using.{after_call, losing, measuring, with_patience}
 use Rattle.tcp_connection.specs.Using as connection_using
 use Rattle.tcp_repair.specs.declared.arriving.Before.{Before}
 use Rattle.tcp_repair.specs.declared.seen.Again.{Again}
 use Rattle.tcp_repair.specs.declared.seen.Seen.{Seen}
 use Rattle.tcp_repair.specs.declared.seen.Told.{Told}
-use Rattle.tcp_repair.specs.Arrival.{heard, repairs, with_deliveries}
+use Rattle.tcp_repair.specs.Arrival.{heard, repairs, trip_by, with_deliveries}
 use Rattle.tcp_repair.specs.Deadlines.{own_deadline}
 use Rattle.tcp_repair.specs.Emission.{again_of, goes_again, readied, went}
 use Rattle.tcp_repair.specs.Recovery.{Repair, after_expiry, at_time, begun}
@@ -61,7 +61,6 @@ before_in m i k = record { una = m.una (core_of k); snd_wnd = i.snd_wnd (core_of
 abbrev pub told_of : {S : Type 0} → Insight S → Before → S → Report → Told
 told_of i before s report = record {
   una = before.una;
-  is_duplicate = report.is_duplicate;
   is_echo = is_same report.window before.snd_wnd && (i.rcv_nxt s == before.rcv_nxt);
 }
 
@@ -69,6 +68,11 @@ told_of i before s report = record {
 abbrev pub losing_if : {S W : Type 0} → Machine S → Control W → Option Loss → Connecting S W → Connecting S W
 losing_if m c None k = k
 losing_if m c (Some loss) k = losing m c k loss
+
+-- and of a round trip that was measured
+abbrev pub measuring_if : {S W : Type 0} → Machine S → Control W → Option ℕ → Connecting S W → Connecting S W
+measuring_if m c None k = k
+measuring_if m c (Some trip) k = measuring m c k trip
 
 abbrev pub repaired_if : Bool → Option Loss
 repaired_if repairs = if repairs then Some AsRepaired else None
@@ -78,7 +82,8 @@ repairs_by r s unmarked t = repairs (with_deliveries r s unmarked t) s t
 
 abbrev pub heard_in : {S W : Type 0} → Machine S → (S → Option ℕ) → Control W → Reports S → Connecting S W → Repair → Told → Repaired S W
 heard_in m smss_of c b k r t = record {
-  connecting = losing_if m c (repaired_if (repairs_by r (seen_in m smss_of b k) (b.unmarked (core_of k)) t)) k;
+  connecting = losing_if m c (repaired_if (repairs_by r (seen_in m smss_of b k) (b.unmarked (core_of k)) t))
+      (measuring_if m c (trip_by r (seen_in m smss_of b k) (b.unmarked (core_of k)) t) k);
   recovery = Some (heard r (seen_in m smss_of b k) (b.unmarked (core_of k)) t);
 }
 

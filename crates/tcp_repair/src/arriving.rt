@@ -2,8 +2,8 @@
 ghost use Rattle.std.specs.Prelude.{◌≡◌};
 ghost use Rattle.tcp_connection.specs.Connection.{core_of};
 ghost use Rattle.tcp_repair.specs.Recovery.{at_time};
-ghost use Rattle.tcp_repair.specs.Arrival.{heard};
-ghost use Rattle.tcp_repair.specs.Repairing.{is_same, losing_if, repaired_if, repairs_by, seen_in, told_of};
+ghost use Rattle.tcp_repair.specs.Arrival.{heard, trip_by};
+ghost use Rattle.tcp_repair.specs.Repairing.{is_same, losing_if, measuring_if, repaired_if, repairs_by, seen_in, told_of};
 
 use crate::recovery::Recovery;
 use crate::repairing::Repairing;
@@ -42,7 +42,6 @@ fn told_by<C: Reporting>(before: Before, core: &C, report: Report) -> Told
 {
     Told {
         una: before.una,
-        is_duplicate: report.is_duplicate,
         is_echo: is_same(report.window, before.snd_wnd) && core.rcv_nxt() == before.rcv_nxt,
     }
 }
@@ -84,14 +83,18 @@ fn hear_in<C: Reporting + Drop, W: Congestion + Drop>(
     report: Report,
     now: u64,
 )
-    ensures connection { connection.new ≡ losing_if C.machine W.control (repaired_if (repairs_by (at_time recovery.old now) (seen_in C.machine C.smss_of C.reports connection.old) (C.reports.unmarked (core_of connection.old)) (told_of C.insight before (core_of connection.old) report))) connection.old }
+    ensures connection { connection.new ≡ losing_if C.machine W.control (repaired_if (repairs_by (at_time recovery.old now) (seen_in C.machine C.smss_of C.reports connection.old) (C.reports.unmarked (core_of connection.old)) (told_of C.insight before (core_of connection.old) report))) (measuring_if C.machine W.control (trip_by (at_time recovery.old now) (seen_in C.machine C.smss_of C.reports connection.old) (C.reports.unmarked (core_of connection.old)) (told_of C.insight before (core_of connection.old) report)) connection.old) }
     ensures recovery { recovery.new ≡ heard (at_time recovery.old now) (seen_in C.machine C.smss_of C.reports connection.old) (C.reports.unmarked (core_of connection.old)) (told_of C.insight before (core_of connection.old) report) }
 {
     recovery.pass(now);
     let seen = Seen::of(connection);
     let core = connection.flow().driver().core();
     let told = told_by(before, core, report);
-    if recovery.hear(core, seen, told) {
+    let heard = recovery.hear(core, seen, told);
+    if let Some(trip) = heard.trip {
+        connection.measured(trip);
+    }
+    if heard.repairs {
         connection.lose(Loss::Repaired);
     }
 }

@@ -8,8 +8,9 @@ use crate::reporting::Reporting;
 use tcp_congestion::Congestion;
 
 /// Whatever is called, the connection inside is as after calls of its own: those that were called, before an emission also one that
-/// sends again what is lost, and where a loss was found one that tells the congestion window. So every law of a connection holds of
-/// it ([`tcp_connection::laws`]), of its flow ([`tcp_flow::laws`]) and of its driver ([`tcp_driver::laws`]).
+/// sends again what is lost; where a loss was found one that tells the congestion window, and before it, where a round trip was
+/// measured, one that tells that. So every law of a connection holds of it ([`tcp_connection::laws`]), of its flow
+/// ([`tcp_flow::laws`]) and of its driver ([`tcp_driver::laws`]).
 pub fn repairing_is_connection<C: Reporting, W: Congestion>()
     ensures { RepairingIsConnection C.machine C.insight C.smss_of C.train_answer C.start_of C.numbers_of W.control C.reports }
 {}

@@ -21,8 +21,6 @@ pub struct Recovery {
     pub(crate) trips: LeastTrip,
     /// SND.NXT when a loss was found that isn't repaired yet.
     pub(crate) recover: Option<u64>,
-    /// How many duplicates have come since SND.UNA moved, 3 at most.
-    pub(crate) duplicates: u64,
     /// When the congestion window was told of a loss last.
     pub(crate) shrunk: u64,
 }
@@ -32,7 +30,7 @@ impl Model for Recovery {
 
     ghost Value = { Repair };
 
-    ghost view = { λ r. record { rack = r.timed.rack; probe = r.probe; trips = r.trips; recover = r.recover; duplicates = r.duplicates; shrunk = r.shrunk; clock = r.timed.clock } };
+    ghost view = { λ r. record { rack = r.timed.rack; probe = r.probe; trips = r.trips; recover = r.recover; shrunk = r.shrunk; clock = r.timed.clock } };
 }
 
 /// Whether a probe may wait (RFC 8985, 7.2).
@@ -50,7 +48,7 @@ fn is_loss(timer: Option<Timer>) -> bool
 }
 
 impl Recovery {
-    ghost use Rattle.tcp_repair.specs.Recovery.{after_expiry, at_time, begun, clock_at, is_certain, is_looking, is_second, loss_at, lost_at, min_rtt_of, new_repair, recovering, sent_between, started, timed_out, window_of, with_probe, with_probe_stopped};
+    ghost use Rattle.tcp_repair.specs.Recovery.{after_expiry, at_time, begun, clock_at, is_looking, is_second, loss_at, lost_at, min_rtt_of, new_repair, recovering, sent_between, started, timed_out, window_of, with_probe, with_probe_stopped};
 
     /// Nothing was sent yet.
     pub fn new() -> Recovery
@@ -61,7 +59,6 @@ impl Recovery {
             probe: Probe::new(),
             trips: LeastTrip::new(),
             recover: None,
-            duplicates: 0,
             shrunk: 0,
         }
     }
@@ -198,16 +195,15 @@ impl Recovery {
         }
     }
 
-    /// RACK.reo_wnd (RFC 8985, 6.2, step 4).
+    /// RACK.reo_wnd (RFC 8985, 6.2, step 4), of which a loss is never certain.
     pub(crate) fn window(&self, seen: Seen) -> u64
         ensures { result ≡ window_of self.now seen }
     {
         let rtt = self.timed.rack().delivered().rtt;
-        let is_certain = self.recover.is_some() || self.duplicates == 3;
         let window = self.timed.rack().reo_wnd(
             seen.srtt.unwrap_or(rtt),
             self.trips.least().unwrap_or(rtt),
-            is_certain,
+            false,
         );
         window.max(1_u64.saturating_sub(rtt))
     }

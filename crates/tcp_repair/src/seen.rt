@@ -42,8 +42,6 @@ pub(crate) struct Seen {
 pub(crate) struct Told {
     /// SND.UNA before it.
     pub una: u64,
-    /// Whether it is a duplicate acknowledgement (RFC 5681, 2).
-    pub is_duplicate: bool,
     /// Whether its window was taken, and is the one that was known, while RCV.NXT stays: where SND.UNA does, too, it says nothing
     /// new.
     pub is_echo: bool,

@@ -15,7 +15,7 @@ impl<C: Reporting + Drop, W: Congestion + Drop, A: Allocator> Repairing<C, W, A>
     ghost use Rattle.tcp_driver.specs.Driver.{at};
     ghost use Rattle.tcp_driver.specs.Times.{expiry, is_suspect};
     ghost use Rattle.tcp_connection.specs.Connection.{core_of};
-    ghost use Rattle.tcp_connection.specs.Using.{after_acknowledging, after_call, after_reading, choosing, losing, with_policy, with_user_limit};
+    ghost use Rattle.tcp_connection.specs.Using.{after_acknowledging, after_call, after_reading, choosing, losing, measuring, with_policy, with_user_limit};
     ghost use Rattle.tcp_repair.specs.Repairing.{after_own, after_tick, expired_by, next_call, recovery_deadline};
 
     /// When `timeout` has to be called, and `emit` behind it, if nothing else happens before.
@@ -136,6 +136,14 @@ impl<C: Reporting + Drop, W: Congestion + Drop, A: Allocator> Repairing<C, W, A>
         ensures { self.new ≡ after_own self.old (losing C.machine W.control self.old.connecting loss) }
     {
         self.connection.lose(loss);
+    }
+
+    /// Behind what came a caller that finds losses by itself has measured a round trip of `trip` microseconds, and the congestion window
+    /// is told (RFC 9406, 4.2). A recovery by time tells its own.
+    pub fn measured(&mut self, trip: u64)
+        ensures { self.new ≡ after_own self.old (measuring C.machine W.control self.old.connecting trip) }
+    {
+        self.connection.measured(trip);
     }
 
     /// The user has text to send (RFC 9293, 3.10.2).

@@ -3,10 +3,11 @@
 //!   RTT`, `expired`, `window-opened` and `syn-resent` answer SRTT, RTTVAR and RTO.
 //! - `watch` begins with another watch; it takes `sent START COUNT NOW` and `acked UNA NOW`.
 //! - `reno SMSS [L]` and `cubic SMSS [L]` begin with another congestion window; `acknowledged ACKED UNA FLIGHT [NOW RTT]`,
-//!   `duplicate UNA FLIGHT NXT`, `reported`, `lost UNA FLIGHT NXT`, `lost-again`, `finds-by-time`, `keep-pipe REPORTED`, `timed-out FLIGHT NXT`,
-//!   `syn-lost` and `idle` answer cwnd and ssthresh, `recovering` while a recovery goes on, `again` where the first segment
-//!   has to be sent again, and `shrinks` where a loss is the first of a window; `room FLIGHT` answers how much may be sent,
-//!   and `may-resend` whether a segment may be sent again, of which `resent COUNT` says that it was.
+//!   `delivered COUNT FLIGHT NOW RTT`, `duplicate UNA FLIGHT NXT`, `reported`, `lost UNA FLIGHT NXT`, `lost-again`,
+//!   `finds-by-time`, `keep-pipe REPORTED`, `timed-out FLIGHT NXT`, `measured TRIP UNA NXT`, `syn-lost` and `idle` answer
+//!   cwnd and ssthresh, `recovering` while a recovery goes on, `again` where the first segment has to be sent again, and
+//!   `shrinks` where a loss is the first of a window; `room FLIGHT` answers how much may be sent, and `may-resend` whether
+//!   a segment may be sent again, of which `resent COUNT` says that it was.
 //! - `delayed RMSS DELAY` begins with another delay; `arrived COUNT URGENT NOW`, `answered` and `due NOW` answer when an
 //!   acknowledgement is due.
 //! - `sws MSS NAGLE TIMEOUT` begins with another sender; `window WND` and `segment QUEUED USABLE FLIGHT NOW` answer how long

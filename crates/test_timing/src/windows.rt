@@ -114,6 +114,8 @@ fn happens<W: Congestion>(window: &mut W, word: &[u8], rest: &[u8]) -> Result<An
             return Ok(Answer::Again(again));
         }
         b"duplicate" | b"lost" => return finds(window, word, rest),
+        b"delivered" => delivers(window, rest)?,
+        b"measured" => return measures(window, rest),
         b"reported" => window.reported(),
         b"timed-out" => {
             let (flight, rest) = first_number(rest)?;
@@ -128,6 +130,23 @@ fn happens<W: Congestion>(window: &mut W, word: &[u8], rest: &[u8]) -> Result<An
         _ => return Err(LineError::BadForm),
     }
     Ok(Answer::Again(false))
+}
+
+/// A round trip is measured.
+fn measures<W: Congestion>(window: &mut W, rest: &[u8]) -> Result<Answer, LineError> {
+    let (trip, rest) = first_number(rest)?;
+    let (snd_una, rest) = first_number(rest)?;
+    window.measured(trip, snd_una, number(rest)?);
+    Ok(Answer::Again(false))
+}
+
+/// Blocks report more bytes, at a time and with a smoothed round trip.
+fn delivers<W: Congestion>(window: &mut W, rest: &[u8]) -> Result<(), LineError> {
+    let (count, rest) = first_number(rest)?;
+    let (flight, rest) = first_number(rest)?;
+    let (now, rtt) = first_number(rest)?;
+    window.delivered(count, flight, now, number(rtt)?);
+    Ok(())
 }
 
 /// A loss is found, or may be.

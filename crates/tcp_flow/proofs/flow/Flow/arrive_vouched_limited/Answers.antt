@@ -6,8 +6,9 @@ use Rattle.tcp_flow.proofs.flow.Flow.arrive_vouched_limited.Goals as goal
 pub returns-in-Done-clause-state : goal.returns-in-Done-clause-state
 returns-in-Done-clause-state g c =
     heard_by g.C.Core.machine g.C.Paced.smss_of g.W.Congestion.control
-    (record { driving = c.self.inside.driver; window = c.self.inside.window; shut = c.self.inside.is_shut; sent_at = c.self.inside.sent_at; drops = c.self.inside.drops; repeats = c.self.inside.repeats })
+    (record { driving = c.self.inside.driver; window = c.self.inside.window; shut = c.self.inside.is_shut; sent_at = c.self.inside.sent_at; drops = c.self.inside.drops; repeats = c.self.inside.repeats; patient = c.self.inside.is_patient })
     c.args.self.now c.args.now c.args.src c.args.dst c.args.bytes.now true g.C.Core.arrival_answer
-    c.arrive_vouched-taken.new.self c.una-una.result (Done c.in-Done.report c.in-Done.field-1) c.told.new.self
+    c.arrive_vouched-taken.new.self c.una-una.result c.reported_before-reported.result (Done c.in-Done.report c.in-Done.field-1) c.told.new.self
     c.self.view_is c.arrive_vouched-taken.ensures.state (let u = c.una-una.ensures in let o = c.core.ensures in cc)
+    (let r = c.reported_before-reported.ensures in let v = c.self.view_is in cc)
     (sym c.in-Done.is ∙ c.arrive_vouched-taken.ensures.answer) c.told.ensures

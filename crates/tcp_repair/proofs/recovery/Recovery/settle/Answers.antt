@@ -27,7 +27,6 @@ loop-preserved g c =
       probe = c.self.inside.probe;
       trips = c.self.inside.trips;
       recover = c.self.inside.recover;
-      duplicates = c.self.inside.duplicates;
       shrunk = c.self.inside.shrunk;
       clock = t.clock;
     }) c.settled.ensures in
