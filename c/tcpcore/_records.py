@@ -6,13 +6,13 @@ import enum
 import ipaddress
 from typing import NamedTuple, Optional, Union
 
-VERSION = 20
+VERSION = 21
 EMIT_ROOM = 1520
 TRAIN_ROOM = 65_515
 RESET_ROOM = 20
 TIME_WAIT_ROOM = 20
 STRUCT_ROOM = 32
-RECOVERY_MEMORY = 2_863
+RECOVERY_MEMORY = 2_847
 LIMIT = 2_147_483_632
 # Of a connection: no limit, and no window.
 NEVER = (1 << 64) - 1

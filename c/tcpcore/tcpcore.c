@@ -1074,11 +1074,18 @@ uint32_t tcp_c_host_retire(struct handle *, const struct tcpcore_host_id *, stru
 uint32_t tcp_c_host_remove(struct handle *, const struct tcpcore_host_id *, struct handle *);
 uint32_t tcp_c_host_arrive(struct handle *, uint64_t, const tcpcore_addr *, const tcpcore_addr *, const uint8_t *, size_t,
                            struct tcpcore_host_arrived *, struct tcpcore_arrive_report *);
+uint32_t tcp_c_host_arrive_vouched(struct handle *, uint64_t, const tcpcore_addr *, const tcpcore_addr *, const uint8_t *, size_t,
+                                   struct tcpcore_host_arrived *, struct tcpcore_arrive_report *);
 uint32_t tcp_c_host_stray(struct handle *, uint64_t, const tcpcore_addr *, const tcpcore_addr *, const uint8_t *, size_t, uint8_t *, size_t,
                           size_t *);
 uint32_t tcp_c_host_emit(struct handle *, uint64_t, uint64_t, uint8_t *, size_t, struct tcpcore_host_sent *);
+uint32_t tcp_c_host_emit_by_id(struct handle *, uint64_t, const struct tcpcore_host_id *, uint64_t, uint8_t *, size_t,
+                               struct tcpcore_connection_segment *);
+uint32_t tcp_c_host_emit_train(struct handle *, uint64_t, const struct tcpcore_host_id *, uint64_t, uint8_t *, size_t, size_t,
+                               struct train *);
 uint32_t tcp_c_host_timeout(struct handle *, uint64_t, struct tcpcore_host_told *);
 uint32_t tcp_c_host_poll_at(struct handle *, uint64_t *);
+uint32_t tcp_c_host_find(struct handle *, const tcpcore_addr *, uint16_t, const tcpcore_addr *, uint16_t, struct tcpcore_host_id *);
 uint32_t tcp_c_host_send(struct handle *, uint64_t, const struct tcpcore_host_id *, const uint8_t *, size_t, size_t *);
 uint32_t tcp_c_host_receive(struct handle *, uint64_t, const struct tcpcore_host_id *, uint8_t *, size_t, size_t *);
 uint32_t tcp_c_host_peek(struct handle *, const struct tcpcore_host_id *, struct lent *);
@@ -1251,6 +1258,20 @@ uint32_t tcpcore_host_arrive(tcpcore_host *host, uint64_t now, tcpcore_addr src,
     return answer;
 }
 
+uint32_t tcpcore_host_arrive_vouched(tcpcore_host *host, uint64_t now, tcpcore_addr src, tcpcore_addr dst, const void *bytes, size_t length,
+                                     struct tcpcore_host_arrived *arrived, struct tcpcore_arrive_report *report)
+{
+    struct tcpcore_host_arrived found = {{0, 0}, 0, {0}};
+    struct tcpcore_arrive_report told = {0};
+    struct place where = {arrived, sizeof *arrived}, place = {report, sizeof *report};
+    uint32_t refused = host_refusal_with_two(host, bytes, length, where, place), answer = refused;
+    if (refused == TCPCORE_DONE)
+        answer = tcp_c_host_arrive_vouched(handle_of(host), now, &src, &dst, front(bytes), length, &found, &told);
+    put(refused, where, host_at(host), bytes, length, &found);
+    put(refused, place, host_at(host), bytes, length, &told);
+    return answer;
+}
+
 uint32_t tcpcore_host_stray(tcpcore_host *host, uint64_t now, tcpcore_addr src, tcpcore_addr dst, const void *bytes, size_t length,
                             void *out, size_t room, size_t *written)
 {
@@ -1279,6 +1300,35 @@ uint32_t tcpcore_host_emit(tcpcore_host *host, uint64_t now, uint64_t window, vo
     return answer;
 }
 
+uint32_t tcpcore_host_emit_by_id(tcpcore_host *host, uint64_t now, const struct tcpcore_host_id *id, uint64_t window, void *out,
+                                 size_t room, struct tcpcore_connection_segment *segment)
+{
+    struct tcpcore_connection_segment found = {0};
+    struct place place = {segment, sizeof *segment};
+    uint32_t refused = id ? host_refusal_with(host, out, room, place) : TCPCORE_NULL, answer = refused;
+    if (refused == TCPCORE_DONE) {
+        struct tcpcore_host_id here = *id;
+        answer = tcp_c_host_emit_by_id(handle_of(host), now, &here, window, start(out), room, &found);
+    }
+    put(refused, place, host_at(host), out, room, &found);
+    return answer;
+}
+
+uint32_t tcpcore_host_emit_train(tcpcore_host *host, uint64_t now, const struct tcpcore_host_id *id, uint64_t window, void *out,
+                                 size_t room, size_t most, struct tcpcore_train *train)
+{
+    struct train reported = {.segments = 0};
+    struct place place = {train, sizeof *train};
+    uint32_t refused = id ? host_refusal_with(host, out, room, place) : TCPCORE_NULL, answer = refused;
+    if (refused == TCPCORE_DONE) {
+        struct tcpcore_host_id here = *id;
+        answer = tcp_c_host_emit_train(handle_of(host), now, &here, window, start(out), room, most, &reported);
+    }
+    struct tcpcore_train found = train_of(&reported);
+    put(refused, place, host_at(host), out, room, &found);
+    return answer;
+}
+
 uint32_t tcpcore_host_timeout(tcpcore_host *host, uint64_t now, struct tcpcore_host_told *told)
 {
     struct tcpcore_host_told found = {.timer = TCPCORE_TIMER_NONE};
@@ -1298,6 +1348,20 @@ uint32_t tcpcore_host_poll_at(const tcpcore_host *host, uint64_t *at)
     if (refused == TCPCORE_DONE) {
         struct handle copy = copy_in(host->opaque);
         answer = tcp_c_host_poll_at(&copy, &found);
+    }
+    put(refused, place, host_at(host), NULL, 0, &found);
+    return answer;
+}
+
+uint32_t tcpcore_host_find(const tcpcore_host *host, tcpcore_addr addr, uint16_t port, tcpcore_addr peer_addr, uint16_t peer_port,
+                           struct tcpcore_host_id *id)
+{
+    struct tcpcore_host_id found = {0, 0};
+    struct place place = {id, sizeof *id};
+    uint32_t refused = host_refusal_with(host, NULL, 0, place), answer = refused;
+    if (refused == TCPCORE_DONE) {
+        struct handle copy = copy_in(host->opaque);
+        answer = tcp_c_host_find(&copy, &addr, port, &peer_addr, peer_port, &found);
     }
     put(refused, place, host_at(host), NULL, 0, &found);
     return answer;

@@ -209,7 +209,8 @@ def recoveries():
     check((a.emit_all(5.399), len(a.emit_all(5.4)), a.timeout(5.4)), ([], 1, None))
     check(a.poll_at() > 5.4, True)
     check((b.send(5.4, b"b"), len(b.emit_all(5.4)), raised(Refused, b.set_recovery, 5.4)), (1, 1, Answer.NO_RULE.text))
-    # Of three segments behind one that is lost each is answered: it goes out again a round trip after it was sent (RFC 8985, 6.2, step 4).
+    # Of three segments behind one that is lost each is answered: it goes out again a round trip and a quarter after it was sent (RFC 8985, 6.2,
+    # step 5).
     a, b = Connection.connect(0.0, CONFIGS[0], B, 2), Connection.listen(0.0, CONFIGS[1])
     a.set_recovery(0.0)
     check(carry(0.0, a, A, b) + carry(0.1, b, B, a) + carry(0.1, a, A, b), [Answer.DONE] * 3)
@@ -219,8 +220,9 @@ def recoveries():
         check(b.arrive(5.05, A, to, segment), Answer.DONE)
         answers += b.emit_all(5.05)
     check([a.arrive(5.1, B, to, answer) for to, answer in answers], [Answer.DONE] * 3)
-    told, _ = a.transmit(5.1)
-    check((told.position, told.numbers, a.transmit(5.1), a.timeout(5.1)), (1, told.length - 20, None, None))
+    check((a.transmit(5.1), a.transmit(5.12), 5.12 < a.poll_at() <= 5.125), (None, None, True))
+    told, _ = a.transmit(5.125)
+    check((told.position, told.numbers, a.transmit(5.125), a.timeout(5.125)), (1, told.length - 20, None, None))
 
 
 def peers():

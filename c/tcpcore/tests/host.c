@@ -46,6 +46,11 @@ static void one_connection(void)
     uint16_t port;
     CHECK(tcpcore_host_peer(&b.host, &server, &addr, &port), TCPCORE_DONE);
     CHECK(memcmp(&addr, &CLIENT, sizeof addr) == 0 && port == 1001, 1);
+    struct tcpcore_host_id found = none;
+    CHECK(tcpcore_host_find(&a.host, CLIENT, 1001, SERVER, PORT, &found) == TCPCORE_DONE && same(found, client), 1);
+    CHECK(tcpcore_host_find(&b.host, SERVER, PORT, CLIENT, 1001, &found) == TCPCORE_DONE && same(found, server), 1);
+    CHECK(tcpcore_host_find(&b.host, CLIENT, 1001, SERVER, PORT, &found) == TCPCORE_NOBODY && same(found, (struct tcpcore_host_id){0, 0}), 1);
+    CHECK(tcpcore_host_find(&a.host, CLIENT, 1002, SERVER, PORT, &found), TCPCORE_NOBODY);
 
     size_t count;
     unsigned char out[16];
@@ -136,6 +141,13 @@ static void one_connection(void)
     CHECK(tcpcore_host_emit(&a.host, now, UINT64_MAX, last, sizeof last, &sent), TCPCORE_DONE);
     CHECK(sent.place == TCPCORE_PLACE_RECORD && sent.length == 20 && last[13] == ACK && memcmp(&sent.from, &CLIENT, 4) == 0, 1);
     CHECK(carries(&a, &b, now), 0);
+    /* A record sums what a device has vouched for: where the device has left the sum out one is made (3.1). */
+    memcpy(last, fin, fin_length);
+    last[16] ^= 1;
+    CHECK(tcpcore_host_arrive_vouched(&a.host, now, SERVER, CLIENT, last, fin_length, &arrived, &report), TCPCORE_BAD_CHECKSUM);
+    CHECK(arrived.place == TCPCORE_PLACE_RECORD && arrived.id.number == 0, 1);
+    CHECK(tcpcore_host_emit(&a.host, now, UINT64_MAX, last, sizeof last, &sent), TCPCORE_NOT_DUE);
+    CHECK(tcpcore_host_find(&a.host, CLIENT, 1001, SERVER, PORT, &found), TCPCORE_NOBODY);
     memcpy(last, fin, fin_length);
     last[13] = RST;
     CHECK(tcpcore_host_arrive(&a.host, now, SERVER, CLIENT, last, fin_length, &arrived, &report), TCPCORE_WITHHELD);
@@ -393,6 +405,28 @@ static void misuse(void)
     CHECK(tcpcore_host_emit(&host, 0, UINT64_MAX, NULL, 0, &sent), TCPCORE_ROOM);
     CHECK(tcpcore_host_emit(&host, 0, UINT64_MAX, &host, sizeof host, &sent), TCPCORE_OVERLAP);
     CHECK(tcpcore_host_emit(&host, 0, UINT64_MAX, last, sizeof last, (struct tcpcore_host_sent *)(void *)last), TCPCORE_OVERLAP);
+    CHECK(tcpcore_host_arrive_vouched(&host, 0, CLIENT, SERVER, NULL, 1, &arrived, &report), TCPCORE_NULL);
+    CHECK(tcpcore_host_arrive_vouched(&host, 0, CLIENT, SERVER, last, 20, &arrived, over), TCPCORE_OVERLAP);
+    CHECK(tcpcore_host_arrive_vouched(&copy, 0, CLIENT, SERVER, last, 20, &arrived, &report), TCPCORE_COPIED);
+    CHECK(tcpcore_host_arrive_vouched(&host, 0, CLIENT, SERVER, NULL, 0, &arrived, &report), TCPCORE_DONE);
+    CHECK(arrived.place, TCPCORE_PLACE_NONE);
+    struct tcpcore_connection_segment segment;
+    struct tcpcore_train train;
+    CHECK(tcpcore_host_emit_by_id(&host, 0, NULL, UINT64_MAX, last, sizeof last, &segment), TCPCORE_NULL);
+    CHECK(tcpcore_host_emit_by_id(&host, 0, &end, UINT64_MAX, last, sizeof last, NULL), TCPCORE_NULL);
+    CHECK(tcpcore_host_emit_by_id(&host, 0, &end, UINT64_MAX, last, TCPCORE_EMIT_ROOM - 1, &segment), TCPCORE_ROOM);
+    CHECK(tcpcore_host_emit_by_id(&host, 0, &end, UINT64_MAX, &host, sizeof host, &segment), TCPCORE_OVERLAP);
+    CHECK(tcpcore_host_emit_by_id(&host, 0, &end, UINT64_MAX, last, sizeof last, (struct tcpcore_connection_segment *)(void *)last),
+          TCPCORE_OVERLAP);
+    CHECK(tcpcore_host_emit_by_id(&copy, 0, &end, UINT64_MAX, last, sizeof last, &segment), TCPCORE_COPIED);
+    CHECK(tcpcore_host_emit_train(&host, 0, NULL, UINT64_MAX, last, sizeof last, 1, &train), TCPCORE_NULL);
+    CHECK(tcpcore_host_emit_train(&host, 0, &end, UINT64_MAX, last, sizeof last, 1, NULL), TCPCORE_NULL);
+    CHECK(tcpcore_host_emit_train(&host, 0, &end, UINT64_MAX, last, TCPCORE_EMIT_ROOM - 1, 1, &train), TCPCORE_ROOM);
+    CHECK(tcpcore_host_emit_train(&host, 0, &end, UINT64_MAX, last, sizeof last, 1, (struct tcpcore_train *)(void *)last), TCPCORE_OVERLAP);
+    CHECK(tcpcore_host_emit_train(&copy, 0, &end, UINT64_MAX, last, sizeof last, 1, &train), TCPCORE_COPIED);
+    CHECK(tcpcore_host_find(&host, CLIENT, 1001, SERVER, PORT, NULL), TCPCORE_NULL);
+    CHECK(tcpcore_host_find(&host, CLIENT, 1001, SERVER, PORT, (struct tcpcore_host_id *)(void *)&host), TCPCORE_OVERLAP);
+    CHECK(tcpcore_host_find(&copy, CLIENT, 1001, SERVER, PORT, &end), TCPCORE_COPIED);
     size_t count;
     CHECK(tcpcore_host_stray(&host, 0, CLIENT, SERVER, last, 20, last, 20, &count), TCPCORE_OVERLAP);
     CHECK(tcpcore_host_stray(&host, 0, CLIENT, SERVER, last, 20, NULL, 20, &count), TCPCORE_NULL);
@@ -424,6 +458,10 @@ static void misuse(void)
     CHECK(tcpcore_host_peek(&host, &end, &lent), TCPCORE_NO_END);
     CHECK(tcpcore_host_consume(&host, 0, &end, 1, &count), TCPCORE_NO_END);
     CHECK(tcpcore_host_remove(&host, &end, &connection), TCPCORE_NO_END);
+    CHECK(tcpcore_host_arrive_vouched(&host, 0, CLIENT, SERVER, last, 20, &arrived, &report), TCPCORE_NO_END);
+    CHECK(tcpcore_host_emit_by_id(&host, 0, &end, UINT64_MAX, last, sizeof last, &segment), TCPCORE_NO_END);
+    CHECK(tcpcore_host_emit_train(&host, 0, &end, UINT64_MAX, last, sizeof last, 1, &train), TCPCORE_NO_END);
+    CHECK(tcpcore_host_find(&host, CLIENT, 1001, SERVER, PORT, &end), TCPCORE_NO_END);
     CHECK(tcpcore_host_new(&host, 0, 0, block, sizeof block), TCPCORE_DONE);
     CHECK(tcpcore_host_free(&host), TCPCORE_DONE);
 }

@@ -215,7 +215,17 @@ static void windows_are_advertised(void)
     free_both();
 }
 
-/* An acknowledgement of `a` comes, of which the word at a place is so much more, and whose checksum fits that (RFC 1624, 3). */
+/* The word at a place of a segment is so much more, and its checksum fits that (RFC 1624, 3). */
+static void change(unsigned char *bytes, size_t at, unsigned more)
+{
+    unsigned word = (unsigned)bytes[at] << 8 | bytes[at + 1], sum = (~((unsigned)bytes[16] << 8 | bytes[17]) & 0xffff) + more;
+    word += more;
+    sum = ~((sum & 0xffff) + (sum >> 16));
+    bytes[at] = (unsigned char)(word >> 8), bytes[at + 1] = (unsigned char)word;
+    bytes[16] = (unsigned char)(sum >> 8), bytes[17] = (unsigned char)sum;
+}
+
+/* An acknowledgement of `a` comes, of which the word at a place is so much more. */
 static uint32_t arrives_changed(size_t at, unsigned more, uint64_t now)
 {
     unsigned char bytes[TCPCORE_EMIT_ROOM];
@@ -223,11 +233,7 @@ static uint32_t arrives_changed(size_t at, unsigned more, uint64_t now)
     struct tcpcore_arrive_report report;
     CHECK(tcpcore_connection_acknowledge(&a, now), TCPCORE_DONE);
     CHECK(tcpcore_connection_emit(&a, now, UINT64_MAX, bytes, sizeof bytes, &segment), TCPCORE_DONE);
-    unsigned word = (unsigned)bytes[at] << 8 | bytes[at + 1], sum = (~((unsigned)bytes[16] << 8 | bytes[17]) & 0xffff) + more;
-    word += more;
-    sum = ~((sum & 0xffff) + (sum >> 16));
-    bytes[at] = (unsigned char)(word >> 8), bytes[at + 1] = (unsigned char)word;
-    bytes[16] = (unsigned char)(sum >> 8), bytes[17] = (unsigned char)sum;
+    change(bytes, at, more);
     return tcpcore_connection_arrive(&b, now, HERE, THERE, bytes, segment.length, &report);
 }
 
@@ -269,23 +275,78 @@ static void challenges_are_limited(void)
     free_both();
 }
 
-/* Before its SYN is acknowledged an end answers each SYN. */
-static void syns_of_the_handshake_are_answered(void)
+/* The SYN of a handshake, and the SYN,ACK that answers it first. */
+struct opening {
+    unsigned char syn[TCPCORE_EMIT_ROOM], answer[TCPCORE_EMIT_ROOM];
+    struct tcpcore_connection_segment sent, answered;
+};
+
+/* `b` in SYN-RECEIVED at 0, with a policy or with none. */
+static struct opening open_half(int has_policy)
 {
-    unsigned char bytes[TCPCORE_EMIT_ROOM], answer[TCPCORE_EMIT_ROOM];
-    struct tcpcore_connection_segment segment, answered;
+    struct opening opening;
     struct tcpcore_arrive_report report;
     open_both();
-    choose(&b, &DEFAULT);
-    CHECK(tcpcore_connection_emit(&a, 0, UINT64_MAX, bytes, sizeof bytes, &segment), TCPCORE_DONE);
-    for (uint64_t now = 0; now < 5; now++) {
-        uint32_t taken = now == 0 ? TCPCORE_DONE : TCPCORE_DROPPED;
-        CHECK(tcpcore_connection_arrive(&b, now, HERE, THERE, bytes, segment.length, &report), taken);
+    if (has_policy)
+        choose(&b, &DEFAULT);
+    CHECK(tcpcore_connection_emit(&a, 0, UINT64_MAX, opening.syn, sizeof opening.syn, &opening.sent), TCPCORE_DONE);
+    CHECK(tcpcore_connection_arrive(&b, 0, HERE, THERE, opening.syn, opening.sent.length, &report), TCPCORE_DONE);
+    CHECK(tcpcore_connection_emit(&b, 0, UINT64_MAX, opening.answer, sizeof opening.answer, &opening.answered), TCPCORE_DONE);
+    CHECK(opening.answer[13], 0x12);
+    return opening;
+}
+
+/* The SYN comes again, its word at a place so much more: one segment of so many bytes answers it at once, with these flags, or none. */
+static void again(const struct opening *opening, size_t at, unsigned more, uint64_t now, size_t length, unsigned char flags)
+{
+    unsigned char syn[TCPCORE_EMIT_ROOM], answer[TCPCORE_EMIT_ROOM];
+    struct tcpcore_connection_segment answered;
+    struct tcpcore_arrive_report report;
+    memcpy(syn, opening->syn, opening->sent.length);
+    change(syn, at, more);
+    CHECK(tcpcore_connection_arrive(&b, now, HERE, THERE, syn, opening->sent.length, &report), TCPCORE_DROPPED);
+    if (length != 0) {
         CHECK(tcpcore_connection_emit(&b, now, UINT64_MAX, answer, sizeof answer, &answered), TCPCORE_DONE);
-        /* A SYN,ACK first, and an acknowledgement of the SYN each time. */
-        CHECK(answer[13], now == 0 ? 0x12 : 0x10);
-        CHECK(answer[11] - bytes[7], 1);
+        CHECK(answered.length, length);
+        CHECK(answer[13], flags);
+        /* A SYN,ACK is the one that went out first: its numbers, its window and its options. */
+        CHECK(length > 20 && memcmp(answer, opening->answer, length) != 0, 0);
+        CHECK(answer[11] - opening->syn[7], 1);
     }
+    waits(&b, now);
+}
+
+/* In SYN-RECEIVED the peer's SYN again is answered by the SYN,ACK again each time, and what is none by an acknowledgement. */
+static void syn_again_draws_the_syn_ack(void)
+{
+    struct tcpcore_arrive_report report;
+    struct opening opening = open_half(1);
+    size_t length = opening.answered.length;
+    /* The timer starts anew with the first of them, and not with those behind it. It hasn't expired, and isn't backed off. */
+    for (uint64_t now = 500 * MS; now < 505 * MS; now += MS) {
+        again(&opening, 16, 0, now, length, 0x12);
+        CHECK(poll_at(&b), 500 * MS + SECOND);
+    }
+    /* SYN,ACK, a reset, and SYNs with other numbers: RCV.NXT, and one outside of the window. */
+    again(&opening, 12, 0x10, 505 * MS, 20, 0x10);
+    again(&opening, 12, 4, 506 * MS, 0, 0);
+    again(&opening, 6, 1, 507 * MS, 20, 0x10);
+    again(&opening, 6, 2000, 508 * MS, 20, 0x10);
+    /* The handshake goes on from the SYN,ACK; behind it a SYN is answered by an acknowledgement. */
+    again(&opening, 16, 0, 510 * MS, length, 0x12);
+    CHECK(tcpcore_connection_arrive(&a, 520 * MS, THERE, HERE, opening.answer, length, &report), TCPCORE_DONE);
+    CHECK(carry(&a, HERE, &b, 520 * MS), 1);
+    CHECK(status_of(&b).phase, TCPCORE_PHASE_ESTABLISHED);
+    again(&opening, 16, 0, 530 * MS, 20, 0x10);
+    /* No round trip was measured, since which SYN,ACK was acknowledged isn't known (RFC 6298, 3): the timeout is still the first. */
+    sends(&b, 600 * MS, 1);
+    loses(&b, 600 * MS, 1);
+    CHECK(poll_at(&b), 600 * MS + SECOND);
+    free_both();
+    /* Without a policy the acknowledgement answers it (RFC 9293, 3.10.7.4, first). */
+    opening = open_half(0);
+    again(&opening, 16, 0, 500 * MS, 20, 0x10);
+    CHECK(poll_at(&b), SECOND);
     free_both();
 }
 
@@ -424,7 +485,7 @@ int main(void)
     windows_are_advertised();
     answers_are_limited();
     challenges_are_limited();
-    syns_of_the_handshake_are_answered();
+    syn_again_draws_the_syn_ack();
     trains_are_full();
     both_go_on();
     refusals();

@@ -3,15 +3,18 @@
 
 static void losses_in_the_middle(void)
 {
-    /* Three segments behind the lost one come: it goes out again a trip after it was sent (RFC 8985, 6.2, step 4). */
+    /* Three segments behind the lost one come: it goes out again a trip and the window after it was sent (RFC 8985, 6.2, step 4). */
     begin(1, TCPCORE_CONGESTION_NONE);
     sends(NOW, 5);
     trip(NOW, 1 << 1);
-    again(NOW + TRIP, FULL, FULL);
-    trip(NOW + TRIP, 0);
+    rests(NOW + TRIP);
+    CHECK(poll_at(), NOW + TRIP + WINDOW);
+    rests(NOW + TRIP + WINDOW - 1);
+    again(NOW + TRIP + WINDOW, FULL, FULL);
+    trip(NOW + TRIP + WINDOW, 0);
     is_over(5 * FULL);
     free_both();
-    /* One does: reordering is waited for. */
+    /* One does: no sooner and no later. */
     begin(1, TCPCORE_CONGESTION_NONE);
     sends(NOW, 3);
     trip(NOW, 1 << 1);
@@ -26,23 +29,26 @@ static void losses_in_the_middle(void)
     begin(1, TCPCORE_CONGESTION_NONE);
     sends(NOW, 8);
     trip(NOW, 1 << 1 | 1 << 4);
-    emit(&flying, &a, NOW + TRIP);
+    emit(&flying, &a, NOW + TRIP + WINDOW);
     CHECK(flying.count, 2);
     CHECK(flying.of[0].segment.position, 1 + FULL);
     CHECK(flying.of[1].segment.position, 1 + 4 * FULL);
-    trip(NOW + TRIP, 0);
+    trip(NOW + TRIP + WINDOW, 0);
     is_over(8 * FULL);
     free_both();
-    /* What went out again is lost, too: what was sent behind it tells so a trip later (RFC 8985, 3.1). */
+    /* What went out again is lost, too: what was sent behind it tells so a trip and the window later (RFC 8985, 3.1). */
     begin(1, TCPCORE_CONGESTION_NONE);
     sends(NOW, 5);
     trip(NOW, 1 << 1);
-    again(NOW + TRIP, FULL, FULL);
+    uint64_t now = NOW + TRIP + WINDOW;
+    again(now, FULL, FULL);
     flying.count = 0;
-    sends(NOW + TRIP + 1, 4);
-    trip(NOW + TRIP + 1, 0);
-    again(NOW + 2 * TRIP + 1, FULL, FULL);
-    trip(NOW + 2 * TRIP + 1, 0);
+    sends(now + 1, 4);
+    trip(now + 1, 0);
+    rests(now + TRIP + 1);
+    CHECK(poll_at(), now + TRIP + WINDOW);
+    again(now + TRIP + WINDOW, FULL, FULL);
+    trip(now + TRIP + WINDOW, 0);
     is_over(9 * FULL);
     free_both();
 }
@@ -110,7 +116,7 @@ static void overtaking_is_no_loss(void)
     flying.count = 0;
     answered(NOW + TRIP);
     is_over(10 * FULL);
-    /* Since reordering was seen many that overtake one don't prove its loss: within the window nothing goes out again. */
+    /* Many that overtake one don't prove its loss: within the window nothing goes out again. */
     uint64_t now = NOW + SECOND;
     sends(now, 10);
     for (size_t at = 1; at < 10; at++)
@@ -146,7 +152,7 @@ static void without_blocks(void)
     trip(NOW + TRIP + 200 * MS, 0);
     is_over(3 * FULL);
     free_both();
-    /* The last three of four: two go out, and two trips behind their acknowledgement the third, with the peer's delay. */
+    /* The last three of four: two go out, and as no more than these is acknowledged the third at once. */
     begin(0, TCPCORE_CONGESTION_NONE);
     sends(NOW, 4);
     trip(NOW, 7 << 1);
@@ -154,10 +160,24 @@ static void without_blocks(void)
     CHECK(poll_at(), now);
     two_again(now, FULL);
     trip(now, 0);
-    CHECK(poll_at(), now + TRIP + 400 * MS);
-    again(now + TRIP + 400 * MS, 3 * FULL, FULL);
-    trip(now + TRIP + 400 * MS, 0);
+    again(now + TRIP, 3 * FULL, FULL);
+    trip(now + TRIP, 0);
     is_over(4 * FULL);
+    free_both();
+    /* The first and the last three of six: the probe's answer covers what the peer has kept, and it is the next one that goes on. */
+    begin(0, TCPCORE_CONGESTION_NONE);
+    sends(NOW, 6);
+    trip(NOW, 1 | 1 << 3 | 1 << 4 | 1 << 5);
+    two_again(NOW + 200 * MS, 0);
+    trip(NOW + 200 * MS, 1 << 1);
+    now = NOW + 200 * MS + TRIP;
+    rests(now);
+    CHECK(poll_at(), now + 200 * MS);
+    two_again(now + 200 * MS, 3 * FULL);
+    trip(now + 200 * MS, 0);
+    again(now + 200 * MS + TRIP, 5 * FULL, FULL);
+    trip(now + 200 * MS + TRIP, 0);
+    is_over(6 * FULL);
     free_both();
     /* The probe is lost, too: none follows, and the retransmission timeout expires. */
     begin(0, TCPCORE_CONGESTION_NONE);

@@ -15,11 +15,11 @@ static void windows_shrink_once(void)
     sends(NOW, 10);
     trip(NOW, 1 << 1 | 1 << 2);
     CHECK(congestion().ssthresh, UINT64_C(1) << 40);
-    emit(&flying, &a, NOW + TRIP);
+    emit(&flying, &a, NOW + TRIP + WINDOW);
     CHECK(flying.count, 2);
     uint64_t ssthresh = congestion().ssthresh;
     CHECK(ssthresh >= 2 * FULL && ssthresh <= 5 * FULL, 1);
-    trip(NOW + TRIP, 0);
+    trip(NOW + TRIP + WINDOW, 0);
     is_over(10 * FULL);
     CHECK(congestion().ssthresh, ssthresh);
     CHECK(congestion().is_recovering, 0);

@@ -85,6 +85,15 @@ too_short = 1
 abbrev pub not_connected : ℕ
 not_connected = call_error_number NotConnected
 
+-- ---- WHO HAS FOUR VALUES: a connection's own address and port, and its peer's (RFC 9293, 3.3.1)
+abbrev pub pair_between : List ℕ → ℕ → List ℕ → ℕ → Pair
+pair_between addr port peer_addr peer_port =
+    record { local = record { addr = addr; port = port }; peer = record { addr = peer_addr; port = peer_port } }
+
+pub record Finds (cmp : Pair → Pair → Ordering) (h : Hosted) (pair : Pair) (answer : ℕ) (id : CHostId) : Type 0 where
+  pub found : answer ≡ done → (slot : ℕ) × HasKey cmp h.ends pair slot × (id ≡ id_told (id_at h.ends slot))
+  pub none : answer ≢ done → (answer ≡ nobody) × (id ≡ no_id) × LacksKey cmp h.ends pair
+
 -- ---- A NEW HOST
 pub record IsNewHost (h : Hosted) (time_wait stray_interval : ℕ) : Type 0 where
   pub ends : h.ends.slots ≡ []
@@ -297,15 +306,16 @@ place_told h asking came.Stray = at_place no_id 5
 place_told h asking came.Short = at_place no_id 0
 
 module _ (cmp : Pair → Pair → Ordering) (socket_cmp : Socket → Socket → Ordering) where
-  pub record Arrives (old new : Hosted) (now : ℕ) (src dst bytes : List ℕ) (answer : ℕ) (place : CHostArrived) (report : CArriveReport) : Type 0 where
+  -- of a segment that a device has vouched for, or not: then it is summed
+  pub record Arrives (old new : Hosted) (now : ℕ) (src dst bytes : List ℕ) (vouched : Bool) (answer : ℕ) (place : CHostArrived) (report : CArriveReport) : Type 0 where
     pub found : Arrived (Taken reports.Taken)
     pub answered : answer ≡ number_told found
     pub placed : place ≡ place_told new (asks bytes) found
     pub reported : report ≡ report_told found
-    pub taken : (slot : ℕ) → IsFor cmp old.ends src dst bytes slot → IsSomeAnd (value_at old.ends slot) (λ guest. found ≡ came.Taken slot (lodger_answer guest.end src dst bytes))
-    pub state : (slot : ℕ) → IsFor cmp old.ends src dst bytes slot → IsSomeAnd (value_at old.ends slot) (λ guest. new.ends ≡ with_value old.ends slot (after_call guest (of_lodger.arrived guest.end now src dst bytes)))
+    pub taken : (slot : ℕ) → IsFor cmp old.ends src dst bytes slot → IsSomeAnd (value_at old.ends slot) (λ guest. found ≡ came.Taken slot (lodger_answer guest.end src dst bytes vouched))
+    pub state : (slot : ℕ) → IsFor cmp old.ends src dst bytes slot → IsSomeAnd (value_at old.ends slot) (λ guest. new.ends ≡ with_value old.ends slot (after_call guest (of_lodger.arrived guest.end now src dst bytes vouched)))
     pub turn : (slot : ℕ) → IsFor cmp old.ends src dst bytes slot → new.waiting ≡ after_adding old.waiting slot
-    pub announces : (slot : ℕ) → IsFor cmp old.ends src dst bytes slot → IsSomeAnd (value_at old.ends slot) (λ guest. new.listeners ≡ listeners_after old.listeners (of_lodger.established guest.end) (of_lodger.established (of_lodger.arrived guest.end now src dst bytes)) guest.origin (id_at old.ends slot))
+    pub announces : (slot : ℕ) → IsFor cmp old.ends src dst bytes slot → IsSomeAnd (value_at old.ends slot) (λ guest. new.listeners ≡ listeners_after old.listeners (of_lodger.established guest.end) (of_lodger.established (of_lodger.arrived guest.end now src dst bytes vouched)) guest.origin (id_at old.ends slot))
     pub records_rest : (slot : ℕ) → IsFor cmp old.ends src dst bytes slot → (new.records ≡ old.records) × (new.answering ≡ old.answering)
     pub others : (slot : ℕ) → (IsFor cmp old.ends src dst bytes slot → ⊥) → held_at new.ends slot ≡ held_at old.ends slot
     pub late : (slot : ℕ) → IsForNone cmp old.ends src dst bytes → IsFor cmp old.records src dst bytes slot → IsSomeAnd (value_at old.records slot) (λ guest. found ≡ came.Late slot (answer_of_record guest.end src dst bytes))

@@ -6,6 +6,7 @@ pub mod Connections
 pub mod DrivenHeld
 pub mod Held
 pub mod HostHeld
+pub mod HostEmissions
 pub mod Hosts
 pub mod Intakes
 pub mod Lodgers

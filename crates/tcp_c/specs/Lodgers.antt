@@ -1,5 +1,5 @@
 -- A connection as an end of a host: each function is that of the connection itself, where it lies.
-use Rattle.std.specs.Prelude.{ℕ, false, if◌then◌else◌, List, Option, Some, None}
+use Rattle.std.specs.Prelude.{ℕ, Bool, if◌then◌else◌, List, Option, Some, None}
 use Rattle.region_heap.specs.declared.region.Region.{Region}
 use Rattle.tcp_congestion.specs.AnyWindow.{any_control}
 use Rattle.tcp_congestion.specs.declared.any_window.AnyWindow.{AnyWindow}
@@ -48,7 +48,7 @@ of_lodger = record {
   established = λ g. of_connection.established (connection_in g);
   bursting = λ g. of_connection.bursting (connection_in g);
   next_call = λ g. of_connection.next_call (connection_in g);
-  arrived = λ g now src dst bytes. lodged g (of_connection.arrived (connection_in g) now src dst bytes);
+  arrived = λ g now src dst bytes vouched. lodged g (of_connection.arrived (connection_in g) now src dst bytes vouched);
   emission = λ g now window. of_connection.emission (connection_in g) now window;
   written = λ g now window out. of_connection.written (connection_in g) now window out;
   emitted = λ g now window. lodged g (of_connection.emitted (connection_in g) now window);
@@ -66,8 +66,8 @@ use_of_lodger = record {
   aborted = λ g now. lodged g (use_of_connection.aborted (connection_in g) now);
 }
 
-abbrev pub lodger_answer : Lodger → List ℕ → List ℕ → List ℕ → Taken reports.Taken
-lodger_answer g src dst bytes = taken_by false (driven_in g) src dst bytes
+abbrev pub lodger_answer : Lodger → List ℕ → List ℕ → List ℕ → Bool → Taken reports.Taken
+lodger_answer g src dst bytes vouched = taken_by vouched (driven_in g) src dst bytes
 
 -- what takes its place, and when TIME-WAIT is over
 abbrev pub lodger_time_wait : Lodger → Option TimeWaitRecord

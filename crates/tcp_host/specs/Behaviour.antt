@@ -1,5 +1,5 @@
 -- An end with its times, as functions of its state S: a driver's, or a connection's.
-use Rattle.std.specs.Prelude.{ℕ, nat_lt, Bool, false, List, Option}
+use Rattle.std.specs.Prelude.{ℕ, nat_lt, Bool, List, Option}
 use Rattle.tcp_congestion.specs.Control.{Control}
 use Rattle.tcp_driver.specs.declared.machine.Sent.{Sent}
 use Rattle.tcp_driver.specs.declared.machine.Timer.{Timer}
@@ -20,8 +20,8 @@ pub record Behaviour (S : Type 0) : Type 0 where
   -- whether a burst is on, and when the next call has to come outside of one
   pub bursting : S → Bool
   pub next_call : S → Option ℕ
-  -- after an arrival at a time, from an address to an address
-  pub arrived : S → ℕ → List ℕ → List ℕ → List ℕ → S
+  -- after an arrival at a time, from an address to an address, whose checksum a device has found right or not
+  pub arrived : S → ℕ → List ℕ → List ℕ → List ℕ → Bool → S
   -- what goes out at a time within a window, what is written of it into a buffer, and the state after it
   pub emission : S → ℕ → ℕ → Option Sent
   pub written : S → ℕ → ℕ → List ℕ → List ℕ
@@ -39,14 +39,14 @@ pub record Usage (S : Type 0) : Type 0 where
   pub closed : S → ℕ → S
   pub aborted : S → ℕ → S
 
--- A DRIVER, whatever its end is: it sums each segment
+-- A DRIVER, whatever its end is
 abbrev pub of_driver : {S : Type 0} → Machine S → Behaviour (Driving S)
 of_driver m = record {
   room = m.room;
   established = λ d. nat_lt 0 (m.una d.core);
   bursting = λ d. d.times.bursting;
   next_call = λ d. times.next_expiry d.times;
-  arrived = λ d now src dst bytes. after_arrival m d (at d now) src dst bytes (way_of d false);
+  arrived = λ d now src dst bytes vouched. after_arrival m d (at d now) src dst bytes (way_of d vouched);
   emission = λ d now window. sent_of m d.core window;
   written = λ d now window out. written_of m d.core window out;
   emitted = λ d now window. after_emission m d (at d now) window;
@@ -71,7 +71,7 @@ of_connection m i smss_of c = record {
   established = λ k. nat_lt 0 (m.una (core_of k));
   bursting = λ k. k.flowing.driving.times.bursting;
   next_call = λ k. connection.next_call m k;
-  arrived = λ k now src dst bytes. after_arriving m i smss_of c k now src dst bytes false;
+  arrived = λ k now src dst bytes vouched. after_arriving m i smss_of c k now src dst bytes vouched;
   emission = λ k now window. sent_by_emit m i c k now window;
   written = λ k now window out. written_by_emit m i c k now window out;
   emitted = λ k now window. after_emit m i c k now window;

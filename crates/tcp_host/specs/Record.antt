@@ -35,14 +35,15 @@ record_after r now src dst bytes = if is_reset bytes then r else record_after_se
 abbrev pub answer_to : List ℕ → Sent
 answer_to to = record { to = to; len = 20; start = 0; count = 0 }
 
--- it never bursts, and is told the time once, when TIME-WAIT is over
+-- it sums each segment, also one whose checksum a device has found right (own); it never bursts, and is told the time once,
+-- when TIME-WAIT is over
 abbrev pub of_record : Behaviour Record
 of_record = record {
   room = 20;
   established = λ r. true;
   bursting = λ r. false;
   next_call = λ r. Some r.until;
-  arrived = record_after;
+  arrived = λ r now src dst bytes vouched. record_after r now src dst bytes;
   emission = λ r now window. option_map answer_to (destination (as_state r.time_wait));
   written = λ r now window out. buffer_after (as_state r.time_wait) out;
   emitted = λ r now window. record r { time_wait = time_wait_of (after_emission (as_state r.time_wait)) };

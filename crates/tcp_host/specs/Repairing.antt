@@ -1,5 +1,5 @@
 -- A connection that finds losses by time, as an end of a host: each function is one of tcp_repair's.
-use Rattle.std.specs.Prelude.{ℕ, nat_lt, false, Option}
+use Rattle.std.specs.Prelude.{ℕ, nat_lt, Option}
 use Rattle.tcp_congestion.specs.Control.{Control}
 use Rattle.tcp_driver.specs.Driver.{at}
 use Rattle.tcp_driver.specs.Machine.{Machine}
@@ -17,7 +17,7 @@ of_repairing m i smss_of c b = record {
   established = λ r. nat_lt 0 (m.una (core_of r.connecting));
   bursting = λ r. r.connecting.flowing.driving.times.bursting;
   next_call = λ r. next_call m smss_of b r;
-  arrived = λ r now src dst bytes. after_arriving m i smss_of c b r now src dst bytes false;
+  arrived = λ r now src dst bytes vouched. after_arriving m i smss_of c b r now src dst bytes vouched;
   emission = λ r now window. sent_by_emit m i smss_of c b r now window;
   written = λ r now window out. written_by_emit m i smss_of c b r now window out;
   emitted = λ r now window. after_emit m i smss_of c b r now window;

@@ -9,7 +9,7 @@ use tcp_driver::{LAST, Sent, Timer};
 use tcp_wire::{Addr, RawSegment};
 
 /// What is left of an end in TIME-WAIT (RFC 9293, 3.3.2): it answers late segments as the end would, until TIME-WAIT
-/// is over.
+/// is over. It sums each, also one that a device has vouched for: where a device leaves sums out, one is made first.
 #[derive(Clone, Copy, Debug, PartialEq, Eq)]
 pub struct Record {
     /// What answers.
@@ -28,7 +28,7 @@ impl Timed for Record {
 
     ghost behaviour = { of_record };
 
-    ghost arrival_answer = { answer_of_record };
+    ghost arrival_answer = { λ r src dst bytes vouched. answer_of_record r src dst bytes };
 
     fn is_bursting(&self) -> bool {
         false
@@ -42,7 +42,14 @@ impl Timed for Record {
         Some(self.until)
     }
 
-    fn arrive(&mut self, now: u64, src: [u8; 4], dst: [u8; 4], bytes: &[u8]) -> Option<Arrival> {
+    fn arrive(
+        &mut self,
+        now: u64,
+        src: [u8; 4],
+        dst: [u8; 4],
+        bytes: &[u8],
+        _is_vouched: bool,
+    ) -> Option<Arrival> {
         if is_reset(bytes) {
             return None;
         }

@@ -3,6 +3,7 @@ ghost use Rattle.std.specs.Prelude.{false};
 
 use crate::retiring::Retiring;
 use crate::timed::Timed;
+use crate::trained::Trained;
 use crate::used::Used;
 use std::alloc::Allocator;
 use tcp_congestion::Congestion;
@@ -19,7 +20,7 @@ impl<C: Reporting + Drop, W: Congestion + Drop, A: Allocator> Timed for Repairin
 
     ghost behaviour = { of_repairing C.machine C.insight C.smss_of W.control C.reports };
 
-    ghost arrival_answer = { λ r src dst bytes. arrival_answer C.machine C.arrival_answer r.connecting.flowing.driving src dst bytes (way_of r.connecting.flowing.driving false) };
+    ghost arrival_answer = { λ r src dst bytes vouched. arrival_answer C.machine C.arrival_answer r.connecting.flowing.driving src dst bytes (way_of r.connecting.flowing.driving vouched) };
 
     fn is_bursting(&self) -> bool {
         self.flow().driver().is_bursting()
@@ -33,7 +34,17 @@ impl<C: Reporting + Drop, W: Congestion + Drop, A: Allocator> Timed for Repairin
         Repairing::poll_at(self)
     }
 
-    fn arrive(&mut self, now: u64, src: [u8; 4], dst: [u8; 4], bytes: &[u8]) -> Taken<C::Arriving> {
+    fn arrive(
+        &mut self,
+        now: u64,
+        src: [u8; 4],
+        dst: [u8; 4],
+        bytes: &[u8],
+        is_vouched: bool,
+    ) -> Taken<C::Arriving> {
+        if is_vouched {
+            return Repairing::arrive_vouched(self, now, src, dst, bytes);
+        }
         Repairing::arrive(self, now, src, dst, bytes)
     }
 
@@ -95,6 +106,28 @@ impl<C: Reporting + Drop, W: Congestion + Drop, A: Allocator> Used for Repairing
 
     fn abort(&mut self, now: u64) -> C::Aborting {
         Repairing::abort(self, now)
+    }
+}
+
+impl<C: Reporting + Drop, W: Congestion + Drop, A: Allocator> Trained for Repairing<C, W, A> {
+    ghost use Rattle.tcp_repair.specs.Repairing.{after_train, train_by_emit, written_by_train};
+
+    type Train = C::Train;
+
+    ghost train_answer = { λ r now window most room. train_by_emit C.machine C.insight C.smss_of C.train_answer W.control C.reports r now window most room };
+
+    ghost train_written = { λ r now window most out. written_by_train C.machine C.insight C.smss_of W.control C.reports r now window most out };
+
+    ghost after_train = { λ r now window most room. after_train C.machine C.insight C.smss_of C.train_answer C.start_of C.numbers_of W.control C.reports r now window most room };
+
+    fn emit_train(
+        &mut self,
+        now: u64,
+        window: u64,
+        out: &mut [u8],
+        most: usize,
+    ) -> Option<C::Train> {
+        Repairing::emit_train(self, now, window, out, most)
     }
 }
 

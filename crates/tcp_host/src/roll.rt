@@ -71,7 +71,7 @@ impl<T: Timed + Drop, A: Allocator + Copy> Roll<T, A> {
         }
     }
 
-    /// A segment has come for the end in a slot, if it has one.
+    /// A segment has come for the end in a slot, if it has one. A device has vouched for it, or not.
     pub(crate) fn arrive(
         &mut self,
         slot: usize,
@@ -79,15 +79,16 @@ impl<T: Timed + Drop, A: Allocator + Copy> Roll<T, A> {
         src: [u8; 4],
         dst: [u8; 4],
         bytes: &[u8],
+        is_vouched: bool,
     ) -> Option<T::Arriving>
-        ensures answer { IfSome result (λ answer. IsSomeAnd (value_at self.old.ends slot) (λ guest. answer ≡ T.arrival_answer guest.end src dst bytes.now)) }
-        ensures state { IfSome result (λ answer. IsSomeAnd (value_at self.old.ends slot) (λ guest. self.new.ends ≡ with_value self.old.ends slot (after_call guest (T.behaviour.arrived guest.end now src dst bytes.now)))) }
+        ensures answer { IfSome result (λ answer. IsSomeAnd (value_at self.old.ends slot) (λ guest. answer ≡ T.arrival_answer guest.end src dst bytes.now is_vouched)) }
+        ensures state { IfSome result (λ answer. IsSomeAnd (value_at self.old.ends slot) (λ guest. self.new.ends ≡ with_value self.old.ends slot (after_call guest (T.behaviour.arrived guest.end now src dst bytes.now is_vouched)))) }
         ensures turn { IfSome result (λ answer. self.new.waiting ≡ after_adding self.old.waiting slot) }
         ensures found { is_some result ≡ is_some (value_at self.old.ends slot) }
         ensures none { IfNone result (self.new ≡ self.old) }
     {
         let guest = self.ends.get_mut(slot)?;
-        let answer = guest.end.arrive(now, src, dst, bytes);
+        let answer = guest.end.arrive(now, src, dst, bytes, is_vouched);
         follow(guest, slot, &mut self.deadlines, &mut self.turns);
         Some(answer)
     }

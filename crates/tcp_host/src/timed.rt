@@ -1,5 +1,5 @@
 //! What a host asks of an end.
-ghost use Rattle.std.specs.Prelude.{◌≡◌, ◌≤◌, IfSome, IsNone, false, length, ℕ, List};
+ghost use Rattle.std.specs.Prelude.{◌≡◌, ◌≤◌, Bool, IfSome, IsNone, false, length, ℕ, List};
 
 use tcp_congestion::Congestion;
 use tcp_connection::{Connection, Deferring};
@@ -16,7 +16,7 @@ pub trait Timed {
     /// What it does, as functions of its state.
     ghost behaviour: { Behaviour Self };
 
-    ghost arrival_answer: { Self → List ℕ → List ℕ → List ℕ → Self.Arriving };
+    ghost arrival_answer: { Self → List ℕ → List ℕ → List ℕ → Bool → Self.Arriving };
 
     /// Whether a burst is on: a timer has expired, and not all that was due then has gone out.
     fn is_bursting(&self) -> bool
@@ -30,10 +30,18 @@ pub trait Timed {
     fn poll_at(&self) -> Option<u64>
         ensures { result ≡ behaviour.next_call self.now };
 
-    /// A segment has come at a time, from the IPv4 address `src` to `dst`.
-    fn arrive(&mut self, now: u64, src: [u8; 4], dst: [u8; 4], bytes: &[u8]) -> Self::Arriving
-        ensures answer { result ≡ arrival_answer self.old src dst bytes.now }
-        ensures state { self.new ≡ behaviour.arrived self.old now src dst bytes.now };
+    /// A segment has come at a time, from the IPv4 address `src` to `dst`. Where it is vouched for a device has found its
+    /// checksum right, so that it needn't be summed (RFC 9293, 3.1).
+    fn arrive(
+        &mut self,
+        now: u64,
+        src: [u8; 4],
+        dst: [u8; 4],
+        bytes: &[u8],
+        is_vouched: bool,
+    ) -> Self::Arriving
+        ensures answer { result ≡ arrival_answer self.old src dst bytes.now is_vouched }
+        ensures state { self.new ≡ behaviour.arrived self.old now src dst bytes.now is_vouched };
 
     /// Writes the segment that is due, if one may go out within `window`, in numbers from SND.UNA. Where none may no
     /// burst is on any more.
@@ -59,7 +67,7 @@ impl<C: Core + Drop> Timed for Driver<C> {
 
     ghost behaviour = { of_driver C.machine };
 
-    ghost arrival_answer = { λ d src dst bytes. arrival_answer C.machine C.arrival_answer d src dst bytes (way_of d false) };
+    ghost arrival_answer = { λ d src dst bytes vouched. arrival_answer C.machine C.arrival_answer d src dst bytes (way_of d vouched) };
 
     fn is_bursting(&self) -> bool {
         Driver::is_bursting(self)
@@ -73,7 +81,17 @@ impl<C: Core + Drop> Timed for Driver<C> {
         Driver::poll_at(self)
     }
 
-    fn arrive(&mut self, now: u64, src: [u8; 4], dst: [u8; 4], bytes: &[u8]) -> Taken<C::Arriving> {
+    fn arrive(
+        &mut self,
+        now: u64,
+        src: [u8; 4],
+        dst: [u8; 4],
+        bytes: &[u8],
+        is_vouched: bool,
+    ) -> Taken<C::Arriving> {
+        if is_vouched {
+            return Driver::arrive_vouched(self, now, src, dst, bytes);
+        }
         Driver::arrive(self, now, src, dst, bytes)
     }
 
@@ -95,7 +113,7 @@ impl<C: Deferring + Drop, W: Congestion + Drop> Timed for Connection<C, W> {
 
     ghost behaviour = { of_connection C.machine C.insight C.smss_of W.control };
 
-    ghost arrival_answer = { λ k src dst bytes. arrival_answer C.machine C.arrival_answer k.flowing.driving src dst bytes (way_of k.flowing.driving false) };
+    ghost arrival_answer = { λ k src dst bytes vouched. arrival_answer C.machine C.arrival_answer k.flowing.driving src dst bytes (way_of k.flowing.driving vouched) };
 
     fn is_bursting(&self) -> bool {
         self.flow().driver().is_bursting()
@@ -109,7 +127,17 @@ impl<C: Deferring + Drop, W: Congestion + Drop> Timed for Connection<C, W> {
         Connection::poll_at(self)
     }
 
-    fn arrive(&mut self, now: u64, src: [u8; 4], dst: [u8; 4], bytes: &[u8]) -> Taken<C::Arriving> {
+    fn arrive(
+        &mut self,
+        now: u64,
+        src: [u8; 4],
+        dst: [u8; 4],
+        bytes: &[u8],
+        is_vouched: bool,
+    ) -> Taken<C::Arriving> {
+        if is_vouched {
+            return Connection::arrive_vouched(self, now, src, dst, bytes);
+        }
         Connection::arrive(self, now, src, dst, bytes)
     }
 

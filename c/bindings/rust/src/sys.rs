@@ -2,10 +2,10 @@
 use core::ffi::c_void;
 use core::ptr;
 
-pub(crate) const VERSION: u32 = 20;
+pub(crate) const VERSION: u32 = 21;
 pub(crate) const END_SIZE: usize = 416;
 pub(crate) const CONNECTION_SIZE: usize = 1136;
-pub(crate) const RECOVERY_MEMORY: usize = 2863;
+pub(crate) const RECOVERY_MEMORY: usize = 2847;
 pub(crate) const MARK_SIZE: usize = 8;
 pub(crate) const HELD_SIZE: usize = 16;
 pub(crate) const UNIT: usize = 16;

@@ -85,7 +85,7 @@ pub extern "C" fn tcp_c_connection_arrive_vouched(
 }
 
 /// A report of no segment: all zero.
-fn no_segment() -> CConnectionSegment
+pub(crate) fn no_segment() -> CConnectionSegment
     ensures { result ≡ no_segment }
 {
     CConnectionSegment {
@@ -97,7 +97,7 @@ fn no_segment() -> CConnectionSegment
 }
 
 /// What is reported of an emission: the answer, and the segment that was written, if one was.
-fn emission_told(sent: Option<Sent>) -> (u32, CConnectionSegment)
+pub(crate) fn emission_told(sent: Option<Sent>) -> (u32, CConnectionSegment)
     ensures answer { result.0 ≡ emission_told sent }
     ensures segment { result.1 ≡ segment_told sent }
 {

@@ -1,9 +1,9 @@
 //! A connection as an end of a host.
 use crate::connection::driven::Driven;
 use region_heap::{Region, Still};
-use tcp_conn::{CallError, Received, TimeWait};
+use tcp_conn::{CallError, Received, TimeWait, Train};
 use tcp_driver::{Sent, Taken, Timer};
-use tcp_host::{Retiring, Timed, Used};
+use tcp_host::{Retiring, Timed, Trained, Used};
 
 /// A connection in a host: it lies where it was made, in its block.
 #[derive(Drop)]
@@ -39,8 +39,16 @@ impl Timed for Lodger {
         src: [u8; 4],
         dst: [u8; 4],
         bytes: &[u8],
+        is_vouched: bool,
     ) -> Taken<tcp_conn::Taken> {
-        Timed::arrive(&mut self.driven.connection, now, src, dst, bytes)
+        Timed::arrive(
+            &mut self.driven.connection,
+            now,
+            src,
+            dst,
+            bytes,
+            is_vouched,
+        )
     }
 
     fn emit(&mut self, now: u64, window: u64, out: &mut [u8]) -> Option<Sent> {
@@ -101,6 +109,22 @@ impl Used for Lodger {
 
     fn abort(&mut self, now: u64) -> Result<(), CallError> {
         Used::abort(&mut self.driven.connection, now)
+    }
+}
+
+impl Trained for Lodger {
+    ghost use Rattle.tcp_c.specs.HostEmissions.{lodger_train, lodger_trained, lodger_written};
+
+    type Train = Train;
+
+    ghost train_answer = { lodger_train };
+
+    ghost train_written = { lodger_written };
+
+    ghost after_train = { lodger_trained };
+
+    fn emit_train(&mut self, now: u64, window: u64, out: &mut [u8], most: usize) -> Option<Train> {
+        Trained::emit_train(&mut self.driven.connection, now, window, out, most)
     }
 }
 

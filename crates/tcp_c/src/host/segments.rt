@@ -1,5 +1,5 @@
 //! Segments that come to a host and go out (RFC 9293, 3.3.1 and 3.10.7).
-ghost use Rattle.std.specs.Prelude.{◌≡◌, ◌≤◌, length};
+ghost use Rattle.std.specs.Prelude.{◌≡◌, ◌≤◌, false, length, true};
 ghost use Rattle.tcp_conn.specs.declared.emit.transmit.TheConstants.{EMIT_ROOM};
 ghost use Rattle.tcp_conn.specs.declared.stray.TheConstants.{RESET_LEN};
 ghost use Rattle.tcp_c.specs.Answers.{little_room, no_end};
@@ -92,7 +92,7 @@ impl Lodging {
         }
     }
 
-    /// A segment comes.
+    /// A segment comes, which is summed.
     fn arrive(
         &mut self,
         now: u64,
@@ -100,9 +100,25 @@ impl Lodging {
         dst: [u8; 4],
         bytes: &[u8],
     ) -> (u32, CHostArrived, CArriveReport)
-        ensures { Arrives ⟦<Pair as Ord>⟧.cmp ⟦<Socket as Ord>⟧.cmp self.old.host self.new.host now src dst bytes.now result.0 result.1 result.2 }
+        ensures { Arrives ⟦<Pair as Ord>⟧.cmp ⟦<Socket as Ord>⟧.cmp self.old.host self.new.host now src dst bytes.now false result.0 result.1 result.2 }
     {
         let found = self.host.arrive(now, src, dst, bytes);
+        let place = self.place_told(&found, asks(bytes));
+        let (answer, report) = taken_told(found);
+        (answer, place, report)
+    }
+
+    /// A segment comes, which a device has vouched for.
+    fn arrive_vouched(
+        &mut self,
+        now: u64,
+        src: [u8; 4],
+        dst: [u8; 4],
+        bytes: &[u8],
+    ) -> (u32, CHostArrived, CArriveReport)
+        ensures { Arrives ⟦<Pair as Ord>⟧.cmp ⟦<Socket as Ord>⟧.cmp self.old.host self.new.host now src dst bytes.now true result.0 result.1 result.2 }
+    {
+        let found = self.host.arrive_vouched(now, src, dst, bytes);
         let place = self.place_told(&found, asks(bytes));
         let (answer, report) = taken_told(found);
         (answer, place, report)
@@ -202,7 +218,7 @@ pub extern "C" fn tcp_c_host_arrive(
     arrived: &mut CHostArrived,
     report: &mut CArriveReport,
 ) -> u32
-    ensures { OnHost ((result ≡ no_end) × (arrived.new ≡ at_place no_id 0) × (report.new ≡ no_arrive_report)) (λ old new. Arrives ⟦<Pair as Ord>⟧.cmp ⟦<Socket as Ord>⟧.cmp old new now src.now.byte dst.now.byte bytes.now result arrived.new report.new) handle.old.held.host handle.new.held.host }
+    ensures { OnHost ((result ≡ no_end) × (arrived.new ≡ at_place no_id 0) × (report.new ≡ no_arrive_report)) (λ old new. Arrives ⟦<Pair as Ord>⟧.cmp ⟦<Socket as Ord>⟧.cmp old new now src.now.byte dst.now.byte bytes.now false result arrived.new report.new) handle.old.held.host handle.new.held.host }
 {
     let Some(mut lodging) = handle.take() else {
         *arrived = at_place(no_id(), PLACE_NONE);
@@ -210,6 +226,32 @@ pub extern "C" fn tcp_c_host_arrive(
         return NO_END;
     };
     let (answer, place, told) = lodging.arrive(now, src.byte, dst.byte, bytes);
+    handle.put(lodging);
+    *arrived = place;
+    *report = told;
+    answer
+}
+
+/// Takes bytes whose checksum a device has found right as [`tcp_c_host_arrive`] does, and an end doesn't sum them (RFC 9293, 3.1). A
+/// record does, and so does [`tcp_c_host_stray`]: where the device has left the sum out it is made before.
+#[unsafe(no_mangle)]
+pub extern "C" fn tcp_c_host_arrive_vouched(
+    handle: &mut HostHandle,
+    now: u64,
+    src: &CAddr,
+    dst: &CAddr,
+    bytes: &[u8],
+    arrived: &mut CHostArrived,
+    report: &mut CArriveReport,
+) -> u32
+    ensures { OnHost ((result ≡ no_end) × (arrived.new ≡ at_place no_id 0) × (report.new ≡ no_arrive_report)) (λ old new. Arrives ⟦<Pair as Ord>⟧.cmp ⟦<Socket as Ord>⟧.cmp old new now src.now.byte dst.now.byte bytes.now true result arrived.new report.new) handle.old.held.host handle.new.held.host }
+{
+    let Some(mut lodging) = handle.take() else {
+        *arrived = at_place(no_id(), PLACE_NONE);
+        *report = no_arrive_report();
+        return NO_END;
+    };
+    let (answer, place, told) = lodging.arrive_vouched(now, src.byte, dst.byte, bytes);
     handle.put(lodging);
     *arrived = place;
     *report = told;

@@ -24,8 +24,7 @@ impl<'m> Connection<'m> {
 impl Connection<'_> {
     /// From `now` on losses are found by time, and the end of what is sent is probed, in the place of a round trip behind a gap (RFC 8985):
     /// where both SYNs agree on selective acknowledgement; else silence alone is probed, by the first two segments in flight. Only a few losses
-    /// wait for the retransmission timeout then; and once reordering was seen, what is late by less than a quarter of the least round trip
-    /// isn't taken for lost. Choose a congestion window, too
+    /// wait for the retransmission timeout then; and what is late by less than a quarter of the least round trip isn't taken for lost. Choose a congestion window, too
     /// ([`set_congestion`](Connection::set_congestion)): without one all that looks lost goes out again at once. It takes memory of its own.
     /// Call it once, any time before text is sent, also right after the making of the connection: of text that was sent before it wouldn't be
     /// known when.
