@@ -37,7 +37,7 @@ case $library in *.c)
     layer= ;;
 esac
 # shellcheck disable=SC2086
-gcc -std=c11 -O2 -Wall -Wextra -I"$header" "$top/bench/link/jitter.c" "$top/bench/link/link.c" $layer "$library" -o "$out/jitter"
+gcc -std=c11 -O2 -ffunction-sections -Wl,--gc-sections -Wall -Wextra -I"$header" "$top/bench/link/jitter.c" "$top/bench/link/link.c" $layer "$library" -o "$out/jitter"
 
 tell_commit
 echo "$rate Mbit/s, $trip ms there and back, up to $jitter ms more each way, $loss percent lost, windows of $window bytes"

@@ -35,7 +35,7 @@ case $library in *.c)
     layer= ;;
 esac
 # shellcheck disable=SC2086
-gcc -std=c11 -O2 -march=native -Wall -Wextra -I"$header" "$top/bench/link/linux.c" "$top/bench/link/link.c" $layer "$library" -o "$out/linux"
+gcc -std=c11 -O2 -ffunction-sections -Wl,--gc-sections -march=native -Wall -Wextra -I"$header" "$top/bench/link/linux.c" "$top/bench/link/link.c" $layer "$library" -o "$out/linux"
 
 # A row: its name, and the words of the path.
 path() {

@@ -38,7 +38,7 @@ case $library in *.c)
     layer= ;;
 esac
 # shellcheck disable=SC2086
-gcc -std=c11 -O2 -Wall -Wextra -I"$header" "$top/bench/link/loss.c" "$top/bench/link/link.c" $layer "$library" -o "$out/loss"
+gcc -std=c11 -O2 -ffunction-sections -Wl,--gc-sections -Wall -Wextra -I"$header" "$top/bench/link/loss.c" "$top/bench/link/link.c" $layer "$library" -o "$out/loss"
 grep -q TCPCORE_RECOVERY_MEMORY "$header/tcpcore.h" && ways='0 1' || ways=0
 recovery=${recovery:-$ways}
 

@@ -16,6 +16,6 @@ passt passt
 gnuplot gnuplot-nox
 LIST
 mkdir -p out
-gcc -std=c11 -O2 -Wall -Wextra -Wpedantic -Werror traffic.c -o out/traffic
+gcc -std=c11 -O2 -ffunction-sections -Wl,--gc-sections -Wall -Wextra -Wpedantic -Werror traffic.c -o out/traffic
 ../apps/usernet/build.sh ${library:+"$library"}
 python3 usernet.py ../docs/usernet.svg

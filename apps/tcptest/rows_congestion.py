@@ -67,8 +67,8 @@ def initial_window(lab):
 
 
 class Receiver:
-    """Takes what the stack's user sends without an end, and acknowledges each segment half a round trip later, as a receiver would that
-    reports no blocks. `rounds` are the bytes that came in each round trip, `counts` their segments, and `longest` is the longest one."""
+    """Takes what the stack's user sends without an end, and acknowledges each segment a round trip later, as a receiver would that reports
+    no blocks. `rounds` are the bytes that came in each round trip, `counts` their segments, and `longest` is the longest one."""
 
     def __init__(self, peer):
         self.peer, self.kept, self.rounds, self.counts, self.longest = peer, [], [], [], 0
@@ -79,7 +79,7 @@ class Receiver:
     def turn(self):
         """A round trip."""
         peer = self.peer
-        found = [one for one in peer.all(ROUND_TRIP / 2) if is_text(one)]
+        found = [one for one in peer.all(ROUND_TRIP) if is_text(one)]
         self.rounds.append(sum(len(text) for text in {one.seq: one.text for one in found}.values()))
         self.counts.append(len(found))
         for one in found:
@@ -108,10 +108,13 @@ def slow_start(lab):
     return f"in round trips {words(sizes)}"
 
 
-def grows_as_acknowledged(receiver):
+def grows_as_acknowledged(receiver, threshold=0):
     """By a full segment for each acknowledgement, however little that acknowledges; and by one more, since what lies in which round trip is
-    told by silence alone."""
+    told by silence alone. Behind two segments that come first up to a threshold: a timeout sends one, and two are a probe of silence, which
+    has repaired the loss."""
     grown = [a + (count + 1) * receiver.longest for a, count in zip(receiver.rounds, receiver.counts)]
+    if receiver.counts[0] == 2:
+        grown[0] = max(grown[0], threshold + receiver.longest)
     return all(b <= most for b, most in zip(receiver.rounds[1:], grown))
 
 
@@ -127,7 +130,8 @@ def congestion_avoidance(lab):
     is_there = lab.wait(by_timeouts(1), lambda: any(one.seq == before[0].seq for one in peer.arrived))
     given(is_there, f"the first segment isn't sent again within {by_timeouts(1):.1f} s")
     receiver = Receiver(peer)
-    # CUBIC's threshold is seven tenths of what was in flight (RFC 9438, 4.6), and Reno's is half of it.
+    # CUBIC's threshold is seven tenths of what was in flight (RFC 9438, 4.6), and Reno's is half of it. Where a probe of silence has found
+    # the loss the window is the threshold at once (RFC 8985, 7.4.2).
     while len(receiver.rounds) < 25 and max(receiver.rounds, default=0) < 0.75 * total(before):
         receiver.turn()
     given(max(receiver.rounds) >= 0.75 * total(before), f"in round trips {words(receiver.rounds)} of {total(before)} that were lost")
@@ -136,7 +140,7 @@ def congestion_avoidance(lab):
         receiver.turn()
     sizes = receiver.rounds
     said = f"{total(before)} bytes are lost; in round trips then {words(sizes)}"
-    need(grows_as_acknowledged(receiver), said)
+    need(grows_as_acknowledged(receiver, 0.7 * total(before)), said)
     # Four, and two more that silence may have told to be of another round trip.
     need(max(sizes[start:]) <= sizes[start] + 6 * receiver.longest, said)
     return said

@@ -29,7 +29,7 @@ void queue_add(struct queue *queue, struct link *link)
     queue->count++;
 }
 
-static struct conn *conn_of_order(struct link *link)
+struct conn *conn_of_order(struct link *link)
 {
     return (struct conn *)(void *)((char *)link - offsetof(struct conn, order));
 }
@@ -63,7 +63,11 @@ static int has_place(struct usernet *net, const struct queue *queue, uint64_t li
     return queue->count < limit || oldest_goes(net, queue, GRACE, conn_of);
 }
 
-static uint64_t room_of(uint32_t capacity) { return TCPCORE_CONNECTION_MEMORY_RUNS(capacity, capacity, RUNS) + sizeof(struct conn); }
+static uint64_t room_of(uint32_t capacity)
+{
+    uint64_t in_host = TCPCORE_HOST_MEMORY(1, 0, 0, 0) - TCPCORE_HOST_MEMORY(0, 0, 0, 0) + sizeof(struct conn *);
+    return TCPCORE_CONNECTION_MEMORY_RUNS(capacity, capacity, RUNS) + sizeof(struct end) + sizeof(struct conn) + in_host;
+}
 
 /* What a new connection would keep for each direction. */
 static uint32_t capacity_now(const struct usernet *net)
@@ -79,9 +83,9 @@ static uint32_t capacity_now(const struct usernet *net)
 static int has_room(struct usernet *net)
 {
     uint64_t most = net->limits.connections;
-    while (net->resting.count > 0 && (net->pairs.used >= most || capacity_now(net) < CAPACITY))
+    while (net->resting.count > 0 && (net->connections >= most || capacity_now(net) < CAPACITY))
         drop(net, conn_of_order(net->resting.oldest), 0);
-    return (net->pairs.used < most && capacity_now(net) > 0) || oldest_goes(net, &net->half_open, GRACE, conn_of_order) ||
+    return (net->connections < most && capacity_now(net) > 0) || oldest_goes(net, &net->half_open, GRACE, conn_of_order) ||
            oldest_goes(net, &net->active, IDLE, conn_of_order);
 }
 
@@ -96,6 +100,8 @@ uint32_t limits_admit(struct usernet *net, const struct pair *key)
 void limits_enter(struct usernet *net, struct conn *conn)
 {
     conn->since = net->now;
+    net->connections++;
+    net->most = net->connections > net->most ? net->connections : net->most;
     queue_add(&net->half_open, &conn->order);
     queue_add(place_of(net, &conn->pair), &conn->place);
     net->reserved += room_of(conn->capacity);
@@ -123,6 +129,7 @@ void limits_leave(struct usernet *net, struct conn *conn)
 {
     queue_leave(&conn->order);
     queue_leave(&conn->place);
+    net->connections--;
     net->reserved -= room_of(conn->capacity);
 }
 

@@ -207,7 +207,7 @@ static void take_socket(struct usernet *net, struct conn *conn, uint32_t events)
         return;
     conn->can_read |= (events & (EPOLLIN | EPOLLRDHUP | EPOLLHUP | EPOLLERR)) != 0;
     conn->can_write |= (events & (EPOLLOUT | EPOLLHUP | EPOLLERR)) != 0;
-    wheel_wake(&net->wheel, &conn->node);
+    wake(net, conn);
 }
 
 /* An event's number is one of usernet.h, and else the address of a connection, or one more than that of a relay. */
@@ -234,8 +234,8 @@ static void take_event(struct usernet *net, const struct epoll_event *event, voi
 /* What there is now, for whoever asks. */
 static void report_now(struct usernet *net)
 {
-    net->counters[NOW] = net->pairs.used;
-    net->counters[MOST] = net->pairs.most;
+    net->counters[NOW] = net->connections;
+    net->counters[MOST] = net->most;
     net->counters[HALF_OPEN] = net->half_open.count;
     net->counters[RESERVED] = net->reserved;
     net->counters[FLOWS_NOW] = net->relays.count + net->brief.count;
@@ -247,13 +247,13 @@ int loop_init(struct usernet *net, const uint8_t secret[16])
     const tcpcore_config config = {.addr = {{127, 0, 0, 1}}, .port = 1, .mss = 64, .send_capacity = 1, .recv_capacity = 1, .limit = 1};
     net->events = epoll_create1(EPOLL_CLOEXEC);
     net->now = milliseconds();
-    wheel_init(&net->wheel, net->now);
-    pairs_init(&net->pairs, net->buckets, BUCKETS, secret);
+    net->last_awake = &net->awake;
+    pairs_init(&net->pairs, net->buckets, FLOW_BUCKETS, secret);
     pairs_init(&net->datagrams, net->datagram_buckets, FLOW_BUCKETS, secret);
     pairs_init(&net->echoes, net->echo_buckets, FLOW_BUCKETS, secret);
     fragments_init(&net->fragments, net->cut, CUT);
     pairs_init(&net->inward, net->inward_buckets, FLOW_BUCKETS, secret);
-    return net->events >= 0 && tcpcore_new(&net->reader, &config, net->reader_block, sizeof net->reader_block) == TCPCORE_DONE &&
+    return net->events >= 0 && ends_init(net) && tcpcore_new(&net->reader, &config, net->reader_block, sizeof net->reader_block) == TCPCORE_DONE &&
            ports_listen(net) && watch(net, net->device, EPOLLIN, DEVICE) && api_watch(net);
 }
 
@@ -261,7 +261,7 @@ int loop_init(struct usernet *net, const uint8_t secret[16])
 static void loop_turn(struct usernet *net, void (*signalled)(void))
 {
     struct epoll_event events[EVENTS];
-    int wait = wheel_wait(&net->wheel, net->now), found = epoll_wait(net->events, events, EVENTS, api_wait(wait));
+    int wait = turn_wait(net), found = epoll_wait(net->events, events, EVENTS, api_wait(wait));
     net->now = milliseconds();
     if (net->listens_at && net->now >= net->listens_at)
         ports_listen(net);

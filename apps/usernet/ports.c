@@ -125,12 +125,18 @@ void ports_take(struct usernet *net, uint64_t place)
     }
 }
 
-int ports_deal(struct usernet *net, struct pairs *used, struct pair *key)
+/* A connection that has an end is in none of the tables. */
+static int is_used(struct usernet *net, const struct pairs *used, const struct pair *key)
+{
+    return pairs_find(used, key) || (used == &net->pairs && ends_find(net, key));
+}
+
+int ports_deal(struct usernet *net, const struct pairs *used, struct pair *key)
 {
     for (uint64_t left = net->limits.ports; left > 0; left--) {
         net->next_port = (uint16_t)((net->next_port + 1u) % net->limits.ports);
         key->server_port = (uint16_t)(FIRST_PORT + net->next_port);
-        if (!pairs_find(used, key))
+        if (!is_used(net, used, key))
             return 1;
     }
     return 0;

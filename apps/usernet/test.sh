@@ -38,6 +38,7 @@ if [[ ${1-} == --hostile ]]; then
     exec python3 hostile.py "${@:2}"
 fi
 [[ -n ${WITHOUT_SECCOMP-} ]] || out/sandbox_test
+out/pairs_test
 ./install_test.sh "$library"
 python3 test.py "$@"
 case " $* " in

@@ -14,17 +14,20 @@
 #include "companions/icmp6.h"
 #include "companions/ip.h"
 #include "companions/ip6.h"
-#include "companions/pairs.h"
 #include "companions/path.h"
 #include "companions/trains.h"
 #include "companions/udp.h"
-#include "companions/wheel.h"
+#include "pairs.h"
 
 #include <netinet/in.h>
 #include <time.h>
 
+#ifndef TCPCORE_HAS_HOSTS
+#error "there are no hosts here, only in machine code: see HOSTS in tcpcore.h"
+#endif
+
 /* The most and the fewest bytes kept for each direction of a connection, and by how much its windows are shifted. */
-enum { CAPACITY = 262144, LEAST_CAPACITY = 8192, SHIFT = 3, BUCKETS = 65536, FLOW_BUCKETS = 4096 };
+enum { CAPACITY = 262144, LEAST_CAPACITY = 8192, SHIFT = 3, FLOW_BUCKETS = 4096 };
 
 /* The runs of bytes that an end keeps out of order: a device hands packets over in their order, so that only losses make any. */
 enum { RUNS = 16 };
@@ -50,8 +53,8 @@ enum { DEVICE = LISTENERS, SIGNALS, EXITS, API, CALLER, NAMED = CALLER + CALLERS
 /* The first of the gateway's ports from which connections and datagrams are carried in. */
 enum { FIRST_PORT = 32768 };
 
-/* The longest header of a segment; the bytes of the shortest IPv4 and TCP headers together. */
-enum { MOST_HEADER = 60, HEADERS = 40 };
+/* The bytes of the shortest IPv4 and TCP headers together. */
+enum { HEADERS = 40 };
 
 /* A place on the host: a socket's address. */
 union place { struct sockaddr any; struct sockaddr_in v4; struct sockaddr_in6 v6; };
@@ -61,30 +64,36 @@ static inline socklen_t place_length(const union place *place) { return place->a
 struct link { struct link *older, *newer; struct queue *queue; };
 struct queue { struct link *oldest, *newest; uint32_t count; };
 
-/* One connection of the namespace: an end of ours with its clock, and the host's socket behind it. */
+/* An end of ours, the namespace's peer, and what it has said. */
+struct end {
+    struct tcpcore_host_id id; /* its name */
+    struct path path;
+    uint64_t quiet_until;      /* before that no answer to what was refused goes out that says what was said */
+    uint64_t edge;             /* what was said: the window's right edge, as a position of the client's direction, */
+    uint32_t ack;              /* and the acknowledgement number and the window of what went out last */
+    uint16_t window;
+    uint64_t carried;          /* bytes of text that went through it, either way */
+    uint8_t block[];           /* its memory */
+};
+
+/* One connection of the namespace: an end of ours, and the host's socket behind it. */
 struct conn {
     struct pair pair;               /* as the namespace has it: its own address is the client's */
-    struct wheel_node node;         /* its next deadline */
     struct link order, place;       /* among those of its phase; among those half-open to one destination */
-    struct conn *next;              /* of those that were dropped */
-    tcpcore_connection end;         /* the namespace's peer; none before the host's socket is connected */
-    struct path path;
-    uint64_t quiet_until;           /* before that no answer to what was refused goes out that says what was said */
-    uint32_t ack;                   /* what was said: the acknowledgement number and the window of what went out last, */
-    uint16_t window;
-    uint64_t edge;                  /* and its right edge, as a position of the client's direction */
-    void *block;                    /* the memory of the end, for as long as there is one */
+    struct conn *next;              /* of those that are looked at next, or of those that were dropped */
+    union {
+        struct end *end;            /* once the host's socket is connected; */
+        uint8_t *syn;               /* before that the header of the client's SYN, summed, which opens the end, if one came */
+    };
     uint32_t capacity;              /* bytes kept for each direction */
     int socket;                     /* the host's, or -1 once both directions are done */
     uint8_t is_open;                /* whether there is an end */
+    uint8_t is_awake;               /* whether it is looked at next, whatever the time is */
     uint8_t is_dropped;             /* whether it waits to be freed */
     uint8_t can_read, can_write;    /* what epoll said of the socket, until a call would block */
     uint8_t host_done, client_done; /* whether that side's end of stream was passed on */
     uint64_t since;                 /* when it was made, or something of the client's came last */
-    uint64_t carried;               /* bytes of text that went through its end, either way */
     uint32_t first;                 /* the client's initial sequence number */
-    uint8_t syn[MOST_HEADER];       /* the header of the client's SYN, summed: it opens the end */
-    uint8_t syn_length;
 };
 
 /* All datagrams of one of the namespace's sockets: an open socket of the host. Or questions to the host's name server, or echoes with one
@@ -187,9 +196,13 @@ struct usernet {
     uint64_t now;              /* milliseconds */
     uint64_t listens_at;       /* when it listens again, or 0 where it does */
     uint64_t counters[COUNTERS];
-    struct wheel wheel;
-    struct pairs pairs;
-    struct pair *buckets[BUCKETS];
+    tcpcore_host ends;         /* the ends of all connections that have one, with its tables in a block of memory, */
+    void *tables;
+    struct conn **owners;      /* and the connection of each, by its slot */
+    struct pairs pairs;        /* the connections that have none yet */
+    struct pair *buckets[FLOW_BUCKETS];
+    uint32_t connections, most; /* how many there are, and the most there were at once */
+    struct conn *awake, **last_awake; /* what is looked at next, and where the last of it points to */
     struct conn *dropped;      /* what is freed behind these events */
     struct queue half_open, active, resting; /* the connections by their phase: active ones by when something came last */
     struct queue places[PLACES];
@@ -279,7 +292,7 @@ int ports_listen(struct usernet *net);
 void ports_take(struct usernet *net, uint64_t place);
 
 /* A port of the gateway's that isn't in use towards the key's client, as the key's server; whether there was one. */
-int ports_deal(struct usernet *net, struct pairs *used, struct pair *key);
+int ports_deal(struct usernet *net, const struct pairs *used, struct pair *key);
 
 /* api.c: makes the API's socket at this path, below 0 where it can't; waits for its clients; one has come, or
    the one at this place has sent something; those that were silent for long go; the milliseconds until then, or `wait` where that is
@@ -302,8 +315,13 @@ void drop(struct usernet *net, struct conn *conn, int resets);
 void cut(struct usernet *net, struct conn *conn);
 void free_dropped(struct usernet *net);
 
-/* Looks at all connections that are awake, or whose time has come; end_all resets and frees all there are. */
+/* A connection is looked at next. */
+void wake(struct usernet *net, struct conn *conn);
+
+/* Looks at all connections that are awake, or whose time has come; for so many milliseconds there are none then, at most a quarter of a second;
+   end_all resets and frees all there are. */
 void turn_all(struct usernet *net);
+int turn_wait(const struct usernet *net);
 void end_all(struct usernet *net);
 
 /* host.c: where `to` and `port` lead on the host; 0 where that is nowhere, or where the program was told to leave that place alone, with
@@ -343,12 +361,25 @@ void relays_expire(struct usernet *net);
 void relays_free(struct usernet *net);
 void relays_end(struct usernet *net);
 
-/* carry.c: text between the end and the host's socket, up to the host and down from it; 0 where the connection can't go on. */
-int carry_up(struct usernet *net, struct conn *conn);
-int carry_down(struct usernet *net, struct conn *conn);
+/* carry.c: text between the end and the host's socket, up to the host, of which `rcv_position` bytes have come in order, and down from it, for
+   which the end has so much room; 0 where the connection can't go on. */
+int carry_up(struct usernet *net, struct conn *conn, uint64_t rcv_position);
+int carry_down(struct usernet *net, struct conn *conn, size_t room);
 
-/* conn.c: the right edge of the window that the end would advertise. */
-uint64_t edge_of(const struct conn *conn);
+/* ends.c: makes what keeps the ends, whether it could; frees it, and all ends. */
+int ends_init(struct usernet *net);
+void ends_free(struct usernet *net);
+
+/* Makes the connection's end, which takes the client's SYN, or calls the client where none came, whether it could; it has none any more. */
+int ends_make(struct usernet *net, struct conn *conn);
+void ends_remove(struct usernet *net, struct conn *conn);
+
+/* The connection with these addresses and ports, if it has an end; what is reported of the end of one that has. */
+struct conn *ends_find(const struct usernet *net, const struct pair *key);
+struct tcpcore_status ends_status(const struct usernet *net, const struct conn *conn);
+
+/* Emits all that is due: behind a segment that the end has refused where `is_refused`. */
+void ends_emit(struct usernet *net, struct conn *conn, int is_refused);
 
 /* limits.c: the bytes that a new connection to this destination keeps for each direction, or 0 where there may be none. Ones that have
    been half-open or silent for some time, or are in TIME-WAIT, make way for it. */
@@ -359,6 +390,9 @@ void limits_enter(struct usernet *net, struct conn *conn);
 void limits_follow(struct usernet *net, struct conn *conn, uint32_t phase);
 void limits_touch(struct usernet *net, struct conn *conn);
 void limits_leave(struct usernet *net, struct conn *conn);
+
+/* The connection whose place among those of its phase this is. */
+struct conn *conn_of_order(struct link *link);
 
 /* A place in a queue becomes its newest, or leaves the queue that it is in. */
 void queue_add(struct queue *queue, struct link *link);
