@@ -135,7 +135,7 @@ extern "C" {
 #endif
 
 /* The version of this header: it grows with each change of a struct, a call or an answer. */
-#define TCPCORE_VERSION 20
+#define TCPCORE_VERSION 21
 
 /* Whether there are hosts (HOSTS, below): where tcpcore.c takes machine code, by the rule that stands at its top. */
 #if !defined(TCPCORE_HAS_HOSTS) && !defined(TCPCORE_PORTABLE) && defined(__GNUC__) && !defined(__TINYC__) && defined(__linux__) && \
@@ -1014,7 +1014,7 @@ struct tcpcore_connection_rules {
 struct tcpcore_congestion {
     /* The congestion window; 2^40 where none was chosen, more than is ever in flight. */
     uint64_t cwnd;
-    /* The slow start threshold; 2^40 before a loss. */
+    /* The slow start threshold; 2^40 until slow start has ended once. */
     uint64_t ssthresh;
     /* SMSS: 536 until the SYNs have agreed on it; 0 where no window was chosen. */
     uint64_t smss;
@@ -1071,7 +1071,7 @@ struct tcpcore_connection_segment {
 #define TCPCORE_CONNECTION_MEMORY(send, receive) TCPCORE_CONNECTION_MEMORY_RUNS(send, receive, TCPCORE_RUNS)
 
 /* How many bytes of a block of any alignment are enough for loss recovery by time: tcpcore_connection_set_recovery. */
-#define TCPCORE_RECOVERY_MEMORY (2848 + 15)
+#define TCPCORE_RECOVERY_MEMORY (2832 + 15)
 
 /*
  * Makes an end with its timers in *connection, and opens a connection to this address and port at `now` (RFC 9293, 3.10.1): the SYN is
@@ -1248,6 +1248,8 @@ uint32_t tcpcore_connection_congestion(const tcpcore_connection *connection, str
  *   in `answer_interval`, and is discarded meanwhile, as if it were lost: so two ends with zero windows answer each other once in that
  *   time, and not without end. Some seconds are as much as it should be. What answers text isn't limited. `out` of an emission may contain
  *   what was discarded, then, behind what goes out.
+ *   Under a policy of which anything waits or isn't answered, as of version 21, the peer's SYN again in SYN-RECEIVED has the SYN,ACK go
+ *   out again, in place of an acknowledgement alone, which a peer without the SYN,ACK drops.
  * It may be called at any time, and again: an acknowledgement that waited is due then, and text begins to wait anew. *policy is read and
  * not kept. Of version 17.
  *   DONE; NO_END; NULL; COPIED.
@@ -1260,18 +1262,21 @@ uint32_t tcpcore_connection_set_policy(tcpcore_connection *connection, const str
  * where nothing is sent or acknowledged for two round trips, and for the peer's delay behind less than two full segments, the last SMSS
  * numbers, the FIN among them, go out again as a probe, or the first ones while blocks report a gap or a loss is repaired. So a loss rarely
  * waits for the retransmission timeout. The window is a quarter of the least round trip, or more where what was sent again came late, and
- * what is late by less isn't taken for lost. Until reordering was seen the window is 0 behind three duplicates and while a loss is
- * repaired.
+ * what is late by less isn't taken for lost.
  *   Choose a congestion window, too: without one all that looks lost goes out again at once, and a peer that reports as received what was
  * sent last has all that is in flight sent again for each of its segments. That window shrinks once for all that is in flight when
- * a loss is found, also for a loss that a probe has repaired, and once more where what was sent again is lost again. The steps of `now`
- * have to be finer than a quarter of a round trip: by a coarser clock what isn't answered yet looks lost, and goes out again in vain.
+ * a loss is found, also for a loss that a probe has repaired, and once more where what was sent again is lost again. As of version 21 its
+ * first slow start may end before a loss, where round trips become longer (RFC 9406), and counts up to eight segments of each answer. The
+ * steps of `now` have to be finer than a quarter of a round trip: by a coarser clock what isn't answered yet looks lost, and goes out again
+ * in vain.
  *   It counts where both SYNs agree on selective acknowledgement. Else, as of version 20, the first two segments in flight go out again as
- * a probe, once until the first of them is acknowledged, and all else is as without it. What falls due by it goes out by an emission, of
- * which tcpcore_connection_poll_at has the time: emit then, whether or not a timer expires, too. At most 64 stretches of what is in flight
- * are kept in the `length` bytes at `block`; where there are more, what was joined is found lost later. The block is the connection's until
- * tcpcore_connection_free, whatever has become of the connection; TCPCORE_RECOVERY_MEMORY bytes are enough. Call it once, any time before
- * text is sent, also right after the making of the connection: of text that was sent before it wouldn't be known when. Of version 18.
+ * a probe, once until the first of them is acknowledged, and, as of version 21, where its answer covers no more than these what was sent
+ * before it and lies behind them is lost, too, and the first slow start is that of RFC 9406; all else is as without it. What falls due by
+ * it goes out by an emission, of which tcpcore_connection_poll_at has the time: emit then, whether or not a timer expires, too. At most 64
+ * stretches of what is in flight are kept in the `length` bytes at `block`; where there are more, what was joined is found lost later. The
+ * block is the connection's until tcpcore_connection_free, whatever has become of the connection; TCPCORE_RECOVERY_MEMORY bytes are enough.
+ * Call it once, any time before text is sent, also right after the making of the connection: of text that was sent before it wouldn't be
+ * known when. Of version 18.
  *   DONE; IN_USE: it was called already. NO_RULE: text was sent already, or a FIN. NO_MEMORY: the block is too small. At any answer but
  *   DONE nothing has changed, and the block is the caller's. NO_END; NULL; LENGTH; OVERLAP (the block lies over the struct); COPIED.
  */
@@ -1300,6 +1305,8 @@ uint32_t tcpcore_connection_set_recovery(tcpcore_connection *connection, uint64_
  *   4. Take what tcpcore_host_accept gives, and make the users' calls by name: tcpcore_host_send, tcpcore_host_receive, tcpcore_host_close.
  *   5. Call tcpcore_host_timeout until it answers TCPCORE_NOBODY.
  *   6. Call tcpcore_host_emit, and send what it writes, until it answers TCPCORE_NOBODY. Go on with 3.
+ *   For a device that sums and cuts segments tcpcore_host_arrive_vouched stands beside tcpcore_host_arrive, and tcpcore_host_emit_train
+ *   writes those of one connection by its name, before 6; tcpcore_host_emit_by_id writes one of them at once.
  *   7. Of whose turn it was, and had nothing to send, the connection may be over. Once it is in TIME-WAIT and all of it was read,
  *      tcpcore_host_retire leaves a record in its place and moves it out. Once its phase is TCPCORE_PHASE_CLOSED, and nothing is due,
  *      tcpcore_host_remove moves it out. Its block is free behind tcpcore_connection_free.
@@ -1458,6 +1465,16 @@ uint32_t tcpcore_host_arrive(tcpcore_host *host, uint64_t now, tcpcore_addr src,
                              struct tcpcore_host_arrived *arrived, struct tcpcore_arrive_report *report);
 
 /*
+ * As tcpcore_host_arrive, of a segment whose checksum a device has found right: a connection doesn't sum it. A record does, and
+ * tcpcore_host_stray. So where a device has left the sum out, and the place is TCPCORE_PLACE_RECORD or TCPCORE_PLACE_STRAY, make it, and
+ * hand the segment to tcpcore_host_arrive or tcpcore_host_stray: nothing has changed, but that a record has a turn in which nothing is due.
+ * Of version 21.
+ *   As tcpcore_host_arrive; BAD_CHECKSUM of a record alone.
+ */
+uint32_t tcpcore_host_arrive_vouched(tcpcore_host *host, uint64_t now, tcpcore_addr src, tcpcore_addr dst, const void *bytes, size_t length,
+                                     struct tcpcore_host_arrived *arrived, struct tcpcore_arrive_report *report);
+
+/*
  * Writes the reset that answers a stray of `length` bytes from `src` to `dst` at `now` to `out`, TCPCORE_RESET_ROOM bytes, which goes from
  * `dst` to `src` (RFC 9293, 3.10.7.1): of nobody's segment, or of one that acknowledges something at a listener (3.10.7.2, second).
  *   DONE; NOT_DUE: somebody has the bytes, they are no segment or a reset, or the last answer was less than the interval ago. ROOM; NO_END;
@@ -1475,6 +1492,17 @@ uint32_t tcpcore_host_stray(tcpcore_host *host, uint64_t now, tcpcore_addr src, 
 uint32_t tcpcore_host_emit(tcpcore_host *host, uint64_t now, uint64_t window, void *out, size_t room, struct tcpcore_host_sent *sent);
 
 /*
+ * Writes what is due of a connection at `now` within `window`, by its name and whosever turn it is: one segment, as
+ * tcpcore_connection_emit does, or several as one for a device that cuts and sums them, as tcpcore_connection_emit_train does. It goes from
+ * the connection's own address. The connection waits for its turn behind this, also where nothing is left to send. Of version 21.
+ *   As those; GONE: the connection of this name is.
+ */
+uint32_t tcpcore_host_emit_by_id(tcpcore_host *host, uint64_t now, const struct tcpcore_host_id *id, uint64_t window, void *out,
+                                 size_t room, struct tcpcore_connection_segment *segment);
+uint32_t tcpcore_host_emit_train(tcpcore_host *host, uint64_t now, const struct tcpcore_host_id *id, uint64_t window, void *out,
+                                 size_t room, size_t most, struct tcpcore_train *train);
+
+/*
  * It is `now`: a TIME-WAIT record that is over goes; else the connection that is due first is told. It waits for a turn then.
  *   DONE: *told says who, and which timer has expired, as of tcpcore_connection_timeout; call again. NOBODY is due. NO_END; NULL; OVERLAP;
  *   COPIED.
@@ -1486,6 +1514,14 @@ uint32_t tcpcore_host_timeout(tcpcore_host *host, uint64_t now, struct tcpcore_h
  *   DONE; NO_END; NULL; OVERLAP; COPIED.
  */
 uint32_t tcpcore_host_poll_at(const tcpcore_host *host, uint64_t *at);
+
+/*
+ * Which connection has this address and port, and this peer's (RFC 9293, 3.3.1): *id is its name. Of what an ICMP error quotes, say, whose
+ * source is the connection's own. Of version 21.
+ *   DONE; NOBODY: no connection of the host has them; a TIME-WAIT record may. NO_END; NULL; OVERLAP; COPIED.
+ */
+uint32_t tcpcore_host_find(const tcpcore_host *host, tcpcore_addr addr, uint16_t port, tcpcore_addr peer_addr, uint16_t peer_port,
+                           struct tcpcore_host_id *id);
 
 /*
  * The calls of a connection's user, by its name: each as tcpcore_connection_send, receive, peek, consume, acknowledge, close, abort, status
