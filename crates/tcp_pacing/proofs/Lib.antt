@@ -1,0 +1,3 @@
+pub mod Rates
+mod Spreading
+mod Waiting
