@@ -18,7 +18,8 @@ goes_again s (Some sent) = nat_lt 0 sent.count && nat_lt sent.start s.nxt
 -- who calls emits until nothing goes out; what the congestion window holds back isn't sent as a probe (own: 7.3 lets one segment of
 -- that go). Where blocks report a gap or a loss is being repaired it is the first segment, which nothing else will send (own). So
 -- it is without blocks: nothing but the timeout would tell which of those in flight is lost, and the first is what the peer's
--- acknowledgement waits for; and with it the second, which a peer may wait for before it acknowledges (RFC 5681, 4.2; own)
+-- acknowledgement waits for; and with it the second, which a peer may wait for before it acknowledges (RFC 5681, 4.2; own), as far as
+-- the peer's window goes: where that has shrunk the first alone goes past its edge (RFC 9293, 3.8.6; RFC 7323, 2.4)
 abbrev pub is_probe_due : Repair → Bool
 is_probe_due r = no_later r.probe.at r.clock
 
@@ -29,7 +30,7 @@ abbrev pub head : Seen → Again
 head s = record { from = s.una; to = min s.nxt (s.una + s.smss); loss = None }
 
 abbrev pub first_two : Seen → Again
-first_two s = record { from = s.una; to = min s.nxt (s.una + s.smss + s.smss); loss = None }
+first_two s = record { from = s.una; to = min s.nxt (s.una + max s.smss (min (s.smss + s.smss) s.wnd)); loss = None }
 
 abbrev pub first_of : Seen → Again
 first_of s = if s.has_agreed then head s else first_two s

@@ -60,7 +60,7 @@ begun s now = record new_repair {
 -- blocks report a gap or a loss is being repaired, so that what is sent again and lost again, with nothing sent behind it, doesn't
 -- wait for the timeout (own: the standard has none then), and where no blocks are exchanged (own: the standard needs them)
 abbrev pub may_probe : Seen → Bool
-may_probe s = s.has_window && nat_lt s.una s.nxt
+may_probe s = nat_lt 0 s.wnd && nat_lt s.una s.nxt
 
 abbrev pub started : Probe → Seen → ℕ → Probe
 started p s now = after_start p now s.srtt (nat_lt (s.nxt - s.una - s.smss) s.smss) s.rto_at

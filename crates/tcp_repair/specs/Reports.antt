@@ -7,5 +7,5 @@ pub record Reports (S : Type 0) : Type 0 where
   pub unmarked : S → ℕ → Option (ℕ × ℕ)
   -- whether both SYNs agreed on blocks (RFC 2018, 2)
   pub agreed : S → Bool
-  -- whether the peer's window is open
-  pub has_window : S → Bool
+  -- SND.WND, the peer's window (RFC 9293, 3.3.1)
+  pub peer_window : S → ℕ

@@ -18,16 +18,16 @@ abbrev pub srtt_of : Option RoundTrip → Option ℕ
 srtt_of None = None
 srtt_of (Some trip) = Some (min most_trip trip.srtt)
 
--- SND.UNA and SND.NXT, as positions, and SMSS, 536 bytes before both SYNs have agreed (RFC 9293, 3.3.1 and 3.7.1); whether blocks
--- report a gap, whether the peer's window is open, and whether both SYNs agreed on blocks; SRTT; and when a timer of the driver
--- expires, the retransmission timer where something is in flight
+-- SND.UNA and SND.NXT, as positions, SND.WND, and SMSS, 536 bytes before both SYNs have agreed (RFC 9293, 3.3.1 and 3.7.1); whether
+-- blocks report a gap, and whether both SYNs agreed on blocks; SRTT; and when a timer of the driver expires, the retransmission
+-- timer where something is in flight
 abbrev pub seen_of : {S : Type 0} → Machine S → (S → Option ℕ) → Reports S → Driving S → Seen
 seen_of m smss_of b d = record {
   una = m.una d.core;
   nxt = min latest (m.una d.core + m.flight d.core);
+  wnd = b.peer_window d.core;
   smss = unwrap_or (smss_of d.core) first_smss;
   has_gap = (m.wants d.core).reorder;
-  has_window = b.has_window d.core;
   has_agreed = b.agreed d.core;
   srtt = srtt_of d.times.estimate.trip;
   rto_at = unwrap_or (next_expiry d.times) last;

@@ -34,7 +34,7 @@ has_sack None = false
 has_sack (Some agreed) = agreed.sack
 
 abbrev pub reports : {A : Type 0} → Reports (Wired A)
-reports = record { unmarked = λ w at. unmarked_of w.end at; agreed = λ w. has_sack (negotiated_of w.end); has_window = λ w. nat_lt 0 w.end.sending.snd_wnd }
+reports = record { unmarked = λ w at. unmarked_of w.end at; agreed = λ w. has_sack (negotiated_of w.end); peer_window = λ w. w.end.sending.snd_wnd }
 
 -- where segments begin that have gone out as one
 abbrev pub start_of : Train → ℕ

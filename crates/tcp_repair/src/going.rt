@@ -45,13 +45,16 @@ fn head(seen: Seen) -> Again
     }
 }
 
-/// The first two segments in flight, of which one may be short: a peer may wait for the second one (RFC 5681, 4.2).
+/// The first two segments in flight, of which one may be short: a peer may wait for the second one (RFC 5681, 4.2). Where the peer's
+/// window has shrunk the first alone goes past its edge (RFC 9293, 3.8.6; RFC 7323, 2.4).
 fn first_two(seen: Seen) -> Again
     ensures { result ≡ first_two seen }
 {
+    let two = seen.smss.saturating_add(seen.smss);
+    let len = seen.smss.max(two.min(seen.wnd));
     Again {
         from: seen.una,
-        to: seen.nxt.min(seen.una.saturating_add(seen.smss).saturating_add(seen.smss)),
+        to: seen.nxt.min(seen.una.saturating_add(len)),
         loss: None,
     }
 }

@@ -37,7 +37,7 @@ impl Model for Recovery {
 fn may_probe(seen: Seen) -> bool
     ensures { result ≡ may_probe seen }
 {
-    seen.has_window && seen.una < seen.nxt
+    0 < seen.wnd && seen.una < seen.nxt
 }
 
 /// Whether this is a timer at which what is in flight goes out again.

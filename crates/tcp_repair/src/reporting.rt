@@ -21,9 +21,9 @@ pub trait Reporting: Deferring {
     fn uses_blocks(&self) -> bool
         ensures { result ≡ reports.agreed self.now };
 
-    /// Whether the peer's window is open.
-    fn has_window(&self) -> bool
-        ensures { result ≡ reports.has_window self.now };
+    /// SND.WND, the peer's window, in bytes (RFC 9293, 3.3.1).
+    fn peer_window(&self) -> u64
+        ensures { result ≡ reports.peer_window self.now };
 
     /// The position of the first number of segments that have gone out as one.
     fn start(train: &Self::Train) -> u64

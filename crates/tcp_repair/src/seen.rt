@@ -23,12 +23,12 @@ pub(crate) struct Seen {
     pub una: u64,
     /// SND.NXT, as a position.
     pub nxt: u64,
+    /// SND.WND, in bytes: 0 where the peer's window is shut.
+    pub wnd: u64,
     /// SMSS, in bytes.
     pub smss: u64,
     /// Whether blocks report a gap.
     pub has_gap: bool,
-    /// Whether the peer's window is open.
-    pub has_window: bool,
     /// Whether both SYNs agreed on blocks.
     pub has_agreed: bool,
     /// SRTT, in microseconds, once a round trip was measured.
@@ -72,9 +72,9 @@ impl Seen {
         Seen {
             una,
             nxt: una.saturating_add(core.flight()),
+            wnd: core.peer_window(),
             smss: smss_of(core),
             has_gap: core.wants().reorder,
-            has_window: core.has_window(),
             has_agreed: core.uses_blocks(),
             srtt: srtt_of(driver.estimator().trip()),
             rto_at: driver.poll_at().unwrap_or(LAST),

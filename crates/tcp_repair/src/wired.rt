@@ -50,9 +50,9 @@ impl<A: Allocator> Reporting for Wired<A> {
         }
     }
 
-    fn has_window(&self) -> bool {
+    fn peer_window(&self) -> u64 {
         let (_, snd_wnd) = self.end.windows();
-        snd_wnd > 0
+        u64::from(snd_wnd)
     }
 
     fn start(train: &Train) -> u64 {
