@@ -47,4 +47,4 @@ room_of c = room_beside c 416
 
 -- and with its timers
 abbrev pub connection_room_of : CConfig → ℕ
-connection_room_of c = room_beside c 1120
+connection_room_of c = room_beside c 1200

@@ -7,9 +7,8 @@ use Rattle.tcp_congestion.specs.declared.any_window.AnyWindow.{AnyWindow}
 use Rattle.tcp_congestion.specs.declared.any_window.AnyWindow.TheVariants.{Unlimited, Reno, Cubic}
 use Rattle.tcp_conn.specs.State.{State}
 use Rattle.tcp_connection.specs.Using.{choosing}
-use Rattle.tcp_repair.specs.Repairing.{after_own}
 use Rattle.tcp_c.specs.Answers.{bad_rules, done, no_rule}
-use Rattle.tcp_c.specs.Connections.{agreed, end_of}
+use Rattle.tcp_c.specs.Connections.{agreed, end_of, with_own}
 use Rattle.tcp_c.specs.Status.{flag}
 use Rattle.tcp_c.specs.declared.records.CCongestion.{CCongestion}
 use Rattle.tcp_c.specs.declared.connection.driven.Driven.{Driven}
@@ -37,8 +36,7 @@ has_sent s = nat_lt 1 s.sending.snd_nxt
 abbrev pub chosen_by : Option AnyWindow → Driven → Driven
 chosen_by None d = d
 chosen_by (Some window) d =
-    if has_sent (end_of d) then d
-    else record { connection = after_own d.connection (choosing agreed any_control d.connection.connecting window) }
+    if has_sent (end_of d) then d else with_own d (choosing agreed any_control d.connection.repairing.connecting window)
 
 abbrev pub chosen : ℕ → Driven → Driven
 chosen number d = chosen_by (window_of number) d
@@ -65,4 +63,4 @@ congestion_by w = record {
 
 abbrev pub congestion_of : Option Driven → CCongestion
 congestion_of None = no_congestion
-congestion_of (Some d) = congestion_by d.connection.connecting.flowing.window
+congestion_of (Some d) = congestion_by d.connection.repairing.connecting.flowing.window

@@ -4,14 +4,8 @@ use Rattle.std.specs.Prelude.{ℕ, nat_lt, if◌then◌else◌, List, length, Op
 use Rattle.tcp_congestion.specs.AnyWindow.{any_control}
 use Rattle.tcp_conn.specs.declared.emit.train.Train.{Train}
 use Rattle.tcp_conn.specs.declared.emit.transmit.TheConstants.{EMIT_ROOM}
-use Rattle.tcp_conn.specs.TrainWithin.{train_within}
-use Rattle.tcp_connection.specs.Wired.{insight}
-use Rattle.tcp_end.specs.Wired.{machine}
-use Rattle.tcp_flow.specs.Wired.{numbers_of}
-use Rattle.tcp_repair.specs.Repairing.{after_train as after_train_of, train_by_emit, written_by_train}
-use Rattle.tcp_repair.specs.Wired.{reports as blocks, start_of}
+use Rattle.tcp_steady.specs.Steady.{after_train as after_train_of, train_by_emit, written_by_train}
 use Rattle.tcp_c.specs.Answers.{done, little_room, nothing_due}
-use Rattle.tcp_c.specs.Connections.{agreed}
 use Rattle.tcp_c.specs.Trains.{no_train, record_of}
 use Rattle.tcp_c.specs.declared.records.CTrain.{CTrain}
 use Rattle.tcp_c.specs.declared.connection.driven.Driven.{Driven}
@@ -26,8 +20,7 @@ train_found None = no_train
 train_found (Some train) = record_of train
 
 abbrev pub train_sent : ℕ → ℕ → ℕ → ℕ → Driven → Option Train
-train_sent now window most room d =
-    train_by_emit machine insight agreed (λ w window most room. train_within w.end window most room) any_control blocks d.connection now window most room
+train_sent now window most room d = train_by_emit any_control d.connection now window most room
 
 abbrev pub train_number : ℕ → ℕ → ℕ → ℕ → Driven → ℕ
 train_number now window most room d = if nat_lt room EMIT_ROOM then little_room else train_answer (train_sent now window most room d)
@@ -40,12 +33,9 @@ train_reported now window most room (Some d) = if nat_lt room EMIT_ROOM then no_
 abbrev pub train_written : ℕ → ℕ → ℕ → List ℕ → Option Driven → List ℕ
 train_written now window most out None = out
 train_written now window most out (Some d) =
-    if nat_lt (length out) EMIT_ROOM then out else written_by_train machine insight agreed any_control blocks d.connection now window most out
+    if nat_lt (length out) EMIT_ROOM then out else written_by_train any_control d.connection now window most out
 
 -- the connection afterwards: so many emissions later, each at this time
 abbrev pub after_train : ℕ → ℕ → ℕ → ℕ → Driven → Driven
 after_train now window most room d =
-    if nat_lt room EMIT_ROOM then d else record {
-      connection = after_train_of machine insight agreed (λ w window most room. train_within w.end window most room) start_of numbers_of any_control blocks d.connection
-          now window most room;
-    }
+    if nat_lt room EMIT_ROOM then d else record { connection = after_train_of any_control d.connection now window most room }

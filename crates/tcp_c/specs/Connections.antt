@@ -9,7 +9,7 @@ use Rattle.tcp_driver.specs.declared.limits.Limits.{Limits}
 use Rattle.tcp_driver.specs.declared.machine.Sent.{Sent}
 use Rattle.tcp_driver.specs.declared.machine.Timer.{Timer}
 use Rattle.tcp_driver.specs.declared.machine.Timer.TheVariants.{Retransmit, Reorder, TimeWait, User}
-use Rattle.tcp_driver.specs.Driver.{Driving, arrival_answer, way_of}
+use Rattle.tcp_driver.specs.Driver.{Driving}
 use Rattle.tcp_halves.specs.Config.{config_error_number, HasBadCapacity, HasBadMss, HasBadShift, HasBadLimit, IsGoodConfig}
 use Rattle.tcp_halves.specs.declared.config.ConfigError.TheVariants as faults
 use Rattle.tcp_halves.specs.declared.link.Peer.{Peer}
@@ -20,17 +20,19 @@ use Rattle.tcp_conn.specs.Calls.{after_connect, after_listen}
 use Rattle.tcp_conn.specs.NewEnd.{end_with_runs}
 use Rattle.tcp_conn.specs.State.{State}
 use Rattle.tcp_end.specs.declared.wired.Wired.{Wired}
-use Rattle.tcp_end.specs.Wired.{connected, driven, intake_of, listening, machine, taken_of}
+use Rattle.tcp_end.specs.Wired.{connected, driven, listening, machine}
 use Rattle.tcp_congestion.specs.AnyWindow.{any_control}
+use Rattle.tcp_congestion.specs.declared.any_window.AnyWindow.{AnyWindow}
 use Rattle.tcp_congestion.specs.declared.any_window.AnyWindow.TheVariants.{Unlimited}
 use Rattle.tcp_flow.specs.Flow.{new_flowing}
 use Rattle.tcp_flow.specs.Wired.{smss_of}
-use Rattle.tcp_connection.specs.Connection.{new_connecting}
+use Rattle.tcp_connection.specs.Connection.{Connecting, new_connecting}
 use Rattle.tcp_connection.specs.Policy.{immediate}
 use Rattle.tcp_connection.specs.Using.{after_acknowledging, after_call, after_reading}
 use Rattle.tcp_connection.specs.Wired.{insight}
-use Rattle.tcp_repair.specs.Repairing.{after_arriving, after_emit, after_own, after_tick, plain, sent_by_emit, written_by_emit}
-use Rattle.tcp_repair.specs.Wired.{reports as blocks}
+use Rattle.tcp_repair.specs.Repairing.{after_own, plain}
+use Rattle.tcp_steady.specs.Steady as steady
+use Rattle.tcp_steady.specs.Steady.{after_arriving, after_emit, after_tick, arrival_answer_of, sent_by_emit, with_repairing, written_by_emit}
 use Rattle.tcp_c.specs.Answers.{done, bad_rules, bad_runs, emit_first, in_use, little_room, nothing_due, withheld, arrival_number}
 use Rattle.tcp_c.specs.Configs.{config_of, runs_of, HasBadRuns, HasGoodRuns}
 use Rattle.tcp_c.specs.Reports.{brought_number, no_arrive_report, rule_told}
@@ -85,9 +87,9 @@ after_opening s None = after_listen s
 abbrev pub agreed : Wired Region → Option ℕ
 agreed w = smss_of w.end
 
--- without a congestion window and a recovery, and so that nothing waits, as it begins
+-- without a congestion window, a recovery and keep-alives, and so that nothing waits, as it begins
 unfoldable pub driven_from : Driving (Wired Region) → ℕ → Driven
-driven_from d now = record { connection = plain (new_connecting machine insight agreed (new_flowing d Unlimited now) immediate) }
+driven_from d now = record { connection = steady.plain (plain (new_connecting machine insight agreed (new_flowing d Unlimited now) immediate)) }
 
 abbrev pub opens : State → Opening → Driven
 opens s o = driven_from (driven (after_opening s o.peer) o.rules o.limits o.now) o.now
@@ -115,17 +117,20 @@ pub record Makes (old after : Option Driven) (c : CConfig) (r : CConnectionRules
 
 -- ---- THE END of a connection, and a call of its user's, after which it is this
 abbrev pub end_of : Driven → State
-end_of d = d.connection.connecting.flowing.driving.core.end
+end_of d = d.connection.repairing.connecting.flowing.driving.core.end
+
+abbrev pub with_own : Driven → Connecting (Wired Region) AnyWindow → Driven
+with_own d k = record { connection = with_repairing d.connection (after_own d.connection.repairing k) }
 
 abbrev pub used : Driven → ℕ → State → Driven
-used d now s = record { connection = after_own d.connection (after_call machine d.connection.connecting now (record { end = s })) }
+used d now s = with_own d (after_call machine d.connection.repairing.connecting now (record { end = s }))
 
 -- a read of so many bytes at most, which may open the window; and the advertising of the window that is open
 abbrev pub read : Driven → ℕ → ℕ → Driven
-read d now room = record { connection = after_own d.connection (after_reading machine insight d.connection.connecting now room) }
+read d now room = with_own d (after_reading machine insight d.connection.repairing.connecting now room)
 
 abbrev pub acknowledged : Driven → ℕ → Driven
-acknowledged d now = record { connection = after_own d.connection (after_acknowledging machine d.connection.connecting now) }
+acknowledged d now = with_own d (after_acknowledging machine d.connection.repairing.connecting now)
 
 -- ---- TIMERS
 abbrev pub time_number : Option ℕ → ℕ
@@ -144,18 +149,15 @@ timer_told (Some timer) = timer_number timer
 
 -- IT IS NOW: a timer that has expired
 abbrev pub timed_out : ℕ → Driven → Driven
-timed_out now d = record { connection = after_tick machine agreed any_control blocks d.connection now }
+timed_out now d = record { connection = after_tick any_control d.connection now }
 
 -- ---- AN ARRIVAL, summed or vouched for: what the driver makes of it, with the end's own answer
 abbrev pub taken_by : Bool → Driven → List ℕ → List ℕ → List ℕ → Taken reports.Taken
-taken_by vouched d src dst bytes =
-    arrival_answer machine (λ w src dst bytes way. taken_of (intake_of way) w.end src dst bytes) d.connection.connecting.flowing.driving src dst bytes
-    (way_of d.connection.connecting.flowing.driving vouched)
+taken_by vouched d src dst bytes = arrival_answer_of d.connection src dst bytes vouched
 
 -- the connection afterwards
 abbrev pub arrived_by : Bool → ℕ → List ℕ → List ℕ → List ℕ → Driven → Driven
-arrived_by vouched now src dst bytes d =
-    record { connection = after_arriving machine insight agreed any_control blocks d.connection now src dst bytes vouched }
+arrived_by vouched now src dst bytes d = record { connection = after_arriving any_control d.connection now src dst bytes vouched }
 
 abbrev pub arrival_told : Taken reports.Taken → ℕ
 arrival_told (Done report found) = arrival_number found.arrival
@@ -180,7 +182,7 @@ report_told vouched src dst bytes (Some d) = taken_report (taken_by vouched d sr
 
 -- ---- AN EMISSION into a buffer of any length, within the caller's window, the congestion window, and what waits
 abbrev pub sent_within : ℕ → ℕ → Driven → Option Sent
-sent_within now window d = sent_by_emit machine insight agreed any_control blocks d.connection now window
+sent_within now window d = sent_by_emit any_control d.connection now window
 
 abbrev pub no_segment : CConnectionSegment
 no_segment = record { to = record { byte = nowhere }; length = 0; position = 0; count = 0 }
@@ -200,7 +202,7 @@ sent_number now window room d =
 abbrev pub written_within : ℕ → ℕ → List ℕ → Option Driven → List ℕ
 written_within now window out None = out
 written_within now window out (Some d) =
-    if nat_lt (length out) EMIT_ROOM then out else written_by_emit machine insight agreed any_control blocks d.connection now window out
+    if nat_lt (length out) EMIT_ROOM then out else written_by_emit any_control d.connection now window out
 
 abbrev pub segment_reported : ℕ → ℕ → ℕ → Option Driven → CConnectionSegment
 segment_reported now window room None = no_segment
@@ -209,4 +211,4 @@ segment_reported now window room (Some d) =
 
 abbrev pub emitted_within : ℕ → ℕ → ℕ → Driven → Driven
 emitted_within now window room d =
-    if nat_lt room EMIT_ROOM then d else record { connection = after_emit machine insight agreed any_control blocks d.connection now window }
+    if nat_lt room EMIT_ROOM then d else record { connection = after_emit any_control d.connection now window }

@@ -2,16 +2,11 @@
 use Rattle.std.specs.Prelude.{◌≡◌, ℕ, List, length, Option, Some, None}
 use Rattle.tcp_congestion.specs.AnyWindow.{any_control}
 use Rattle.tcp_conn.specs.declared.emit.train.Train.{Train}
-use Rattle.tcp_conn.specs.TrainWithin.{train_within}
-use Rattle.tcp_connection.specs.Wired.{insight}
-use Rattle.tcp_end.specs.Wired.{machine}
-use Rattle.tcp_flow.specs.Wired.{numbers_of}
 use Rattle.tcp_host.specs.declared.guest.Guest.{Guest}
-use Rattle.tcp_repair.specs.Repairing.{after_train as after_train_of, written_by_train}
-use Rattle.tcp_repair.specs.Wired.{reports as blocks, start_of}
+use Rattle.tcp_steady.specs.Steady.{after_train as after_train_of, written_by_train}
 use Rattle.tcp_table.specs.declared.held.Id.{Id}
 use Rattle.tcp_c.specs.ConnectionTrains.{train_answer, train_found, train_sent}
-use Rattle.tcp_c.specs.Connections.{agreed, emission_told, no_segment, segment_told}
+use Rattle.tcp_c.specs.Connections.{emission_told, no_segment, segment_told}
 use Rattle.tcp_c.specs.Hosts.{Hosted, asked, guest_of, host_after_use}
 use Rattle.tcp_c.specs.Lodgers.{connection_in, driven_in, lodged, of_lodger}
 use Rattle.tcp_c.specs.Trains.{no_train}
@@ -40,12 +35,10 @@ abbrev pub lodger_train : Lodger → ℕ → ℕ → ℕ → ℕ → Option Trai
 lodger_train g now window most room = train_sent now window most room (driven_in g)
 
 abbrev pub lodger_written : Lodger → ℕ → ℕ → ℕ → List ℕ → List ℕ
-lodger_written g now window most out = written_by_train machine insight agreed any_control blocks (connection_in g) now window most out
+lodger_written g now window most out = written_by_train any_control (connection_in g) now window most out
 
 abbrev pub lodger_trained : Lodger → ℕ → ℕ → ℕ → ℕ → Lodger
-lodger_trained g now window most room =
-    lodged g (after_train_of machine insight agreed (λ w window most room. train_within w.end window most room) start_of numbers_of any_control blocks (connection_in g)
-    now window most room)
+lodger_trained g now window most room = lodged g (after_train_of any_control (connection_in g) now window most room)
 
 -- of the connection of a name, if it is there: what is reported, and what is written
 abbrev pub train_by : ℕ → ℕ → ℕ → ℕ → Option (Guest Lodger) → CTrain

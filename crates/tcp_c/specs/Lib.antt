@@ -21,3 +21,4 @@ pub mod ConnectionTrains
 pub mod Congestions
 pub mod Policies
 pub mod Recoveries
+pub mod KeepAlives

@@ -8,19 +8,15 @@ use Rattle.tcp_driver.specs.Times.{next_expiry}
 use Rattle.tcp_conn.specs.declared.arrive.report.Taken as reports
 use Rattle.tcp_conn.specs.State.{State}
 use Rattle.tcp_conn.specs.TimeWait.{TimeWaitRecord, has_time_wait, time_wait_of}
-use Rattle.tcp_end.specs.declared.wired.Wired.{Wired}
-use Rattle.tcp_end.specs.Wired.{machine}
-use Rattle.tcp_connection.specs.Wired.{insight}
-use Rattle.tcp_repair.specs.Repairing.{Repaired}
-use Rattle.tcp_repair.specs.Wired.{reports as blocks}
+use Rattle.tcp_steady.specs.declared.steady.Steady.{Steady}
+use Rattle.tcp_steady.specs.Hosted.{of_steady, use_of_steady}
 use Rattle.tcp_host.specs.Behaviour.{Behaviour, Usage}
-use Rattle.tcp_host.specs.Repairing.{of_repairing, use_of_repairing}
-use Rattle.tcp_c.specs.Connections.{agreed, end_of, taken_by}
+use Rattle.tcp_c.specs.Connections.{end_of, taken_by}
 use Rattle.tcp_c.specs.declared.connection.driven.Driven.{Driven}
 use Rattle.tcp_c.specs.declared.host.lodger.Lodger.{Lodger}
 
 abbrev pub Connects : Type 0
-Connects = Repaired (Wired Region) AnyWindow
+Connects = Steady AnyWindow Region Region
 
 -- THE CONNECTION, and the same place with another
 abbrev pub driven_in : Lodger → Driven
@@ -37,10 +33,10 @@ lodger_end g = end_of (driven_in g)
 
 -- WHAT A HOST ASKS OF IT
 abbrev pub of_connection : Behaviour Connects
-of_connection = of_repairing machine insight agreed any_control blocks
+of_connection = of_steady any_control
 
 abbrev pub use_of_connection : Usage Connects
-use_of_connection = use_of_repairing machine insight
+use_of_connection = use_of_steady
 
 abbrev pub of_lodger : Behaviour Lodger
 of_lodger = record {
@@ -74,4 +70,4 @@ abbrev pub lodger_time_wait : Lodger → Option TimeWaitRecord
 lodger_time_wait g = if has_time_wait (lodger_end g) then Some (time_wait_of (lodger_end g)) else None
 
 abbrev pub lodger_until : Lodger → Option ℕ
-lodger_until g = next_expiry (driven_in g).connection.connecting.flowing.driving.times
+lodger_until g = next_expiry (driven_in g).connection.repairing.connecting.flowing.driving.times

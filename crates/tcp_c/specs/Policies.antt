@@ -4,8 +4,7 @@ use Rattle.tcp_connection.specs.declared.policy.Policy.{Policy}
 use Rattle.tcp_end.specs.Wired.{machine}
 use Rattle.tcp_connection.specs.Using.{with_policy}
 use Rattle.tcp_connection.specs.Wired.{insight}
-use Rattle.tcp_repair.specs.Repairing.{after_own}
-use Rattle.tcp_c.specs.Connections.{agreed, limit_of}
+use Rattle.tcp_c.specs.Connections.{agreed, limit_of, with_own}
 use Rattle.tcp_c.specs.declared.records.CPolicy.{CPolicy}
 use Rattle.tcp_c.specs.declared.connection.driven.Driven.{Driven}
 
@@ -19,5 +18,4 @@ policy_of c = record {
 }
 
 abbrev pub with_policy_of : CPolicy → Driven → Driven
-with_policy_of c d =
-    record { connection = after_own d.connection (with_policy machine insight agreed d.connection.connecting (policy_of c)) }
+with_policy_of c d = with_own d (with_policy machine insight agreed d.connection.repairing.connecting (policy_of c))

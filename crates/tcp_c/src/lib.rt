@@ -101,6 +101,11 @@
 //!     uint32_t nagle;
 //! } tcp_c_policy;
 //!
+//! typedef struct {
+//!     uint64_t idle, interval;
+//!     uint32_t most;
+//! } tcp_c_keep_alive;
+//!
 //! typedef struct { uint64_t mark; void *at; } tcp_c_host;
 //! typedef struct { uint64_t number; size_t slot; } tcp_c_host_id;
 //! typedef struct { tcp_c_host_id id; uint32_t place; } tcp_c_host_arrived;
@@ -183,6 +188,8 @@
 //! uint32_t tcp_c_connection_set_congestion(tcp_c_connection *handle, uint32_t congestion);
 //! uint32_t tcp_c_connection_congestion(tcp_c_connection *handle, tcp_c_congestion *congestion);
 //! uint32_t tcp_c_connection_set_policy(tcp_c_connection *handle, const tcp_c_policy *policy);
+//! uint32_t tcp_c_connection_set_keep_alive(tcp_c_connection *handle, const tcp_c_keep_alive *rules, uint64_t now);
+//! uint32_t tcp_c_connection_set_pacing(tcp_c_connection *handle, uint32_t is_paced);
 //! uint32_t tcp_c_connection_set_recovery(tcp_c_connection *handle, tcp_c_block block, uint64_t now);
 //!
 //! uint32_t tcp_c_host_new(tcp_c_host *handle, tcp_c_block block, uint64_t time_wait, uint64_t stray_interval);
@@ -213,6 +220,8 @@
 //! uint32_t tcp_c_host_status(tcp_c_host *handle, const tcp_c_host_id *id, tcp_c_status_record *status);
 //! uint32_t tcp_c_host_peer(tcp_c_host *handle, const tcp_c_host_id *id, tcp_c_addr *addr, uint16_t *port);
 //! uint32_t tcp_c_host_set_policy(tcp_c_host *handle, const tcp_c_host_id *id, const tcp_c_policy *policy);
+//! uint32_t tcp_c_host_set_keep_alive(tcp_c_host *handle, uint64_t now, const tcp_c_host_id *id, const tcp_c_keep_alive *rules);
+//! uint32_t tcp_c_host_set_pacing(tcp_c_host *handle, const tcp_c_host_id *id, uint32_t is_paced);
 //! uint32_t tcp_c_host_set_user_timeout(tcp_c_host *handle, const tcp_c_host_id *id, uint64_t limit);
 //! uint32_t tcp_c_host_resend_first(tcp_c_host *handle, uint64_t now, const tcp_c_host_id *id);
 //! uint32_t tcp_c_host_resend(tcp_c_host *handle, uint64_t now, const tcp_c_host_id *id, uint64_t from, uint64_t to);
@@ -296,6 +305,8 @@ pub use connection::driven::Driven;
 pub use connection::driven_handle::DrivenHandle;
 pub use connection::driven_handle::MARK_OF_CONNECTION;
 pub use connection::driven_held::DrivenHeld;
+pub use connection::keep_alive::tcp_c_connection_set_keep_alive;
+pub use connection::keep_alive::tcp_c_connection_set_pacing;
 pub use connection::making::tcp_c_connection_connect;
 pub use connection::making::tcp_c_connection_free;
 pub use connection::making::tcp_c_connection_listen;
@@ -331,6 +342,8 @@ pub use held::Held;
 pub use host::choices::Choice;
 pub use host::choices::tcp_c_host_resend;
 pub use host::choices::tcp_c_host_resend_first;
+pub use host::choices::tcp_c_host_set_keep_alive;
+pub use host::choices::tcp_c_host_set_pacing;
 pub use host::choices::tcp_c_host_set_policy;
 pub use host::choices::tcp_c_host_set_user_timeout;
 pub use host::emitting::tcp_c_host_emit_by_id;
@@ -392,6 +405,7 @@ pub use records::CHostId;
 pub use records::CHostSent;
 pub use records::CHostTold;
 pub use records::CIntake;
+pub use records::CKeepAlive;
 pub use records::CLent;
 pub use records::CParts;
 pub use records::CPolicy;

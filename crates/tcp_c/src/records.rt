@@ -303,6 +303,18 @@ pub struct CPolicy {
     pub nagle: u32,
 }
 
+/// When a silent peer is asked whether it is there (RFC 9293, 3.8.4). Times are in microseconds; none counts as shorter than 1 s.
+#[repr(C)]
+#[derive(Clone, Copy)]
+pub struct CKeepAlive {
+    /// It is asked where nothing was heard of it for so long: 2 hours or more, unless a user chooses less. 0: it is never asked.
+    pub idle: u64,
+    /// It is asked again after each so long: 75 s by custom.
+    pub interval: u64,
+    /// With so many unanswered it is given up, an interval after the last: 9 by custom. Less than 2 counts as 2: one may be lost.
+    pub most: u32,
+}
+
 /// A segment that a connection wrote.
 #[repr(C)]
 #[derive(Clone, Copy)]

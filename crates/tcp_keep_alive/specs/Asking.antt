@@ -2,6 +2,7 @@
 -- old to a peer that has acknowledged all, and answered.
 use Rattle.std.specs.Prelude.{ℕ, ◌-◌, Bool, true, false, ◌&&◌, ◌==◌, nat_lt, if◌then◌else◌, List, [], length, ◌++◌, drop, Option, Some, None}
 use Rattle.tcp_wire.specs.Flags.{ack}
+use Rattle.tcp_wire.specs.Partial.{with_partial_sum}
 use Rattle.tcp_wire.specs.Position.{number}
 use Rattle.tcp_wire.specs.Wire.{Content, encoded_bytes, header_len}
 use Rattle.tcp_reasm.specs.Reassembly.{window}
@@ -56,6 +57,10 @@ keep_alive_bytes s = encoded_bytes s.config.addr.0 s.peer.addr.0 (keep_alive_of 
 -- it is due where the peer may be asked
 abbrev pub keep_alive_due : State → Option (List ℕ)
 keep_alive_due s = if may_ask s then Some (keep_alive_bytes s) else None
+
+-- FOR A DEVICE THAT SUMS IT has the ones' complement sum of the pseudo-header in the checksum field (RFC 9293, 3.1; RFC 1071, 2)
+abbrev pub partial_due : State → Option (List ℕ)
+partial_due s = if may_ask s then Some (with_partial_sum s.config.addr.0 s.peer.addr.0 (keep_alive_bytes s)) else None
 
 -- what a buffer contains once it is written: the segment, and after it the bytes that were there
 abbrev pub buffer_after : Option (List ℕ) → List ℕ → List ℕ

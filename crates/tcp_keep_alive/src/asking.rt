@@ -3,12 +3,12 @@ ghost use Rattle.std.specs.Prelude.{◌≡◌, ◌≤◌, ◌/◌, ◌^◌, [], 
 ghost use Rattle.tcp_wire.specs.View.{content_of};
 ghost use Rattle.tcp_wire.specs.Wire.{IsValid};
 ghost use Rattle.tcp_conn.specs.Endpoint.{AlwaysHolds};
-ghost use Rattle.tcp_keep_alive.specs.Asking.{buffer_after, keep_alive_due, keep_alive_from, may_ask, window_field_of};
+ghost use Rattle.tcp_keep_alive.specs.Asking.{buffer_after, keep_alive_due, keep_alive_from, may_ask, partial_due, window_field_of};
 
 use std::alloc::Allocator;
 use tcp_conn::laws::what_always_holds;
 use tcp_conn::{Endpoint, Peer, Phase};
-use tcp_wire::{Flags, Header, write_around};
+use tcp_wire::{Flags, Header, write_around, write_around_partial};
 
 /// The length of a keep-alive in bytes: it has neither options nor text.
 pub const KEEP_ALIVE_LEN: usize = 20;
@@ -83,4 +83,19 @@ pub fn write_keep_alive<A: Allocator>(end: &Endpoint<A>, out: &mut [u8]) -> Opti
     }
     let header = header(end, peer, agreed.own_shift);
     Some(write_around(&header, &[], 0, 0, end.config().addr, peer.addr, out))
+}
+
+/// Writes it as [`write_keep_alive`] does for a device that computes the checksum: the field has the ones' complement sum of the
+/// pseudo-header alone (RFC 9293, 3.1; RFC 1071, 2).
+#[must_use]
+pub fn write_keep_alive_partial<A: Allocator>(end: &Endpoint<A>, out: &mut [u8]) -> Option<usize>
+    requires { KEEP_ALIVE_LEN ≤ length out.old }
+    ensures len { result ≡ option_map (λ _. KEEP_ALIVE_LEN) (partial_due end.now) }
+    ensures bytes { out.new ≡ buffer_after (partial_due end.now) out.old }
+{
+    let (Some(peer), Some(agreed), true) = (end.peer(), end.negotiated(), may_ask(end)) else {
+        return None;
+    };
+    let header = header(end, peer, agreed.own_shift);
+    Some(write_around_partial(&header, &[], 0, 0, end.config().addr, peer.addr, out))
 }

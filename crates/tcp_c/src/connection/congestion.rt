@@ -40,7 +40,7 @@ fn congestion_number(window: &AnyWindow) -> u32
 pub(crate) fn has_sent(driven: &Driven) -> bool
     ensures { result ≡ has_sent (end_of driven.now) }
 {
-    driven.connection.flow().driver().core().end.snd_nxt() > 1
+    driven.connection.end().snd_nxt() > 1
 }
 
 /// Chooses the congestion window: 0 none, 1 that of RFC 5681, 2 CUBIC's (RFC 9438). It begins as the standard has it, with the
@@ -62,7 +62,7 @@ pub extern "C" fn tcp_c_connection_set_congestion(handle: &mut DrivenHandle, con
         handle.put(driven);
         return NO_RULE;
     }
-    driven.connection.set_window(window);
+    driven.connection.repairing.set_window(window);
     handle.put(driven);
     DONE
 }
@@ -107,7 +107,7 @@ pub extern "C" fn tcp_c_connection_congestion(
         *congestion = no_congestion();
         return NO_END;
     };
-    *congestion = reported(driven.connection.flow().window());
+    *congestion = reported(driven.connection.repairing.flow().window());
     handle.put(driven);
     DONE
 }

@@ -31,7 +31,7 @@ pub extern "C" fn tcp_c_connection_set_policy(handle: &mut DrivenHandle, policy:
     let Some(mut driven) = handle.take() else {
         return NO_END;
     };
-    driven.connection.set_policy(policy_of(policy));
+    driven.connection.repairing.set_policy(policy_of(policy));
     handle.put(driven);
     DONE
 }

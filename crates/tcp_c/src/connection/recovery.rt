@@ -39,7 +39,7 @@ pub extern "C" fn tcp_c_connection_set_recovery(
     let Some(mut driven) = handle.take() else {
         return NO_END;
     };
-    if driven.connection.has_recovery() {
+    if driven.connection.repairing.has_recovery() {
         handle.put(driven);
         return IN_USE;
     }
@@ -51,7 +51,7 @@ pub extern "C" fn tcp_c_connection_set_recovery(
         handle.put(driven);
         return u32::from(ConfigError::NoMemory.number());
     };
-    driven.connection.set_recovery(recovery, now);
+    driven.connection.repairing.set_recovery(recovery, now);
     handle.put(driven);
     DONE
 }

@@ -195,7 +195,7 @@ pub extern "C" fn tcp_c_connection_resend_first(handle: &mut DrivenHandle, now: 
     let Some(mut driven) = handle.take() else {
         return NO_END;
     };
-    let again = driven.connection.resend_first(now);
+    let again = driven.connection.repairing.resend_first(now);
     handle.put(driven);
     if again { DONE } else { NO_RULE }
 }
@@ -216,7 +216,7 @@ pub extern "C" fn tcp_c_connection_resend(
     let Some(mut driven) = handle.take() else {
         return NO_END;
     };
-    let again = driven.connection.resend(now, from, to);
+    let again = driven.connection.repairing.resend(now, from, to);
     handle.put(driven);
     if again { DONE } else { NO_RULE }
 }

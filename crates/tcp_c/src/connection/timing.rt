@@ -1,13 +1,10 @@
 //! When a timer expires, and what then happens (RFC 9293, 3.10.8).
 ghost use Rattle.std.specs.Prelude.{◌≡◌, option_map};
-ghost use Rattle.tcp_driver.specs.Driver.{at};
-ghost use Rattle.tcp_driver.specs.Times.{expiry};
+ghost use Rattle.tcp_congestion.specs.AnyWindow.{any_control};
 ghost use Rattle.tcp_connection.specs.Using.{with_user_limit};
-ghost use Rattle.tcp_end.specs.Wired.{machine};
-ghost use Rattle.tcp_repair.specs.Repairing.{after_own, next_call};
-ghost use Rattle.tcp_repair.specs.Wired.{reports};
+ghost use Rattle.tcp_steady.specs.Steady.{expired, next_call};
 ghost use Rattle.tcp_c.specs.Answers.{done, due_number, answer_of, number_written};
-ghost use Rattle.tcp_c.specs.Connections.{agreed, limit_of, time_number, timed_out, timer_number, timer_told};
+ghost use Rattle.tcp_c.specs.Connections.{limit_of, time_number, timed_out, timer_number, timer_told, with_own};
 
 use crate::answers::{DONE, NO_END, NOTHING_DUE};
 use crate::connection::driven_handle::DrivenHandle;
@@ -29,7 +26,7 @@ pub(crate) fn time_number(time: Option<u64>) -> u64
 #[unsafe(no_mangle)]
 pub extern "C" fn tcp_c_connection_poll_at(handle: &mut DrivenHandle, at: &mut u64) -> u32
     ensures answer { result ≡ answer_of (λ _. done) handle.old.held.end }
-    ensures at { at.new ≡ number_written (λ d. time_number (next_call machine agreed reports d.connection)) handle.old.held.end }
+    ensures at { at.new ≡ number_written (λ d. time_number (next_call d.connection)) handle.old.held.end }
     ensures state { handle.new.held.end ≡ handle.old.held.end }
 {
     *at = 0;
@@ -62,8 +59,8 @@ pub extern "C" fn tcp_c_connection_timeout(
     now: u64,
     timer: &mut u32,
 ) -> u32
-    ensures answer { result ≡ answer_of (λ d. due_number (expiry d.connection.connecting.flowing.driving.times (at d.connection.connecting.flowing.driving now))) handle.old.held.end }
-    ensures timer { timer.new ≡ number_written (λ d. timer_told (expiry d.connection.connecting.flowing.driving.times (at d.connection.connecting.flowing.driving now))) handle.old.held.end }
+    ensures answer { result ≡ answer_of (λ d. due_number (expired any_control d.connection now)) handle.old.held.end }
+    ensures timer { timer.new ≡ number_written (λ d. timer_told (expired any_control d.connection now)) handle.old.held.end }
     ensures state { handle.new.held.end ≡ option_map (timed_out now) handle.old.held.end }
 {
     *timer = 0;
@@ -88,9 +85,9 @@ pub extern "C" fn tcp_c_connection_tick(
     timer: &mut u32,
     next: &mut u64,
 ) -> u32
-    ensures answer { result ≡ answer_of (λ d. due_number (expiry d.connection.connecting.flowing.driving.times (at d.connection.connecting.flowing.driving now))) handle.old.held.end }
-    ensures timer { timer.new ≡ number_written (λ d. timer_told (expiry d.connection.connecting.flowing.driving.times (at d.connection.connecting.flowing.driving now))) handle.old.held.end }
-    ensures next { next.new ≡ number_written (λ d. time_number (next_call machine agreed reports (timed_out now d).connection)) handle.old.held.end }
+    ensures answer { result ≡ answer_of (λ d. due_number (expired any_control d.connection now)) handle.old.held.end }
+    ensures timer { timer.new ≡ number_written (λ d. timer_told (expired any_control d.connection now)) handle.old.held.end }
+    ensures next { next.new ≡ number_written (λ d. time_number (next_call (timed_out now d).connection)) handle.old.held.end }
     ensures state { handle.new.held.end ≡ option_map (timed_out now) handle.old.held.end }
 {
     *timer = 0;
@@ -113,12 +110,15 @@ pub extern "C" fn tcp_c_connection_tick(
 #[unsafe(no_mangle)]
 pub extern "C" fn tcp_c_connection_set_user_timeout(handle: &mut DrivenHandle, limit: u64) -> u32
     ensures answer { result ≡ answer_of (λ _. done) handle.old.held.end }
-    ensures state { handle.new.held.end ≡ option_map (λ d. record { connection = after_own d.connection (with_user_limit d.connection.connecting (limit_of limit)) }) handle.old.held.end }
+    ensures state { handle.new.held.end ≡ option_map (λ d. with_own d (with_user_limit d.connection.repairing.connecting (limit_of limit))) handle.old.held.end }
 {
     let Some(mut driven) = handle.take() else {
         return NO_END;
     };
-    driven.connection.set_user_timeout(limit_of(limit));
+    driven
+        .connection
+        .repairing
+        .set_user_timeout(limit_of(limit));
     handle.put(driven);
     DONE
 }

@@ -32,7 +32,7 @@ pub extern "C" fn tcp_c_connection_send(
     let Some(mut driven) = handle.take() else {
         return NO_END;
     };
-    let answer = driven.connection.send(now, text);
+    let answer = driven.connection.repairing.send(now, text);
     handle.put(driven);
     *taken = taken_count(&answer);
     call_number(answer)
@@ -55,7 +55,7 @@ pub extern "C" fn tcp_c_connection_receive(
     let Some(mut driven) = handle.take() else {
         return NO_END;
     };
-    let answer = driven.connection.receive(now, out);
+    let answer = driven.connection.repairing.receive(now, out);
     handle.put(driven);
     *count = received_count(&answer);
     received_number(answer)
@@ -76,7 +76,7 @@ pub extern "C" fn tcp_c_connection_peek(handle: &mut DrivenHandle, lent: &mut CL
         *lent = nothing_lent();
         return NO_END;
     };
-    let (answer, found) = lent_of(&driven.connection.flow().driver().core().end);
+    let (answer, found) = lent_of(driven.connection.end());
     handle.put(driven);
     *lent = found;
     answer
@@ -98,7 +98,7 @@ pub extern "C" fn tcp_c_connection_consume(
     let Some(mut driven) = handle.take() else {
         return NO_END;
     };
-    let answer = driven.connection.consume(now, count);
+    let answer = driven.connection.repairing.consume(now, count);
     handle.put(driven);
     *taken = taken_count(&answer);
     call_number(answer)
@@ -113,7 +113,7 @@ pub extern "C" fn tcp_c_connection_acknowledge(handle: &mut DrivenHandle, now: u
     let Some(mut driven) = handle.take() else {
         return NO_END;
     };
-    driven.connection.acknowledge(now);
+    driven.connection.repairing.acknowledge(now);
     handle.put(driven);
     DONE
 }
@@ -127,7 +127,7 @@ pub extern "C" fn tcp_c_connection_close(handle: &mut DrivenHandle, now: u64) ->
     let Some(mut driven) = handle.take() else {
         return NO_END;
     };
-    let answer = driven.connection.close(now);
+    let answer = driven.connection.repairing.close(now);
     handle.put(driven);
     call_number(answer)
 }
@@ -141,7 +141,7 @@ pub extern "C" fn tcp_c_connection_abort(handle: &mut DrivenHandle, now: u64) ->
     let Some(mut driven) = handle.take() else {
         return NO_END;
     };
-    let answer = driven.connection.abort(now);
+    let answer = driven.connection.repairing.abort(now);
     handle.put(driven);
     call_number(answer)
 }
@@ -157,7 +157,7 @@ pub extern "C" fn tcp_c_connection_status(handle: &mut DrivenHandle, status: &mu
         *status = no_status();
         return NO_END;
     };
-    *status = status_of(&driven.connection.flow().driver().core().end);
+    *status = status_of(driven.connection.end());
     handle.put(driven);
     DONE
 }
@@ -179,7 +179,7 @@ pub extern "C" fn tcp_c_connection_peer(
         *port = 0;
         return NO_END;
     };
-    let peer = driven.connection.flow().driver().core().end.peer();
+    let peer = driven.connection.end().peer();
     handle.put(driven);
     report_peer(peer, addr, port)
 }

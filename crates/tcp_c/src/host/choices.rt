@@ -4,20 +4,23 @@ ghost use Rattle.tcp_c.specs.Answers.{answer_of, done, no_rule};
 ghost use Rattle.tcp_c.specs.Choices.{choice_number, lodger_after};
 ghost use Rattle.tcp_c.specs.Connections.{limit_of};
 ghost use Rattle.tcp_c.specs.Hosts.{after_use, asked_of, guest_of, id_of};
+ghost use Rattle.tcp_c.specs.KeepAlives.{is_chosen, rules_of_keep_alive};
 ghost use Rattle.tcp_c.specs.Lodgers.{lodger_end};
 ghost use Rattle.tcp_c.specs.Pacing.{resend_number, stretch_number};
 ghost use Rattle.tcp_c.specs.Policies.{policy_of};
 
 use crate::answers::{DONE, GONE, NO_END, NO_RULE};
+use crate::connection::keep_alive::rules_of_keep_alive;
 use crate::connection::policy::policy_of;
 use crate::connection::rules::limit_of;
 use crate::host::host_handle::HostHandle;
 use crate::host::ids::id_of;
 use crate::host::lodger::Lodger;
 use crate::host::lodging::Lodging;
-use crate::records::{CHostId, CPolicy};
+use crate::records::{CHostId, CKeepAlive, CPolicy};
 use tcp_connection::Policy;
 use tcp_host::Tuned;
+use tcp_keep_alive::KeepAliveRules;
 use tcp_table::Id;
 
 /// What is chosen of a connection.
@@ -27,6 +30,10 @@ pub enum Choice {
     Policy(Policy),
     /// How long what was sent may be without an answer.
     UserTimeout(Option<u64>),
+    /// When the silent peer is asked whether it is there.
+    KeepAlive(Option<KeepAliveRules>),
+    /// Whether new text is paced.
+    Pacing(bool),
     /// The first segment in flight goes out again.
     ResendFirst,
     /// What is in flight from one position on and before another goes out again.
@@ -53,15 +60,23 @@ impl Tuned for Lodger {
         let connection = &mut self.driven.connection;
         match choice {
             Choice::Policy(policy) => {
-                connection.set_policy(*policy);
+                connection.repairing.set_policy(*policy);
                 DONE
             }
             Choice::UserTimeout(limit) => {
-                connection.set_user_timeout(*limit);
+                connection.repairing.set_user_timeout(*limit);
                 DONE
             }
-            Choice::ResendFirst => resend_told(connection.resend_first(now)),
-            Choice::Resend(from, to) => resend_told(connection.resend(now, *from, *to)),
+            Choice::KeepAlive(rules) => {
+                connection.set_keep_alive(*rules, now);
+                DONE
+            }
+            Choice::Pacing(is_on) => {
+                connection.set_pacing(*is_on);
+                DONE
+            }
+            Choice::ResendFirst => resend_told(connection.repairing.resend_first(now)),
+            Choice::Resend(from, to) => resend_told(connection.repairing.resend(now, *from, *to)),
         }
     }
 }
@@ -118,6 +133,36 @@ pub extern "C" fn tcp_c_host_set_user_timeout(
     ensures state { handle.new.held.host ≡ option_map (after_use (id_of id.now) (λ g. lodger_after g 0 (Choice.UserTimeout (limit_of limit)))) handle.old.held.host }
 {
     choose(handle, 0, id_of(id), &Choice::UserTimeout(limit_of(limit)))
+}
+
+/// Asks the peer whether it is there where nothing is heard of it, as of
+/// [`tcp_c_connection_set_keep_alive`](crate::tcp_c_connection_set_keep_alive) (RFC 9293, 3.8.4). 61 where the end is gone.
+#[unsafe(no_mangle)]
+pub extern "C" fn tcp_c_host_set_keep_alive(
+    handle: &mut HostHandle,
+    now: u64,
+    id: &CHostId,
+    rules: &CKeepAlive,
+) -> u32
+    ensures answer { result ≡ answer_of (asked_of (id_of id.now) (λ g. done)) handle.old.held.host }
+    ensures state { handle.new.held.host ≡ option_map (after_use (id_of id.now) (λ g. lodger_after g now (Choice.KeepAlive (rules_of_keep_alive rules.now)))) handle.old.held.host }
+{
+    choose(
+        handle,
+        now,
+        id_of(id),
+        &Choice::KeepAlive(rules_of_keep_alive(rules)),
+    )
+}
+
+/// Lets new text out spread over a round trip, as of [`tcp_c_connection_set_pacing`](crate::tcp_c_connection_set_pacing) (RFC 9002,
+/// 7.7). 61 where the end is gone.
+#[unsafe(no_mangle)]
+pub extern "C" fn tcp_c_host_set_pacing(handle: &mut HostHandle, id: &CHostId, is_paced: u32) -> u32
+    ensures answer { result ≡ answer_of (asked_of (id_of id.now) (λ g. done)) handle.old.held.host }
+    ensures state { handle.new.held.host ≡ option_map (after_use (id_of id.now) (λ g. lodger_after g 0 (Choice.Pacing (is_chosen is_paced)))) handle.old.held.host }
+{
+    choose(handle, 0, id_of(id), &Choice::Pacing(is_paced != 0))
 }
 
 /// Of what is in flight the first segment goes out again, as of

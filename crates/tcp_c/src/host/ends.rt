@@ -21,7 +21,7 @@ use tcp_wire::Addr;
 fn pair_in(driven: &Driven) -> Option<Pair>
     ensures { result ≡ pair_in driven.now }
 {
-    let end = &driven.connection.flow().driver().core().end;
+    let end = driven.connection.end();
     let config = end.config();
     let peer = end.peer()?;
     let (Addr(own), Addr(other)) = (config.addr, peer.addr);

@@ -149,7 +149,7 @@ impl Lodging {
         match place {
             Place::End(slot) => match self.host.end(slot) {
                 Some(lodger) => {
-                    let end = &lodger.driven.connection.flow().driver().core().end;
+                    let end = lodger.driven.connection.end();
                     let Addr(byte) = end.config().addr;
                     byte
                 }

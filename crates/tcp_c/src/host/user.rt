@@ -49,7 +49,7 @@ impl Lodging {
         ensures ends { result.1.ends ≡ number_by (λ g. peek_ends (lodger_end g)) (guest_of self.now.host id) }
     {
         match self.lodger(id) {
-            Some(lodger) => lent_of(&lodger.driven.connection.flow().driver().core().end),
+            Some(lodger) => lent_of(lodger.driven.connection.end()),
             None => (GONE, nothing_lent()),
         }
     }
@@ -95,7 +95,7 @@ impl Lodging {
         ensures { result ≡ option_map (λ guest. status_of (Some (lodger_end guest.end))) (guest_of self.now.host id) }
     {
         let lodger = self.lodger(id)?;
-        Some(status_of(&lodger.driven.connection.flow().driver().core().end))
+        Some(status_of(lodger.driven.connection.end()))
     }
 
     /// The peer of an end, if it is known.
@@ -103,7 +103,7 @@ impl Lodging {
         ensures { result ≡ option_map (λ guest. peer_of (lodger_end guest.end)) (guest_of self.now.host id) }
     {
         let lodger = self.lodger(id)?;
-        Some(lodger.driven.connection.flow().driver().core().end.peer())
+        Some(lodger.driven.connection.end().peer())
     }
 }
 

@@ -1,0 +1,4 @@
+mod Calling
+pub mod Paced
+pub mod Resting
+mod Silent

@@ -1,0 +1,3 @@
+pub mod Steady
+pub mod Hosted
+pub mod Calls
