@@ -65,7 +65,7 @@ def linked(name, objects, *words):
 
 def ours():
     """Our stack: a host, of the library of release/, which has hosts where that is machine code."""
-    companions = [TOP / f"c/companions/{name}.c" for name in ("ip", "keep_alive", "secret")]
+    companions = [TOP / f"c/companions/{name}.c" for name in ("ip", "secret")]
     objects = compiled("core", [TOP / "release/tcpcore.c"]) + compiled("companions", companions, *around())
     return linked("ours", compiled("child", [HERE / "stacks/child.c", HERE / "stacks/ours.c"], *around()) + objects)
 

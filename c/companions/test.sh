@@ -11,7 +11,7 @@ library=$(realpath -m "${1:-../../crates/tcp_c/out/libtcp_c.a}")
 warnings="-std=c11 -g -Wall -Wextra -Wpedantic -Werror"
 stricter="-Wcast-qual -Wconversion -Wshadow -Wstrict-prototypes"
 sanitizers="-O1 -fsanitize=address,undefined -fno-sanitize-recover=all"
-tests="ip datagrams faults fragments ip6 path trains secret keep_alive"
+tests="ip datagrams faults fragments ip6 path trains secret"
 passed=0
 
 pass() { passed=$((passed + 1)); }
@@ -62,7 +62,7 @@ sanitized() { objects "$1" "$1" $sanitizers && build "$1" tests/ip.c ip.sanitize
 
 check_with() {
     local compiler=$1 package=$2 name level
-    for name in keep_alive ip ethernet icmp udp faults fragments ip6 icmp6 path trains secret; do
+    for name in ip ethernet icmp udp faults fragments ip6 icmp6 path trains secret; do
         check_file "$compiler" "$name"
     done
     # What it needs is the system's; ../../apps/usernet runs it.

@@ -25,7 +25,7 @@ if [[ ${1-} == --module ]]; then
     shift 2
 else
     # tcp_c, and the crates below it.
-    lines='^(region_heap|tcp_numbers|tcp_wire|tcp_sendq|tcp_reasm|tcp_halves|tcp_conn|tcp_timing|tcp_congestion|tcp_driver|tcp_end|tcp_flow|tcp_connection|tcp_recovery|tcp_repair|tcp_table|tcp_host|region_pool|tcp_c)( staticlib)?:'
+    lines='^(region_heap|tcp_numbers|tcp_wire|tcp_sendq|tcp_reasm|tcp_halves|tcp_conn|tcp_keep_alive|tcp_timing|tcp_congestion|tcp_pacing|tcp_driver|tcp_end|tcp_flow|tcp_connection|tcp_recovery|tcp_repair|tcp_steady|tcp_table|tcp_host|region_pool|tcp_c)( staticlib)?:'
     mapfile -t folders < <(sed -nE "s/$lines.*/crates\/\1/p" "$top/crates.txt")
     # What an earlier build left, where it was stopped.
     rm -rf "$build"

@@ -3,13 +3,14 @@
 
 /* crates/tcp_c: the mark of a handle that holds a connection, and how many bytes of the block it takes from its address on. */
 #define MARK_OF_CONNECTION UINT64_C(0x764350526174746c)
-#define CONNECTION_SIZE 1120
+#define CONNECTION_SIZE 1200
 #define CONNECTION_MARK UINT32_C(0x70636f6e)
 
 static const u8 OF_CONNECTION_RULES[] = {8, 8, 8, 8, 8, 8, 8, 8, 8, 4, 4, 0};
 static const u8 OF_CONNECTION_SEGMENT[] = {8, 8, 8, 1, 1, 1, 1, 0};
 static const u8 OF_CONGESTION[] = {8, 8, 8, 4, 4, 0};
 static const u8 OF_POLICY[] = {8, 8, 8, 4, 0};
+static const u8 OF_KEEP_ALIVE[] = {8, 8, 4, 0};
 
 /* Where the memory of a connection's recovery lies: in the unit before the block that the module knows. `at` is NULL where it has none. */
 struct recovery {
@@ -295,6 +296,19 @@ static uint32_t tcp_c_connection_set_policy(struct handle *handle, const struct 
     WITH_CONNECTION(handle);
     carry_record(call.frame + AT_RECORD, policy, OF_POLICY);
     ANSWER_OF_CONNECTION(handle, w2c_tcp_c_connection_set_policy(M, AT_HANDLE, AT_RECORD));
+}
+
+static uint32_t tcp_c_connection_set_keep_alive(struct handle *handle, const struct tcpcore_keep_alive *rules, uint64_t now)
+{
+    WITH_CONNECTION(handle);
+    carry_record(call.frame + AT_RECORD, rules, OF_KEEP_ALIVE);
+    ANSWER_OF_CONNECTION(handle, w2c_tcp_c_connection_set_keep_alive(M, AT_HANDLE, AT_RECORD, now));
+}
+
+static uint32_t tcp_c_connection_set_pacing(struct handle *handle, uint32_t is_paced)
+{
+    WITH_CONNECTION(handle);
+    ANSWER_OF_CONNECTION(handle, w2c_tcp_c_connection_set_pacing(M, AT_HANDLE, is_paced));
 }
 
 static uint32_t tcp_c_connection_set_recovery(struct handle *handle, struct block block, uint64_t now)

@@ -18,7 +18,7 @@ native=$(realpath -m "${1:-../../crates/tcp_c/out/libtcp_c.a}")
 layer=$(realpath ../tcpcore)
 file=out/tcpcore_portable.c
 clean="-Wall -Wextra -Wpedantic -Wcast-qual -Wshadow -Wstrict-prototypes -Werror"
-tests="examples/two_ends examples/hello tests/misuse tests/misuse_numbers tests/misuse_time_wait tests/room tests/fields tests/answers tests/cautions tests/time_wait tests/old_names tests/reports tests/misuse_lending tests/lending tests/train tests/pacing tests/defaults tests/connection tests/policy tests/recovery tests/recovery_window tests/hostile tests/stack"
+tests="examples/two_ends examples/hello tests/misuse tests/misuse_numbers tests/misuse_time_wait tests/room tests/fields tests/answers tests/cautions tests/time_wait tests/old_names tests/reports tests/misuse_lending tests/lending tests/train tests/pacing tests/defaults tests/connection tests/policy tests/keep_alive tests/paced tests/recovery tests/recovery_window tests/hostile tests/stack"
 passed=0
 
 pass() { passed=$((passed + 1)); }

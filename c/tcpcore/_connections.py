@@ -8,12 +8,12 @@ from typing import Optional
 
 from tcpcore._ends import Held, config_struct
 from tcpcore._library import (
-    EMIT_FIRST, REFUSALS, Answer, ArriveReportStruct, CongestionStruct, ConnectionRulesStruct, ConnectionSegmentStruct, EndStruct, PolicyStruct,
-    Refused, TrainStruct, address, arrive_report_of, library, microseconds, number, octets, reach, train_of,
+    EMIT_FIRST, REFUSALS, Answer, ArriveReportStruct, CongestionStruct, ConnectionRulesStruct, ConnectionSegmentStruct, EndStruct,
+    KeepAliveStruct, PolicyStruct, Refused, TrainStruct, address, arrive_report_of, library, microseconds, number, octets, reach, train_of,
 )
 from tcpcore._records import (
-    EMIT_ROOM, NEVER, RECOVERY_MEMORY, TRAIN_ROOM, Address, ArriveReport, Buffer, Config, Congestion, CongestionWindow, Emission, Policy,
-    Rules, Timer, Train,
+    EMIT_ROOM, NEVER, RECOVERY_MEMORY, TRAIN_ROOM, Address, ArriveReport, Buffer, Config, Congestion, CongestionWindow, Emission, KeepAlive,
+    Policy, Rules, Timer, Train,
 )
 
 
@@ -60,7 +60,8 @@ class Connection(Held):
     no further (RFC 9438), `connection.set_recovery(now)` has losses found by time (RFC 8985), and `connection.set_policy(Policy())` has
     acknowledgements and small segments wait (RFC 9293, 3.7.4 and 3.8.6). A program with congestion control of its own sets `window`: `emit`
     holds back what ends more than so many numbers past SND.UNA, unless nothing before it is in flight. None, the default, holds nothing
-    back."""
+    back. A peer that vanished while nothing was under way is found where `connection.set_keep_alive(now, KeepAlive())` has it asked (RFC
+    9293, 3.8.4). `connection.set_pacing()` has new text go out spread over a round trip (RFC 9002, 7.7), for a program with a fine timer."""
 
     noun = "a connection"
     window: Optional[int] = None
@@ -98,7 +99,8 @@ class Connection(Held):
         return cls(now, config, None, rules, room)
 
     def poll_at(self) -> Optional[float]:
-        """When `timeout` has to be called, if nothing else happens before: None where no timer runs. It may have passed: then it is now."""
+        """When `timeout` has to be called, or what waits is to be emitted, if nothing else happens before: None where no timer runs and nothing
+        waits. It may have passed: then it is now."""
         self.ask("poll_at", self.at)
         return None if self.at.value == NEVER else self.at.value / 1e6
 
@@ -229,6 +231,25 @@ class Connection(Held):
         # The library uses it as long as the end: it is kept before the library has it, whatever interrupts this.
         memory = self.__dict__.setdefault("_recovery", ctypes.create_string_buffer(RECOVERY_MEMORY))
         self.ask("set_recovery", microseconds(now), memory, RECOVERY_MEMORY)
+
+    def set_keep_alive(self, now: float, rules: Optional[KeepAlive] = KeepAlive()) -> None:
+        """From `now` on the peer is asked by these rules where nothing is heard of it, in ESTABLISHED and CLOSE-WAIT, while all that was sent
+        is acknowledged and nothing waits to be sent; with None it isn't, as a connection begins. Silence counts from `now` on, and what
+        is passed over of what comes breaks none. `emit` writes the segment that asks, at the time of `poll_at`. A peer that doesn't
+        answer is given up: `timeout` returns Timer.USER, and the connection is aborted."""
+        # An idle time of 0 is the library's word for none.
+        told = KeepAliveStruct()
+        if rules is not None:
+            idle, interval = max(1, microseconds(rules.idle)), microseconds(rules.interval)
+            told = KeepAliveStruct(idle, interval, number("the number of keep-alives", rules.most, 32))
+        self.ask("set_keep_alive", microseconds(now), told)
+
+    def set_pacing(self, is_paced: bool = True) -> None:
+        """Has new text go out spread over a round trip, in portions of as many whole segments as go out in a millisecond, two at least, at
+        1.25, in slow start 2, congestion windows a round trip (RFC 9002, 7.7); or with False at once, as a connection begins. What is sent
+        again doesn't wait, and without a congestion window practically nothing does. Where text waits for its portion `poll_at` is when the
+        next one begins: emit then. A program that paces has to wait by a fine timer."""
+        self.ask("set_pacing", int(bool(is_paced)))
 
     def resend_first(self, now: float) -> bool:
         """Whether anything is in flight: then the first segment of it must be sent again at once, for a program that finds losses before the

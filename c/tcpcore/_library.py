@@ -201,6 +201,15 @@ class PolicyStruct(ctypes.Structure):
     ]
 
 
+class KeepAliveStruct(ctypes.Structure):
+    _fields_ = [
+        ("idle", ctypes.c_uint64),
+        ("interval", ctypes.c_uint64),
+        ("most", ctypes.c_uint32),
+        ("reserved", ctypes.c_uint32 * 3),
+    ]
+
+
 class PieceStruct(ctypes.Structure):
     _fields_ = [("at", ctypes.c_void_p), ("length", ctypes.c_size_t)]
 
@@ -303,6 +312,8 @@ CALLS = {
     "connection_congestion": [END, ctypes.POINTER(CongestionStruct)],
     "connection_set_policy": [END, ctypes.POINTER(PolicyStruct)],
     "connection_set_recovery": [END, TIME, ctypes.c_char_p, SIZE],
+    "connection_set_keep_alive": [END, TIME, ctypes.POINTER(KeepAliveStruct)],
+    "connection_set_pacing": [END, ctypes.c_uint32],
     "strerror": [ctypes.c_uint32],
     "version": [],
     "build": [],

@@ -65,8 +65,8 @@ class Ending(str, enum.Enum):
 
 
 class Timer(enum.IntEnum):
-    """The timers. Bit 1 << t of `timers()` is timer t's. USER is of a connection alone: the user timeout (RFC 9293, 3.8.3), or the limit of
-    FIN-WAIT-2."""
+    """The timers. Bit 1 << t of `timers()` is timer t's. USER is of a connection alone: the user timeout (RFC 9293, 3.8.3), the limit of
+    FIN-WAIT-2, or keep-alives that went unanswered (3.8.4)."""
 
     RETRANSMIT = 0
     REORDER = 1
@@ -231,6 +231,18 @@ class Policy(NamedTuple):
     override_timeout: Optional[float] = 0.5
     answer_interval: float = 0.5
     nagle: bool = True
+
+
+class KeepAlive(NamedTuple):
+    """When the silent peer of a connection is asked whether it is there, and when it is given up (RFC 9293, 3.8.4); times are seconds, and
+    none counts as less than one.
+
+    It is asked where nothing was heard of it for `idle`, two hours or more unless a user chooses less, and again behind each `interval`. With
+    `most` of these unanswered, two at least, it is given up, an interval behind the last. The defaults are usual values."""
+
+    idle: float = 7200.0
+    interval: float = 75.0
+    most: int = 9
 
 
 class Rules(NamedTuple):

@@ -169,6 +169,12 @@ FIELD(struct tcpcore_policy, nagle, 24, 4);
 /* The library writes nothing behind these. */
 FIELD(struct tcpcore_policy, reserved, 28, 36);
 _Static_assert(sizeof(struct tcpcore_policy) == 64, "the size of struct tcpcore_policy");
+FIELD(struct tcpcore_keep_alive, idle, 0, 8);
+FIELD(struct tcpcore_keep_alive, interval, 8, 8);
+FIELD(struct tcpcore_keep_alive, most, 16, 4);
+/* The library writes nothing behind these. */
+FIELD(struct tcpcore_keep_alive, reserved, 20, 12);
+_Static_assert(sizeof(struct tcpcore_keep_alive) == 32, "the size of struct tcpcore_keep_alive");
 FIELD(struct tcpcore_connection_segment, length, 0, 8);
 FIELD(struct tcpcore_connection_segment, position, 8, 8);
 FIELD(struct tcpcore_connection_segment, count, 16, 8);

@@ -70,6 +70,7 @@ STRUCTS = {
     "CConnectionRules": Struct("struct tcpcore_connection_rules", 128, bound=False),
     "CCongestion": Struct("struct tcpcore_congestion", 64, bound=False),
     "CPolicy": Struct("struct tcpcore_policy", 64, bound=False),
+    "CKeepAlive": Struct("struct tcpcore_keep_alive", 32, bound=False),
     "CConnectionSegment": Struct("struct tcpcore_connection_segment", 64, bound=False),
     "CHostId": Struct("struct tcpcore_host_id", bound=False),
     "CHostArrived": Struct("struct tcpcore_host_arrived", 64, bound=False),

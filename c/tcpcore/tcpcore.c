@@ -117,6 +117,8 @@ uint32_t tcp_c_connection_set_congestion(struct handle *, uint32_t);
 uint32_t tcp_c_connection_congestion(struct handle *, struct tcpcore_congestion *);
 uint32_t tcp_c_connection_set_policy(struct handle *, const struct tcpcore_policy *);
 uint32_t tcp_c_connection_set_recovery(struct handle *, struct block, uint64_t);
+uint32_t tcp_c_connection_set_keep_alive(struct handle *, const struct tcpcore_keep_alive *, uint64_t);
+uint32_t tcp_c_connection_set_pacing(struct handle *, uint32_t);
 
 STEP struct handle *handle(tcpcore_end *end) { return (struct handle *)end->opaque; }
 
@@ -1059,6 +1061,21 @@ uint32_t tcpcore_connection_set_recovery(tcpcore_connection *connection, uint64_
     return answer != TCPCORE_DONE ? answer : tcp_c_connection_set_recovery(handle_in(connection), units_of(block, length), now);
 }
 
+uint32_t tcpcore_connection_set_keep_alive(tcpcore_connection *connection, uint64_t now, const struct tcpcore_keep_alive *rules)
+{
+    uint32_t answer = rules ? connection_refusal(connection) : TCPCORE_NULL;
+    if (answer != TCPCORE_DONE)
+        return answer;
+    struct tcpcore_keep_alive here = *rules;
+    return tcp_c_connection_set_keep_alive(handle_in(connection), &here, now);
+}
+
+uint32_t tcpcore_connection_set_pacing(tcpcore_connection *connection, uint32_t is_paced)
+{
+    uint32_t answer = connection_refusal(connection);
+    return answer != TCPCORE_DONE ? answer : tcp_c_connection_set_pacing(handle_in(connection), is_paced);
+}
+
 /* ---- hosts */
 
 #ifdef TCPCORE_HAS_HOSTS
@@ -1097,6 +1114,8 @@ uint32_t tcp_c_host_status(struct handle *, const struct tcpcore_host_id *, stru
 uint32_t tcp_c_host_peer(struct handle *, const struct tcpcore_host_id *, tcpcore_addr *, uint16_t *);
 uint32_t tcp_c_host_set_policy(struct handle *, const struct tcpcore_host_id *, const struct tcpcore_policy *);
 uint32_t tcp_c_host_set_user_timeout(struct handle *, const struct tcpcore_host_id *, uint64_t);
+uint32_t tcp_c_host_set_keep_alive(struct handle *, uint64_t, const struct tcpcore_host_id *, const struct tcpcore_keep_alive *);
+uint32_t tcp_c_host_set_pacing(struct handle *, const struct tcpcore_host_id *, uint32_t);
 uint32_t tcp_c_host_resend_first(struct handle *, uint64_t, const struct tcpcore_host_id *);
 uint32_t tcp_c_host_resend(struct handle *, uint64_t, const struct tcpcore_host_id *, uint64_t, uint64_t);
 
@@ -1497,6 +1516,26 @@ uint32_t tcpcore_host_set_user_timeout(tcpcore_host *host, const struct tcpcore_
         return answer;
     struct tcpcore_host_id here = *id;
     return tcp_c_host_set_user_timeout(handle_of(host), &here, limit);
+}
+
+uint32_t tcpcore_host_set_keep_alive(tcpcore_host *host, uint64_t now, const struct tcpcore_host_id *id,
+                                     const struct tcpcore_keep_alive *rules)
+{
+    uint32_t answer = rules ? host_refusal_by(host, id) : TCPCORE_NULL;
+    if (answer != TCPCORE_DONE)
+        return answer;
+    struct tcpcore_host_id here = *id;
+    struct tcpcore_keep_alive chosen = *rules;
+    return tcp_c_host_set_keep_alive(handle_of(host), now, &here, &chosen);
+}
+
+uint32_t tcpcore_host_set_pacing(tcpcore_host *host, const struct tcpcore_host_id *id, uint32_t is_paced)
+{
+    uint32_t answer = host_refusal_by(host, id);
+    if (answer != TCPCORE_DONE)
+        return answer;
+    struct tcpcore_host_id here = *id;
+    return tcp_c_host_set_pacing(handle_of(host), &here, is_paced);
 }
 
 uint32_t tcpcore_host_resend_first(tcpcore_host *host, uint64_t now, const struct tcpcore_host_id *id)

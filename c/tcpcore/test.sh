@@ -20,7 +20,7 @@ warnings="-std=c11 -g -Wall -Wextra -Wpedantic -Wcast-qual -Wconversion -Wshadow
 sanitizers="-O1 -fsanitize=address,undefined -fno-sanitize-recover=all"
 # The header's calls that are the library's; four are the layer's alone.
 calls=$(grep -o '^[a-z].* \**tcpcore_[a-z_]*(' tcpcore.h | sed -n 's/.*tcpcore_\([a-z_]*\)($/\1/p' | grep -vxE 'strerror|version|build|new_at' | sort)
-tests="examples/two_ends examples/hello tests/misuse tests/misuse_numbers tests/misuse_time_wait tests/room tests/runs tests/fields tests/answers tests/cautions tests/time_wait tests/old_names tests/reports tests/misuse_lending tests/lending tests/train tests/pacing tests/placed tests/defaults tests/connection tests/connection_train tests/connection_guard tests/connection_link tests/congestion tests/policy tests/recovery tests/recovery_window tests/hostile tests/worlds tests/host tests/host_alone tests/host_room tests/host_world"
+tests="examples/two_ends examples/hello tests/misuse tests/misuse_numbers tests/misuse_time_wait tests/room tests/runs tests/fields tests/answers tests/cautions tests/time_wait tests/old_names tests/reports tests/misuse_lending tests/lending tests/train tests/pacing tests/placed tests/defaults tests/connection tests/connection_train tests/connection_guard tests/connection_link tests/congestion tests/policy tests/keep_alive tests/paced tests/recovery tests/recovery_window tests/hostile tests/worlds tests/host tests/host_alone tests/host_room tests/host_world tests/host_keep_alive tests/host_paced"
 passed=0
 
 pass() { passed=$((passed + 1)); }

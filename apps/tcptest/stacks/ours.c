@@ -1,13 +1,12 @@
 /*
  * Our stack (see child.h): a host, whose connections have CUBIC's window, losses found by time and a policy, as the examples of c/tcpcore
- * have them. What the library leaves to its caller is done here: initial numbers, an address that no peer has is refused, keep-alives, and
- * a user that leaves with bytes unread aborts (RFC 9293, 3.6.1).
+ * have them, and keep-alives where they are wished for. What the library leaves to its caller is done here: initial numbers, an address that
+ * no peer has is refused, and a user that leaves with bytes unread aborts (RFC 9293, 3.6.1).
  */
 #define _GNU_SOURCE
 #include "child.h"
 
 #include "ip.h"
-#include "keep_alive.h"
 #include "secret.h"
 #include "segment.h"
 
@@ -20,7 +19,7 @@
 #endif
 
 /* Of all listeners together so many connections have no handle yet; TIME-WAIT leaves so many records. */
-enum { SEND = 262144, RECEIVE = 131072, BACKLOG = 8, PLACES = HANDLES + LISTENERS * BACKLOG, RECORDS = 1024, WAITING = 1 << 18, KEEPS = 9 };
+enum { SEND = 262144, RECEIVE = 131072, BACKLOG = 8, PLACES = HANDLES + LISTENERS * BACKLOG, RECORDS = 1024, WAITING = 1 << 18 };
 
 /* The clock stands still between the tester's calls: no stray is the second one in an interval. */
 enum { MILLISECOND = 1000, STRAY_INTERVAL = 0 };
@@ -33,7 +32,6 @@ static struct ip_net OWN = {{{10, 9, 0, 1}}, 24};
 /* A connection, and what its user has of it. */
 static struct handle {
     struct tcpcore_host_id id;
-    struct keep_alive keep;
     void *block, *recovery;
     uint8_t *rest;   /* once it is out of the host, as `has_gone` says: what was unread, */
     size_t length;   /* so many bytes, */
@@ -138,11 +136,8 @@ static void emit(void)
         struct handle *handle = sent.place == TCPCORE_PLACE_END ? by_slot[sent.id.slot] : NULL;
         if (answer == TCPCORE_NOT_DUE && handle)
             settle(handle);
-        if (answer != TCPCORE_DONE)
-            continue;
-        if (handle)
-            keep_alive_made(&handle->keep, segment, (size_t)sent.length);
-        send_segment(segment, (size_t)sent.length, sent.to);
+        if (answer == TCPCORE_DONE)
+            send_segment(segment, (size_t)sent.length, sent.to);
     }
 }
 
@@ -193,17 +188,21 @@ static tcpcore_config config_of(uint16_t port, const struct wishes *wishes)
     return config;
 }
 
-static struct keep_alive_rules keep_of(const struct wishes *wishes)
+/* Where no times are wished for keep-alives have the library's; where none are wished for they are off. */
+static struct tcpcore_keep_alive keep_of(const struct wishes *wishes)
 {
-    return (struct keep_alive_rules){.idle = (uint64_t)MILLISECOND * wishes->idle, .interval = (uint64_t)MILLISECOND * wishes->interval,
-                                     .most = wishes->keeps ? KEEPS : 0};
+    struct tcpcore_keep_alive rules = TCPCORE_KEEP_ALIVE_DEFAULT;
+    if (!wishes->keeps)
+        rules.idle = 0;
+    else if (wishes->interval > 0) {
+        rules.idle = (uint64_t)MILLISECOND * wishes->idle;
+        rules.interval = (uint64_t)MILLISECOND * wishes->interval;
+    }
+    return rules;
 }
 
-/* Whether this can be wished: `ip` writes the header of IPv4, and keep-alives have no times of their own. */
-static int can_be(const struct wishes *wishes)
-{
-    return wishes->ttl < 0 && wishes->service < 0 && (!wishes->keeps || wishes->interval > 0);
-}
+/* Whether this can be wished: `ip` writes the header of IPv4. */
+static int can_be(const struct wishes *wishes) { return wishes->ttl < 0 && wishes->service < 0; }
 
 /* A connection in memory of its own, with all that is chosen for it, which connects to this peer, or listens where its port is 0. Whether
    there is one. */
@@ -212,16 +211,17 @@ static int make(struct handle *handle, tcpcore_connection *connection, tcpcore_c
 {
     struct tcpcore_connection_rules rules = TCPCORE_CONNECTION_RULES_DEFAULT;
     struct tcpcore_policy policy = TCPCORE_POLICY_DEFAULT;
+    struct tcpcore_keep_alive keep = keep_of(wishes);
     size_t room = tcpcore_connection_room(config);
     policy.nagle = wishes->nagle > 0;
     handle->block = malloc(room);
     handle->recovery = malloc(TCPCORE_RECOVERY_MEMORY);
-    handle->keep = (struct keep_alive){.rules = keep_of(wishes), .heard_at = time_now()};
     uint32_t answer = to > 0 ? tcpcore_connection_connect(connection, config, &rules, peer, to, time_now(), handle->block, room)
                              : tcpcore_connection_listen(connection, config, &rules, time_now(), handle->block, room);
     return answer == TCPCORE_DONE && tcpcore_connection_set_congestion(connection, TCPCORE_CONGESTION_CUBIC) == TCPCORE_DONE &&
            tcpcore_connection_set_recovery(connection, time_now(), handle->recovery, TCPCORE_RECOVERY_MEMORY) == TCPCORE_DONE &&
-           tcpcore_connection_set_policy(connection, &policy) == TCPCORE_DONE;
+           tcpcore_connection_set_policy(connection, &policy) == TCPCORE_DONE &&
+           tcpcore_connection_set_keep_alive(connection, time_now(), &keep) == TCPCORE_DONE;
 }
 
 int stack_listen(uint16_t port, const struct wishes *wishes)
@@ -341,10 +341,10 @@ void stack_leave(int number)
 
 int stack_wish(int number, const struct wishes *wishes)
 {
+    struct tcpcore_keep_alive keep = keep_of(wishes);
     if (!wishes->keeps || !can_be(wishes) || wishes->nagle >= 0 || wishes->capacity > 0 || handles[number].has_gone)
         return 0;
-    handles[number].keep.rules = keep_of(wishes);
-    return 1;
+    return tcpcore_host_set_keep_alive(&host, time_now(), &handles[number].id, &keep) == TCPCORE_DONE;
 }
 
 /* The listener of a segment's port. */
@@ -406,14 +406,6 @@ static void refuse(const struct ip_packet *packet)
         send_segment(reset, length, packet->src);
 }
 
-/* A connection has had a segment. */
-static void hear(struct handle *handle)
-{
-    keep_alive_heard(&handle->keep, time_now());
-    accept_all();
-    offer(handle);
-}
-
 void stack_arrive(const uint8_t *bytes, size_t length)
 {
     struct ip_packet packet;
@@ -434,23 +426,12 @@ void stack_arrive(const uint8_t *bytes, size_t length)
     } while (is_again);
     if (at.place == TCPCORE_PLACE_STRAY)
         refuse(&packet);
-    if (at.place == TCPCORE_PLACE_END)
-        hear(by_slot[at.id.slot]);
+    if (at.place == TCPCORE_PLACE_END) {
+        accept_all();
+        offer(by_slot[at.id.slot]);
+    }
     if (report.at_once)
         emit();
-}
-
-/* Asks a silent peer, or gives it up. */
-static void keep(struct handle *handle)
-{
-    struct tcpcore_status status;
-    if (handle->keep.rules.idle == 0 || !status_of(handle, &status))
-        return;
-    uint32_t found = keep_alive_run(&handle->keep, keep_alive_may_ask(&status), time_now());
-    if (found == KEEP_ALIVE_ASKS)
-        tcpcore_host_acknowledge(&host, time_now(), &handle->id);
-    else if (found == KEEP_ALIVE_GIVES_UP)
-        tcpcore_host_abort(&host, time_now(), &handle->id);
 }
 
 void stack_turn(void)
@@ -459,9 +440,7 @@ void stack_turn(void)
     while (tcpcore_host_timeout(&host, time_now(), &told) == TCPCORE_DONE)
         records -= told.place == TCPCORE_PLACE_RECORD;
     for (struct handle *handle = handles; handle < handles + PLACES; handle++)
-        if (handle->is_used) {
-            keep(handle);
+        if (handle->is_used)
             offer(handle);
-        }
     emit();
 }

@@ -130,6 +130,11 @@ struct hostile {
                 it.set_policy(any(2) ? tcpcore::default_policy() : tcpcore_policy{drawn(), drawn(), drawn(), static_cast<std::uint32_t>(any(2)), {}});
             else if (any(2))
                 recovers(it);
+            else if (any(3) == 0)
+                it.set_keep_alive(now(), any(2) ? tcpcore::default_keep_alive()
+                                                : tcpcore_keep_alive{drawn() % 3000000, drawn() % 3000000, static_cast<std::uint32_t>(any(4)), {}});
+            else if (any(3) == 0)
+                it.set_pacing(any(2));
             else if (any(2))
                 it.set_user_timeout(std::nullopt);
             else

@@ -43,6 +43,9 @@ inline struct tcpcore_connection_rules default_rules() { return TCPCORE_CONNECTI
 // Common values: TCPCORE_POLICY_DEFAULT.
 inline struct tcpcore_policy default_policy() { return TCPCORE_POLICY_DEFAULT; }
 
+// Usual keep-alives: TCPCORE_KEEP_ALIVE_DEFAULT.
+inline struct tcpcore_keep_alive default_keep_alive() { return TCPCORE_KEEP_ALIVE_DEFAULT; }
+
 namespace detail {
 
 // Throws what a call refused.
@@ -291,7 +294,8 @@ public:
         struct tcpcore_train reported;
         return detail::found(tcpcore_connection_emit_train(raw(), micros(now), window, out, room, most, &reported)), reported;
     }
-    // When timeout has to be called, if nothing else happens before; nothing where no timer runs.
+    // When timeout has to be called, or what waits is to be emitted, if nothing else happens before; nothing where no timer runs and nothing
+    // waits.
     std::optional<time> poll_at() const
     {
         std::uint64_t at;
@@ -373,6 +377,15 @@ public:
         held.get_deleter().recovery = std::move(memory);
         return true;
     }
+    // From `now` on the peer is asked by these rules where nothing is heard of it (RFC 9293, 3.8.4), and the connection is aborted where it
+    // doesn't answer: timeout reports TCPCORE_TIMER_USER then. Never where this isn't called, and with an `idle` of 0.
+    void set_keep_alive(time now, const struct tcpcore_keep_alive &rules)
+    {
+        detail::done(tcpcore_connection_set_keep_alive(raw(), micros(now), &rules));
+    }
+    // Has new text go out spread over a round trip, in portions (RFC 9002, 7.7), or at once, as a connection begins. Where text waits for its
+    // portion poll_at is when the next one begins: emit then, by a fine timer.
+    void set_pacing(bool is_paced) { detail::done(tcpcore_connection_set_pacing(raw(), is_paced)); }
     // The peer's address and port, once they are known.
     std::optional<std::pair<tcpcore_addr, std::uint16_t>> peer() const
     {

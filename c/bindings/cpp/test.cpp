@@ -511,6 +511,66 @@ static void a_policy()
     CHECK(b.emit(now + 40ms, out).length == 20);
 }
 
+// RFC 9293, 3.8.4: a silent peer is asked at SND.NXT - 1, and answers; one that doesn't is asked again behind each interval, and given up behind
+// the last. By default none is asked.
+static void keep_alives()
+{
+    using namespace std::chrono_literals;
+    tcpcore::connection::time now(5s);
+    tcpcore::connection a = tcpcore::connection::connect(config(A, 7), tcpcore::default_rules(), B, 7, now);
+    tcpcore::connection b = tcpcore::connection::listen(config(B, 7), tcpcore::default_rules(), now);
+    unsigned char out[TCPCORE_EMIT_ROOM];
+    for (int turn = 0; turn < 2; turn++) {
+        while (std::size_t length = a.emit(now, out).length) CHECK(b.arrive(now, A, B, out, length).first == TCPCORE_DONE);
+        while (std::size_t length = b.emit(now, out).length) CHECK(a.arrive(now, B, A, out, length).first == TCPCORE_DONE);
+    }
+    CHECK(!a.poll_at());
+    a.set_keep_alive(now, tcpcore::default_keep_alive());
+    now += 2h;
+    CHECK(a.poll_at() == now && !a.timeout(now - 1us) && a.emit(now - 1us, out).length == 0 && !a.timeout(now));
+    struct tcpcore_connection_segment asked = a.emit(now, out);
+    CHECK(asked.length == 20 && asked.position == 0 && asked.count == 0 && a.emit(now, out).length == 0);
+    CHECK(b.arrive(now, A, B, out, 20).first == TCPCORE_DROPPED && b.emit(now, out).length == 20);
+    CHECK(a.arrive(now, B, A, out, 20).first == TCPCORE_DONE && a.poll_at() == now + 2h);
+    now += 2h;
+    for (int turn = 0; turn < 9; turn++, now += 75s) CHECK(a.poll_at() == now && !a.timeout(now) && a.emit(now, out).length == 20);
+    CHECK(a.timeout(now) == TCPCORE_TIMER_USER && a.status().ending == TCPCORE_ENDING_ABORTED && a.emit(now, out).length == 20);
+    b.set_keep_alive(now, tcpcore::default_keep_alive());
+    CHECK(b.poll_at() == now + 2h);
+    b.set_keep_alive(now, {});
+    CHECK(!b.poll_at());
+}
+
+// RFC 9002, 7.7: with a round trip of 100 ms and a first window of ten segments of 1,000 bytes 200 bytes a millisecond go out in slow start: two
+// segments each 10 ms. By default all goes out at once.
+static void paced_text()
+{
+    using namespace std::chrono_literals;
+    tcpcore::connection::time now(5s);
+    tcpcore::connection a = tcpcore::connection::connect(config(A, 7), tcpcore::default_rules(), B, 7, now);
+    tcpcore::connection b = tcpcore::connection::listen(config(B, 7), tcpcore::default_rules(), now);
+    unsigned char out[TCPCORE_EMIT_ROOM], text[4000] = {};
+    CHECK(a.set_congestion(TCPCORE_CONGESTION_CUBIC));
+    CHECK(b.arrive(now, A, B, out, a.emit(now, out).length).first == TCPCORE_DONE);
+    now += 100ms;
+    CHECK(a.arrive(now, B, A, out, b.emit(now, out).length).first == TCPCORE_DONE);
+    CHECK(b.arrive(now, A, B, out, a.emit(now, out).length).first == TCPCORE_DONE);
+    auto sent = [&] {
+        int count = 0;
+        while (a.emit(now, out).length > 0) count++;
+        return count;
+    };
+    a.set_pacing(true);
+    CHECK(a.send(now, text, 4000) == 4000 && sent() == 2 && a.poll_at() == now + 10ms);
+    now += 10ms - 1us;
+    CHECK(sent() == 0 && !a.timeout(now));
+    now += 1us;
+    CHECK(a.poll_at() == now && !a.timeout(now) && sent() == 2);
+    CHECK(a.send(now, text, 1000) == 1000 && sent() == 0 && a.poll_at() == now + 10ms);
+    a.set_pacing(false);
+    CHECK(sent() == 1);
+}
+
 // RFC 8985, 7.2: with a round trip of 100 ms the end of what was sent goes out again behind two of them, and the peer's delay of 200 ms behind
 // a single segment; no timer expires. A connection that was moved has its recovery with it.
 static void losses_by_time()
@@ -635,6 +695,8 @@ int main()
     a_connection_s_train();
     a_congestion_window();
     a_policy();
+    keep_alives();
+    paced_text();
     losses_by_time();
     a_user_timeout_is_set();
     a_guard_keeps_out_what_is_blind();

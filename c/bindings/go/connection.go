@@ -13,8 +13,8 @@ import (
 	"unsafe"
 )
 
-// UserTimeout is a timer of a connection alone: its user timeout (RFC 9293, 3.8.3), or the limit of FIN-WAIT-2, has passed, and it is
-// aborted. Others are Retransmit, Reorder and TimeWait.
+// UserTimeout is a timer of a connection alone: its user timeout (RFC 9293, 3.8.3), or the limit of FIN-WAIT-2, has passed, or its
+// keep-alives went unanswered (3.8.4), and it is aborted. Others are Retransmit, Reorder and TimeWait.
 const UserTimeout = C.TCPCORE_TIMER_USER
 
 // What Connection.Arrive answers of a segment that isn't taken. That the bytes are no segment has other answers.
@@ -133,6 +133,7 @@ func (rules Rules) c() C.struct_tcpcore_connection_rules {
 //
 // Where the path may be congested SetCongestion chooses a congestion window; SetRecovery has losses found by time, and SetPolicy says when
 // acknowledgements and small segments wait. Who has emissions wait by a rule of his own goes by AtOnce of the ArriveReport (RFC 5681, 4.2).
+// A peer that vanished while nothing was under way is found where SetKeepAlive has it asked (RFC 9293, 3.8.4).
 type Connection struct {
 	// Window is that of the caller's congestion control (RFC 5681, 3.1), in bytes: what ends more than so many numbers past SND.UNA waits,
 	// unless nothing before it is in flight. Connect and Listen set the greatest number, which holds back nothing.
@@ -255,8 +256,9 @@ func (connection *Connection) EmitTrain(now time.Time, room []byte, most int) (T
 	return train(&told.train), done(told.answer)
 }
 
-// PollAt is when Timeout has to be called, if nothing else happens before; the zero Time where no timer runs, as the SetReadDeadline of a
-// net.Conn takes it. It may have passed: then call it now. Where it is called later, all that is sent again is sent later.
+// PollAt is when Timeout has to be called, or what waits is to be emitted, if nothing else happens before; the zero Time where no timer runs
+// and nothing waits, as the SetReadDeadline of a net.Conn takes it. It may have passed: then emit, and call it now. Where it is called later,
+// all that is sent again is sent later.
 func (connection *Connection) PollAt() time.Time {
 	told := C.connection_poll_at(connection.raw)
 	found(told.answer)
@@ -353,6 +355,50 @@ func (connection *Connection) SetPolicy(policy Policy) error {
 		chosen.nagle = 1
 	}
 	return done(C.tcpcore_connection_set_policy(connection.raw, &chosen))
+}
+
+// KeepAlive is when the silent peer of a connection is asked whether it is there, and when it is given up (RFC 9293, 3.8.4). Whole
+// microseconds count, and no duration as less than a second. UsualKeepAlive has usual values.
+type KeepAlive struct {
+	// The peer is asked where nothing was heard of it for so long: 2 hours or more, unless a user chooses less.
+	Idle time.Duration
+	// It is asked again behind each so long: 75 s by custom.
+	Interval time.Duration
+	// With so many unanswered it is given up, an interval behind the last: 9 by custom. Less than 2 counts as 2: one may be lost.
+	Most uint32
+}
+
+// UsualKeepAlive has two hours, the least that the standard has where nothing else is chosen, and by custom nine keep-alives, 75 s apart.
+func UsualKeepAlive() KeepAlive {
+	return KeepAlive{Idle: 2 * time.Hour, Interval: 75 * time.Second, Most: 9}
+}
+
+// SetKeepAlive has the peer asked by these rules where nothing is heard of it from `now` on, and given up where it doesn't answer; with nil it
+// isn't asked, as a connection begins. Silence counts from `now` on, and what is passed over of what comes breaks none. Emit writes the segment
+// that asks, at the time of PollAt, in ESTABLISHED and CLOSE-WAIT, while all that was sent is acknowledged and nothing waits to be sent. Where
+// the peer is given up Timeout tells UserTimeout, and the connection is aborted.
+func (connection *Connection) SetKeepAlive(now time.Time, rules *KeepAlive) error {
+	var chosen C.struct_tcpcore_keep_alive
+	if rules != nil {
+		chosen = C.struct_tcpcore_keep_alive{idle: micros(rules.Idle), interval: micros(rules.Interval), most: C.uint32_t(rules.Most)}
+		if chosen.idle == 0 {
+			// That is C's word for none.
+			chosen.idle = 1
+		}
+	}
+	return done(C.tcpcore_connection_set_keep_alive(connection.raw, connection.since(now), &chosen))
+}
+
+// SetPacing has new text go out spread over a round trip, in portions of as many whole segments as go out in a millisecond, two at least, at
+// 1.25, in slow start 2, congestion windows a round trip (RFC 9002, 7.7); or at once, as a connection begins. What is sent again doesn't wait,
+// and without a congestion window practically nothing does. Where text waits for its portion PollAt is when the next one begins: Emit then. A
+// caller that paces has to wait by a fine timer.
+func (connection *Connection) SetPacing(paced bool) error {
+	var chosen C.uint32_t
+	if paced {
+		chosen = 1
+	}
+	return done(C.tcpcore_connection_set_pacing(connection.raw, chosen))
 }
 
 // SetRecovery has losses found by time from `now` on, and the end of what is sent probed, in the place of a round trip behind a gap (RFC 8985),

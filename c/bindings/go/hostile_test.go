@@ -236,6 +236,9 @@ func (it *hostile) use(end *Connection, side int, now time.Time) {
 		}
 		it.may(side, "SetPolicy", end.SetPolicy(policy))
 		it.may(side, "SetRecovery", end.SetRecovery(now), ErrInUse, ErrBegun)
+		rules := []*KeepAlive{nil, {}, {time.Duration(it.random.Int63() - 1<<40), time.Duration(it.random.Int63() - 1<<40), it.random.Uint32()}}
+		it.may(side, "SetKeepAlive", end.SetKeepAlive(now, rules[it.random.Intn(3)]))
+		it.may(side, "SetPacing", end.SetPacing(it.random.Intn(2) == 0))
 	case 9, 10:
 		_, _, err := end.Peer()
 		it.may(side, "Peer", err, ErrNotConnected)

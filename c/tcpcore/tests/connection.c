@@ -20,6 +20,7 @@ static void every_call(tcpcore_connection *connection, uint32_t wanted)
     struct tcpcore_lent lent;
     struct tcpcore_congestion congestion;
     const struct tcpcore_policy policy = TCPCORE_POLICY_DEFAULT;
+    const struct tcpcore_keep_alive keep_alive = TCPCORE_KEEP_ALIVE_DEFAULT;
     memset(&congestion, 7, sizeof congestion);
     memset(buffer, 0xee, sizeof buffer);
     memset(&status, 7, sizeof status);
@@ -62,6 +63,8 @@ static void every_call(tcpcore_connection *connection, uint32_t wanted)
     CHECK(tcpcore_connection_resend(connection, 0, 0, 9), wanted);
     CHECK(tcpcore_connection_set_congestion(connection, TCPCORE_CONGESTION_CUBIC), wanted);
     CHECK(tcpcore_connection_set_policy(connection, &policy), wanted);
+    CHECK(tcpcore_connection_set_keep_alive(connection, 0, &keep_alive), wanted);
+    CHECK(tcpcore_connection_set_pacing(connection, 1), wanted);
     CHECK(tcpcore_connection_set_recovery(connection, 0, buffer, sizeof buffer), wanted);
     CHECK(tcpcore_connection_congestion(connection, &congestion), wanted);
     CHECK(are_all(&congestion, sizeof congestion, 0), 1);

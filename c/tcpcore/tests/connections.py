@@ -11,8 +11,8 @@ import sys
 sys.path.insert(0, os.path.dirname(os.path.dirname(os.path.realpath(__file__))))
 import tcpcore  # noqa: E402
 from tcpcore import (  # noqa: E402
-    Answer, Brought, Config, Congestion, CongestionWindow, Connection, Emission, End, Ending, Kind, Lent, Phase, Policy, Refused, Rule, Rules, Timer,
-    Train, Transmit,
+    Answer, Brought, Config, Congestion, CongestionWindow, Connection, Emission, End, Ending, KeepAlive, Kind, Lent, Phase, Policy, Refused, Rule,
+    Rules, Timer, Train, Transmit,
 )
 
 A, B = bytes([10, 0, 0, 1]), bytes([10, 0, 0, 2])
@@ -223,6 +223,50 @@ def recoveries():
     check((a.transmit(5.1), a.transmit(5.12), 5.12 < a.poll_at() <= 5.125), (None, None, True))
     told, _ = a.transmit(5.125)
     check((told.position, told.numbers, a.transmit(5.125), a.timeout(5.125)), (1, told.length - 20, None, None))
+
+
+def keep_alives():
+    """RFC 9293, 3.8.4: a silent peer is asked at SND.NXT - 1, and answers; one that doesn't is asked again behind each interval, and given up
+    behind the last. By default none is asked, and no time counts as less than a second."""
+    a, b = pair()
+    check(a.poll_at(), None)
+    a.set_keep_alive(5.0, KeepAlive(idle=600.0))
+    check((a.poll_at(), a.emit_all(604.9), a.timeout(605.0)), (605.0, [], None))
+    told, asked = a.transmit(605.0)
+    check((len(asked), asked[4:8], told.position, told.numbers, a.transmit(605.0)), (20, (1000).to_bytes(4, "big"), 0, 0, None))
+    check((b.arrive(605.0, A, told.to, asked), carry(605.0, b, B, a)), (Answer.DROPPED, [Answer.DONE]))
+    for at in range(1205, 1205 + 9 * 75, 75):
+        check((a.poll_at(), a.timeout(at), len(a.emit_all(at))), (at, None, 1))
+    check((a.poll_at(), a.timeout(1880.0), a.status().ending, len(a.emit_all(1880.0))), (1880.0, Timer.USER, Ending.ABORTED, 1))
+    b.set_keep_alive(700.0, KeepAlive(idle=0, interval=0, most=0))
+    check(b.poll_at(), 701.0)
+    # In a loop that emits behind a timer alone, too, and waits for `poll_at`: asked twice, and given up.
+    now, sent, timer = 700.0, 0, None
+    while timer is None:
+        sent += len(b.emit_all(now))
+        timer, at = b.timeout(now), b.poll_at()
+        check(at is None, timer is not None)
+        now = now if at is None else max(now, at)
+    check((sent, timer, now), (2, Timer.USER, 703.0))
+    c, _ = pair()
+    c.set_keep_alive(0.0)
+    check(c.poll_at(), 7200.0)
+    c.set_keep_alive(0.0, None)
+    check((c.poll_at(), raised(ValueError, c.set_keep_alive, 0.0, KeepAlive(most=-1)) != "nothing"), (None, True))
+
+
+def paced():
+    """RFC 9002, 7.7: with a round trip of 100 ms and a first window of ten segments of 1,000 bytes 200 bytes a millisecond go out in slow
+    start: two segments each 10 ms. By default all goes out at once."""
+    a, b = Connection.connect(0.0, CONFIGS[0], B, 2), Connection.listen(0.0, CONFIGS[1])
+    a.set_congestion(Congestion.CUBIC)
+    check(carry(0.0, a, A, b) + carry(0.1, b, B, a) + carry(0.1, a, A, b), [Answer.DONE] * 3)
+    check((a.send(5.0, bytes(3000)), len(a.emit_all(5.0))), (3000, 3))
+    a.set_pacing()
+    check((a.send(5.0, bytes(6000)), len(a.emit_all(5.0)), a.poll_at()), (6000, 2, 5.01))
+    check((a.emit_all(5.009), a.timeout(5.01), len(a.emit_all(5.01)), a.poll_at()), ([], None, 2, 5.02))
+    a.set_pacing(False)
+    check(len(a.emit_all(5.01)), 2)
 
 
 def peers():
@@ -454,6 +498,8 @@ def main():
     congestion_windows()
     policies()
     recoveries()
+    keep_alives()
+    paced()
     peers()
     guards()
     time_wait()

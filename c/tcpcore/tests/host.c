@@ -446,6 +446,8 @@ static void misuse(void)
     CHECK(tcpcore_host_set_policy(&host, &end, NULL), TCPCORE_NULL);
     CHECK(tcpcore_host_set_policy(&host, NULL, &policy), TCPCORE_NULL);
     CHECK(tcpcore_host_set_user_timeout(&host, NULL, 0), TCPCORE_NULL);
+    CHECK(tcpcore_host_set_keep_alive(&host, 0, &end, NULL), TCPCORE_NULL);
+    CHECK(tcpcore_host_set_pacing(&host, NULL, 1), TCPCORE_NULL);
     CHECK(tcpcore_host_resend_first(&copy, 0, &end), TCPCORE_COPIED);
     CHECK(tcpcore_host_resend(&host, 0, NULL, 0, 1), TCPCORE_NULL);
     CHECK(tcpcore_host_status(&host, &end, NULL), TCPCORE_NULL);

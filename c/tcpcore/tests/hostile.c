@@ -396,6 +396,20 @@ static void choose_policy(tcpcore_connection *end)
     ANSWERS("set_policy", tcpcore_connection_set_policy(end, chosen), TCPCORE_DONE);
 }
 
+/* Usual keep-alives, some in a second, none, or any. */
+static void choose_keep_alive(tcpcore_connection *end)
+{
+    struct tcpcore_keep_alive rules = TCPCORE_KEEP_ALIVE_DEFAULT;
+    if (any(2) == 0)
+        rules = (struct tcpcore_keep_alive){.idle = any(3), .interval = any(3), .most = (uint32_t)any(5)};
+    else if (any(2) == 0)
+        rules = (struct tcpcore_keep_alive){.idle = any_wait(), .interval = any_wait(), .most = (uint32_t)any(UINT64_C(1) << 32)};
+    struct tcpcore_keep_alive *chosen = rarely() ? NULL : &rules;
+    if (!chosen)
+        is_odd(&odd.null, 1);
+    ANSWERS("set_keep_alive", tcpcore_connection_set_keep_alive(end, now, chosen), TCPCORE_DONE);
+}
+
 /* A call that changes what its timers will do. */
 static void change_timers(size_t side)
 {
@@ -413,8 +427,12 @@ static void change_timers(size_t side)
         ANSWERS("resend", tcpcore_connection_resend(end, now, any(5000), any(2) == 0 ? any(10000) : UINT64_MAX), TCPCORE_DONE, TCPCORE_NO_RULE);
     else if (any(2) == 0)
         ANSWERS("set_congestion", tcpcore_connection_set_congestion(end, (uint32_t)any(4)), TCPCORE_DONE, TCPCORE_NO_RULE, TCPCORE_BAD_RULES);
-    else
+    else if (any(3) > 0)
         choose_policy(end);
+    else if (any(2) == 0)
+        choose_keep_alive(end);
+    else
+        ANSWERS("set_pacing", tcpcore_connection_set_pacing(end, (uint32_t)any(3)), TCPCORE_DONE);
     struct tcpcore_congestion congestion, *place = any_place(&congestion, end);
     if (tcpcore_connection_congestion(end, place) == TCPCORE_DONE)
         CHECK(congestion.cwnd > 0 && congestion.cwnd >= congestion.smss && congestion.congestion <= TCPCORE_CONGESTION_CUBIC, 1);

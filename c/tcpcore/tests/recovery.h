@@ -161,14 +161,16 @@ static inline void recovers(uint64_t now)
     CHECK(tcpcore_connection_set_recovery(&a, now, memory, TCPCORE_RECOVERY_MEMORY), TCPCORE_DONE);
 }
 
-/* ESTABLISHED at both ends, by a handshake of a trip; `a` finds losses by time from the making on. */
-static inline void begin(uint8_t sack, uint32_t congestion)
+static inline void connects(uint8_t sack)
 {
     tcpcore_config config = config_of(HERE, sack);
     CHECK(tcpcore_connection_connect(&a, &config, &RULES, THERE, 9, OPENED, blocks[0], sizeof *blocks), TCPCORE_DONE);
-    recovers(OPENED);
-    CHECK(tcpcore_connection_set_congestion(&a, congestion), TCPCORE_DONE);
-    config = config_of(THERE, sack);
+}
+
+/* ESTABLISHED at both ends, by a handshake of a trip. */
+static inline void meets(uint8_t sack)
+{
+    tcpcore_config config = config_of(THERE, sack);
     CHECK(tcpcore_connection_listen(&b, &config, &RULES, OPENED, blocks[1], sizeof *blocks), TCPCORE_DONE);
     emit(&flying, &a, OPENED);
     CHECK(flying.count, 1);
@@ -181,6 +183,15 @@ static inline void begin(uint8_t sack, uint32_t congestion)
     CHECK(status_of(&a).phase, TCPCORE_PHASE_ESTABLISHED);
     CHECK(status_of(&b).phase, TCPCORE_PHASE_ESTABLISHED);
     CHECK(status_of(&a).sack, sack);
+}
+
+/* The same, and `a` finds losses by time from the making on. */
+static inline void begin(uint8_t sack, uint32_t congestion)
+{
+    connects(sack);
+    recovers(OPENED);
+    CHECK(tcpcore_connection_set_congestion(&a, congestion), TCPCORE_DONE);
+    meets(sack);
 }
 
 static inline void free_both(void)

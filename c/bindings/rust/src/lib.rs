@@ -59,7 +59,8 @@ pub use answers::{Agreed, Arrival, EmitFirst, Ending, Error, Expired, Malformed,
 pub use boxed::Boxed;
 pub use config::Config;
 pub use connection::{
-    connection_memory, connection_memory_with_runs, Congestion, CongestionWindow, Connection, Policy, Rules, Segment, RECOVERY_MEMORY,
+    connection_memory, connection_memory_with_runs, Congestion, CongestionWindow, Connection, KeepAlive, Policy, Rules, Segment,
+    RECOVERY_MEMORY,
 };
 pub use lending::{Lent, Parts, HEADER_ROOM};
 pub use placed::{memory, memory_with_runs, Placed};

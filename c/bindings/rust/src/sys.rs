@@ -4,7 +4,7 @@ use core::ptr;
 
 pub(crate) const VERSION: u32 = 21;
 pub(crate) const END_SIZE: usize = 416;
-pub(crate) const CONNECTION_SIZE: usize = 1136;
+pub(crate) const CONNECTION_SIZE: usize = 1216;
 pub(crate) const RECOVERY_MEMORY: usize = 2847;
 pub(crate) const MARK_SIZE: usize = 8;
 pub(crate) const HELD_SIZE: usize = 16;
@@ -213,6 +213,15 @@ pub struct Policy {
     pub reserved: [u32; 9],
 }
 
+#[derive(Clone, Copy, Default)]
+#[repr(C)]
+pub struct KeepAlive {
+    pub idle: u64,
+    pub interval: u64,
+    pub most: u32,
+    pub reserved: [u32; 3],
+}
+
 extern "C" {
     pub fn tcpcore_new_at(end: *mut *mut End, config: *const Config, block: *mut c_void, length: usize) -> u32;
     pub fn tcpcore_room(config: *const Config) -> usize;
@@ -356,6 +365,8 @@ extern "C" {
     pub fn tcpcore_connection_congestion(connection: *const Connection, congestion: *mut Congestion) -> u32;
     pub fn tcpcore_connection_set_policy(connection: *mut Connection, policy: *const Policy) -> u32;
     pub fn tcpcore_connection_set_recovery(connection: *mut Connection, now: u64, block: *mut c_void, length: usize) -> u32;
+    pub fn tcpcore_connection_set_keep_alive(connection: *mut Connection, now: u64, rules: *const KeepAlive) -> u32;
+    pub fn tcpcore_connection_set_pacing(connection: *mut Connection, is_paced: u32) -> u32;
     pub fn tcpcore_strerror(answer: u32) -> *const u8;
     pub fn tcpcore_version() -> u32;
     pub fn tcpcore_build() -> *const u8;
@@ -500,6 +511,7 @@ mod tests {
             places!(ConnectionSegment, "struct tcpcore_connection_segment", length, position, count, to, reserved),
             places!(Congestion, "struct tcpcore_congestion", cwnd, ssthresh, smss, congestion, is_recovering, reserved),
             places!(Policy, "struct tcpcore_policy", ack_delay, override_timeout, answer_interval, nagle, reserved),
+            places!(KeepAlive, "struct tcpcore_keep_alive", idle, interval, most, reserved),
         ];
         let (expressions, found): (Vec<_>, Vec<_>) = all.into_iter().unzip();
         let (expressions, found) = (expressions.concat(), found.concat());

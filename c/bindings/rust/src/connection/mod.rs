@@ -1,5 +1,6 @@
 //! An end that keeps its own times.
 mod congestion;
+mod keep_alive;
 mod making;
 mod policy;
 mod recovery;
@@ -7,6 +8,7 @@ mod rules;
 mod train;
 
 pub use congestion::{Congestion, CongestionWindow};
+pub use keep_alive::KeepAlive;
 pub use making::{connection_memory, connection_memory_with_runs};
 pub use policy::Policy;
 pub use recovery::RECOVERY_MEMORY;
@@ -69,7 +71,9 @@ use rules::NEVER;
 ///
 /// Where the path may be congested [`set_congestion`](Connection::set_congestion) chooses a congestion window;
 /// [`set_recovery`](Connection::set_recovery) has losses found by time, and [`set_policy`](Connection::set_policy) says when acknowledgements
-/// and small segments wait. Who has emissions wait by a rule of his own goes by [`ArriveReport::at_once`] (RFC 5681, 4.2).
+/// and small segments wait. Who has emissions wait by a rule of his own goes by [`ArriveReport::at_once`] (RFC 5681, 4.2). A peer that
+/// vanished while nothing was under way is found where [`set_keep_alive`](Connection::set_keep_alive) has it asked (RFC 9293, 3.8.4).
+/// [`set_pacing`](Connection::set_pacing) has new text go out spread over a round trip (RFC 9002, 7.7), for a caller with a fine timer.
 pub struct Connection<'m> {
     /// The C struct, at the front of the block, where it stays.
     raw: NonNull<sys::Connection>,
@@ -151,8 +155,9 @@ impl Connection<'_> {
         (answer == 0).then_some(Segment { to: told.to.byte, bytes, position: told.position, count: told.count })
     }
 
-    /// When [`Connection::handle_timeout`] has to be called, if nothing else happens before; none where no timer runs. It may have passed:
-    /// then call it now. Where it is called later, all that is sent again is sent later.
+    /// When [`Connection::handle_timeout`] has to be called, or what a policy, a recovery or pacing made wait is to be sent, or a keep-alive,
+    /// if nothing else happens before; none where no timer runs and nothing waits. It may have passed: then poll and call it now. Where it is called
+    /// later, all that is sent again is sent later.
     pub fn poll_timeout(&self) -> Option<Time> {
         let mut at = NEVER;
         unsafe { sys::tcpcore_connection_poll_at(self.raw.as_ptr(), &mut at) };
@@ -238,6 +243,14 @@ impl Connection<'_> {
     /// then. A SYN keeps the limit [`Rules::handshake`].
     pub fn set_user_timeout(&mut self, limit: Option<Duration>) {
         unsafe { sys::tcpcore_connection_set_user_timeout(self.raw.as_ptr(), rules::limit(limit)) };
+    }
+
+    /// Has new text go out spread over a round trip, in portions of as many whole segments as go out in a millisecond, two at least, at 1.25,
+    /// in slow start 2, congestion windows a round trip (RFC 9002, 7.7); or at once, as a connection begins. What is sent again doesn't wait,
+    /// and without a congestion window practically nothing does. Where text waits for its portion [`Connection::poll_timeout`] is when the
+    /// next one begins: poll then. A caller that paces has to wait by a fine timer.
+    pub fn set_pacing(&mut self, is_paced: bool) {
+        unsafe { sys::tcpcore_connection_set_pacing(self.raw.as_ptr(), u32::from(is_paced)) };
     }
 
     /// Of what is in flight the first segment must be sent again at once, for a caller who finds losses before the timers do (RFC 5681, 3.2;

@@ -183,6 +183,39 @@ fn a_policy_is_chosen() {
     assert_eq!(ends[1].poll_timeout(), None);
 }
 
+/// The number in network order at a place of a segment.
+fn number_at(segment: &[u8], place: usize) -> u32 {
+    u32::from_be_bytes([segment[place], segment[place + 1], segment[place + 2], segment[place + 3]])
+}
+
+/// RFC 9293, 3.8.4: a silent peer is asked at SND.NXT - 1 and answers; one that doesn't is asked again behind each interval, and given up
+/// behind the last. Without being asked for no keep-alive is sent, and no time counts as less than a second.
+#[test]
+fn a_silent_peer_is_asked() {
+    let (idle, interval, opened) = (600 * SECOND, 75 * SECOND, seconds(10));
+    let mut ends = established(opened);
+    assert_eq!(ends[0].poll_timeout(), None);
+    ends[0].set_keep_alive(opened, Some(KeepAlive { idle, ..KeepAlive::usual() }));
+    let mut now = opened + idle;
+    assert_eq!((ends[0].poll_timeout(), emitted(&mut ends[0], opened + SECOND).len()), (Some(now), 0));
+    assert_eq!(ends[0].handle_timeout(now), None);
+    let asked = emitted(&mut ends[0], now);
+    assert_eq!((asked.len(), asked[0].len(), number_at(&asked[0], 4), number_at(&asked[0], 8)), (1, 20, 1000, 1001));
+    assert_eq!(hand_in(&mut ends[1], 1, now, &asked), [Arrival::Dropped]);
+    carry_one(&mut ends, 1, now, now);
+    for _ in 0..9 {
+        now = now + if ends[0].poll_timeout() == Some(now + idle) { idle } else { interval };
+        assert_eq!((ends[0].poll_timeout(), ends[0].handle_timeout(now), emitted(&mut ends[0], now).len()), (Some(now), None, 1));
+    }
+    assert_eq!(now, opened + 2 * idle + 8 * interval);
+    assert_eq!(ends[0].handle_timeout(now + interval), Some(Expired::User));
+    assert_eq!((ends[0].status().ending, emitted(&mut ends[0], now + interval).len()), (Ending::Aborted, 1));
+    ends[1].set_keep_alive(now, Some(KeepAlive { idle: Duration::ZERO, interval: Duration::ZERO, most: 0 }));
+    assert_eq!(ends[1].poll_timeout(), Some(now + SECOND));
+    ends[1].set_keep_alive(now, None);
+    assert_eq!(ends[1].poll_timeout(), None);
+}
+
 /// The one segment that is due goes to the other side, another time later.
 fn carry_one(ends: &mut [Connection; 2], from: usize, sent: Time, came: Time) {
     let segments = emitted(&mut ends[from], sent);
@@ -202,6 +235,28 @@ fn is_probed(ends: &mut [Connection; 2], opened: Time) {
     assert_eq!(emitted(client, sent + Duration::from_micros(399_999)).len(), 0);
     assert_eq!((emitted(client, probed).len(), client.handle_timeout(probed)), (1, None));
     assert!(client.poll_timeout() > Some(probed));
+}
+
+/// RFC 9002, 7.7: with a round trip of 100 ms and a first window of ten segments of 1,460 bytes 292 bytes a millisecond go out in slow start:
+/// two segments each 10 ms. Without being asked for all goes out at once.
+#[test]
+fn new_text_is_paced() {
+    let (opened, each) = (seconds(10), Duration::from_millis(10));
+    let mut ends = pair(&Rules::new(), opened);
+    assert!(ends[0].set_congestion(Congestion::Cubic));
+    let (half, trip) = (opened + Duration::from_millis(50), opened + Duration::from_millis(100));
+    carry_one(&mut ends, 0, opened, half);
+    carry_one(&mut ends, 1, half, trip);
+    carry_one(&mut ends, 0, trip, trip);
+    let (client, sent) = (&mut ends[0], opened + SECOND);
+    assert_eq!((client.send(sent, &[0; 3 * 1460]), emitted(client, sent).len()), (Ok(3 * 1460), 3));
+    client.set_pacing(true);
+    assert_eq!((client.send(sent, &[0; 6 * 1460]), emitted(client, sent).len()), (Ok(6 * 1460), 2));
+    assert_eq!((client.poll_timeout(), emitted(client, sent + Duration::from_micros(9_999)).len()), (Some(sent + each), 0));
+    assert_eq!((client.handle_timeout(sent + each), emitted(client, sent + each).len()), (None, 2));
+    assert_eq!(client.poll_timeout(), Some(sent + 2 * each));
+    client.set_pacing(false);
+    assert_eq!(emitted(client, sent + each).len(), 2);
 }
 
 #[test]
@@ -586,6 +641,11 @@ fn any_calls_at_any_times() {
                 10 if any.below(2) == 0 => drop(ends[side].resend_first(now)),
                 10 if any.below(2) == 0 => drop(ends[side].resend(now, any.below(2000), any.below(4000))),
                 10 if any.below(2) == 0 => ends[side].set_policy([Policy::immediate(), Policy::standard()][any.below(2) as usize]),
+                10 if any.below(4) == 0 => ends[side].set_keep_alive(
+                    now,
+                    [None, Some(KeepAlive::usual()), Some(KeepAlive { idle: SECOND, interval: SECOND, most: 2 })][any.below(3) as usize],
+                ),
+                10 if any.below(4) == 0 => ends[side].set_pacing(any.below(2) == 0),
                 10 if any.below(4) == 0 => {
                     assert!(matches!(ends[side].set_recovery(now), Ok(()) | Err(Error::InUse | Error::NoRule)))
                 }
