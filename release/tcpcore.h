@@ -240,8 +240,10 @@ enum {
     TCPCORE_TIMER_RETRANSMIT = 0, /* the retransmission timeout (RFC 9293, 3.8.1) */
     TCPCORE_TIMER_REORDER = 1,    /* what the peer's blocks passed over is taken for lost */
     TCPCORE_TIMER_TIME_WAIT = 2,  /* the TIME-WAIT timeout (RFC 9293, 3.10.8) */
-    TCPCORE_TIMER_USER = 3,       /* of a connection alone: the user timeout (RFC 9293, 3.8.3), or the limit of FIN-WAIT-2 */
-    TCPCORE_TIMER_NONE = 4        /* what tcpcore_host_timeout reports where none has expired: what was held back may go out */
+    TCPCORE_TIMER_USER = 3,       /* of a connection alone: the user timeout (RFC 9293, 3.8.3), the limit of FIN-WAIT-2, or keep-alives
+                                     that went unanswered (3.8.4) */
+    TCPCORE_TIMER_NONE = 4        /* what tcpcore_host_timeout reports where none has expired: what was held back, or a keep-alive, may go
+                                     out */
 };
 
 /* Where something is in a host. */
@@ -937,10 +939,10 @@ uint32_t tcpcore_time_wait_status(const struct tcpcore_time_wait *time_wait, uin
 /*
  * CONNECTIONS
  *   A connection is an end that keeps its own timers: the retransmission timeout by measured round trips (RFC 6298), what the peer's
- *   blocks passed over (RFC 2018, 5), TIME-WAIT, and the user timeout (RFC 9293, 3.8.3). It reads no clock: each call is given the time,
- *   `now`, in microseconds from any beginning; a time below that of an earlier call counts as that. It keeps the timers that a plain end
- *   leaves to its caller (5. at the top); all else said there of an end holds: MEMORY, STACK, THREADS, WHO OWNS WHAT, ANSWERS. A call
- *   that an end has by the same name answers and does the same.
+ *   blocks passed over (RFC 2018, 5), TIME-WAIT, the user timeout (RFC 9293, 3.8.3), and keep-alives where they are asked for (3.8.4). It
+ *   reads no clock: each call is given the time, `now`, in microseconds from any beginning; a time below that of an earlier call counts as
+ *   that. It keeps the timers that a plain end leaves to its caller (5. at the top); all else said there of an end holds: MEMORY, STACK,
+ *   THREADS, WHO OWNS WHAT, ANSWERS. A call that an end has by the same name answers and does the same.
  *
  *   1. Make and open it: tcpcore_connection_connect or tcpcore_connection_listen.
  *   2. Wait for a segment, or until the time of tcpcore_connection_poll_at, which tcpcore_connection_tick reports as well.
@@ -957,6 +959,10 @@ uint32_t tcpcore_time_wait_status(const struct tcpcore_time_wait *time_wait, uin
  *   one has acknowledgements and small segments wait, avoids silly windows, and limits what only answers (RFC 9293, 3.7.4 and 3.8.6; RFC
  *   5961, 7): tcpcore_connection_set_policy, with TCPCORE_POLICY_DEFAULT. A caller who has emissions wait by a rule of his own goes by
  *   `at_once` of the report (RFC 5681, 4.2).
+ *   A peer that vanished while nothing was under way is found by keep-alives alone (RFC 9293, 3.8.4), which are off where nobody asks for
+ *   them: tcpcore_connection_set_keep_alive, with TCPCORE_KEEP_ALIVE_DEFAULT.
+ *   A caller with a fine timer may have text go out spread over a round trip, and not a window at once (RFC 9002, 7.7):
+ *   tcpcore_connection_set_pacing.
  */
 
 /* A connection, placed by the caller. Its words are the library's: set them by TCPCORE_CONNECTION_INIT alone. */
@@ -1051,6 +1057,25 @@ struct tcpcore_policy {
        struct tcpcore_policy policy = TCPCORE_POLICY_DEFAULT; */
 #define TCPCORE_POLICY_DEFAULT {40000, 500000, 500000, 1, {0}}
 
+/* When a silent peer is asked whether it is there, and when it is given up (RFC 9293, 3.8.4). Times are microseconds. All 0: never. */
+struct tcpcore_keep_alive {
+    /* It is asked where nothing was heard of it for so long: 2 hours or more, unless a user chooses less. 0: it is never
+       asked. */
+    uint64_t idle;
+    /* It is asked again after each so long: 75 s by custom. */
+    uint64_t interval;
+    /* With so many unanswered it is given up, an interval after the last: 9 by custom. Less than 2 counts as 2: one may be
+       lost. */
+    uint32_t most;
+    /* 0. Fields of later versions take their place from here: the struct's size stays. */
+    uint32_t reserved[3];
+};
+
+/* Usual values: a peer of which nothing was heard for two hours is asked, and again after each 75 s, and is given up behind nine
+   keep-alives that went unanswered:
+       struct tcpcore_keep_alive keep_alive = TCPCORE_KEEP_ALIVE_DEFAULT; */
+#define TCPCORE_KEEP_ALIVE_DEFAULT {UINT64_C(7200000000), 75000000, 9, {0}}
+
 /* What tcpcore_connection_emit reports of the segment that it wrote. */
 struct tcpcore_connection_segment {
     /* Its length in bytes, with its header. */
@@ -1067,7 +1092,7 @@ struct tcpcore_connection_segment {
 };
 
 /* How many bytes of a block are enough for a connection: as TCPCORE_MEMORY_RUNS and TCPCORE_MEMORY. */
-#define TCPCORE_CONNECTION_MEMORY_RUNS(send, receive, runs) (TCPCORE_MEMORY_RUNS(send, receive, runs) - 416 + 1136)
+#define TCPCORE_CONNECTION_MEMORY_RUNS(send, receive, runs) (TCPCORE_MEMORY_RUNS(send, receive, runs) - 416 + 1216)
 #define TCPCORE_CONNECTION_MEMORY(send, receive) TCPCORE_CONNECTION_MEMORY_RUNS(send, receive, TCPCORE_RUNS)
 
 /* How many bytes of a block of any alignment are enough for loss recovery by time: tcpcore_connection_set_recovery. */
@@ -1103,18 +1128,18 @@ size_t tcpcore_connection_room(const tcpcore_config *config);
 uint32_t tcpcore_connection_free(tcpcore_connection *connection);
 
 /*
- * Reports when tcpcore_connection_timeout has to be called, or what a policy or a recovery made wait is to be emitted, if nothing else
- * happens before; TCPCORE_NEVER where no timer runs and nothing waits. It may have passed: then emit, and call it now. A later call has all
- * that was sent go out again later.
+ * Reports when tcpcore_connection_timeout has to be called, or what a policy, a recovery or pacing made wait is to be emitted, or a
+ * keep-alive, if nothing else happens before; TCPCORE_NEVER where no timer runs, nothing waits and the peer isn't to be asked. It may have
+ * passed: then emit, and call it now. A later call has all that was sent go out again later.
  *   DONE; NO_END; NULL; OVERLAP; COPIED.
  */
 uint32_t tcpcore_connection_poll_at(const tcpcore_connection *connection, uint64_t *at);
 
 /*
  * It is `now`: if a timer has expired its rule is applied (RFC 9293, 3.10.8), and *timer is which, TCPCORE_TIMER_RETRANSMIT to
- * TCPCORE_TIMER_USER. After TCPCORE_TIMER_USER the connection is aborted. From an expiry on no segment is taken, and no other timer
- * expires, until tcpcore_connection_emit or tcpcore_connection_emit_train answers TCPCORE_NOT_DUE: what was due at the expiry goes out
- * first.
+ * TCPCORE_TIMER_USER. After TCPCORE_TIMER_USER the connection is aborted. From an expiry on, but that of keep-alives, no segment is taken,
+ * and no other timer expires, until tcpcore_connection_emit or tcpcore_connection_emit_train answers TCPCORE_NOT_DUE: what was due at the
+ * expiry goes out first.
  *   DONE: emit. NOT_DUE: none has expired. NO_END; NULL; OVERLAP; COPIED.
  */
 uint32_t tcpcore_connection_timeout(tcpcore_connection *connection, uint64_t now, uint32_t *timer);
@@ -1149,7 +1174,7 @@ uint32_t tcpcore_connection_arrive_vouched(tcpcore_connection *connection, uint6
  * past SND.UNA waits, unless nothing before it is in flight: `window` is that of the caller's own congestion control (RFC 5681, 3.1), and
  * UINT64_MAX holds nothing back. So does what ends past the congestion window that was chosen, if one was, and the segments that RFC 3042
  * lets out beyond it. A pending acknowledgement goes out alone where what is due waits, and before anything that is sent
- * again.
+ * again. A keep-alive goes out behind all else. New text of a paced connection waits for its portion, too.
  *   DONE: it takes the first segment->length bytes of `out`, and is for address segment->to; more may be due. What lies behind it in
  *   `out` stays. NOT_DUE: none may go out. ROOM: `room` is below TCPCORE_EMIT_ROOM. NO_END; NULL; LENGTH; OVERLAP; COPIED.
  */
@@ -1283,6 +1308,38 @@ uint32_t tcpcore_connection_set_policy(tcpcore_connection *connection, const str
 uint32_t tcpcore_connection_set_recovery(tcpcore_connection *connection, uint64_t now, void *block, size_t length);
 
 /*
+ * From `now` on a silent peer is asked whether it is there, by keep-alives (RFC 9293, 3.8.4): never where this isn't called. It is asked
+ * where nothing was heard of it for `idle`, and again an `interval` behind each keep-alive. With `most` of them unanswered it is given up
+ * an interval behind the last: tcpcore_connection_timeout reports TCPCORE_TIMER_USER, the connection is aborted, and its reset is due. A
+ * keep-alive is an acknowledgement alone whose SEG.SEQ is SND.NXT - 1, which each peer answers and none takes. It goes out by an emission,
+ * where nothing else does; tcpcore_connection_poll_at has its time.
+ *   The peer is heard by each segment that is taken, one without text, too, and by none that is passed over: an unacceptable one may be
+ * anybody's (RFC 9293, 3.10.7.4, first). It is asked in ESTABLISHED and CLOSE-WAIT alone, while all that was sent is acknowledged and
+ * nothing waits to be sent. Else what is sent asks already, and the user timeout gives up who doesn't answer.
+ *   It may be called in any phase, and again: silence counts from `now` on, and no keep-alive counts as unanswered. An `idle` of 0 turns
+ * keep-alives off. No time counts as less than a second, and `most` not as less than 2: one keep-alive that is lost is no dead connection
+ * (RFC 9293, 3.8.4). Silence is counted by the times of the calls as they are, also where one goes back. *rules is read and not kept. Of
+ * version 21.
+ *   DONE; NO_END; NULL; COPIED.
+ */
+uint32_t tcpcore_connection_set_keep_alive(tcpcore_connection *connection, uint64_t now, const struct tcpcore_keep_alive *rules);
+
+/*
+ * Has new text go out spread over a round trip, so that no queue on the path has to take a window at once (RFC 9002, 7.7), or, where
+ * `is_paced` is 0, as soon as the windows let it out, which is so where this isn't called.
+ *   It goes out in portions. One is as many whole segments as go out in 1 ms at the rate 1.25 * cwnd / SRTT, in slow start 2 * cwnd / SRTT,
+ * and at least two; the next begins where it is over at that rate. Idle time earns no more than one portion. What is sent again doesn't
+ * wait, nor does a FIN that no text waits before, nor a segment before which nothing is in flight. Until a round trip is measured nothing is
+ * paced, and without a congestion window (tcpcore_connection_set_congestion) practically nothing waits.
+ *   Where text waits for its portion an emission answers NOT_DUE, and tcpcore_connection_poll_at is when the next one begins: emit then,
+ * whatever tcpcore_connection_timeout answers. So who paces waits by a timer that is finer than a portion takes, which is often a
+ * millisecond or less: by a coarser one text goes out more slowly than the window has it, one portion for each call. It may be called at
+ * any time, and again. Of version 21.
+ *   DONE; NO_END; NULL; COPIED.
+ */
+uint32_t tcpcore_connection_set_pacing(tcpcore_connection *connection, uint32_t is_paced);
+
+/*
  * HOSTS
  *   A host has many connections under one object, listeners, and what is left of connections in TIME-WAIT. It finds whose a segment is by
  *   its four values (RFC 9293, 3.3.1 and 3.10.7), whose turn it is to send, and who is due first, each by steps that go by the logarithm of
@@ -1294,8 +1351,9 @@ uint32_t tcpcore_connection_set_recovery(tcpcore_connection *connection, uint64_
  *   library define it, or TCPCORE_PORTABLE, which says that there are none, for the program; pkg-config does.
  *
  *   1. Make it: tcpcore_host_new, in a block of TCPCORE_HOST_MEMORY bytes for its tables. Have it listen: tcpcore_host_listen.
- *   2. To connect make a connection by tcpcore_connection_connect in a block of its own, choose its congestion window, its recovery and its
- *      policy, and move it in: tcpcore_host_open. It has a name then, and its struct is empty; its block stays its own.
+ *   2. To connect make a connection by tcpcore_connection_connect in a block of its own, choose its congestion window, its recovery, its
+ *      policy, its keep-alives and its pacing, and move it in: tcpcore_host_open. It has a name then, and its struct is empty; its block
+ *      stays its own.
  *   3. Wait for a segment, or until the time of tcpcore_host_poll_at. Hand each segment to tcpcore_host_arrive, and go by `place`:
  *      - TCPCORE_PLACE_LISTENER: make a connection by tcpcore_connection_listen with the segment's destination, move it in by
  *        tcpcore_host_admit, and hand the segment in again. Where that isn't TCPCORE_DONE the segment has a fault, and the connection still
@@ -1541,11 +1599,14 @@ uint32_t tcpcore_host_peer(const tcpcore_host *host, const struct tcpcore_host_i
 
 /*
  * What is chosen of a connection while it is in the host, and what its caller has sent again, by its name: each as the call of
- * tcpcore_connection_.. Of version 20.
+ * tcpcore_connection_.. Of version 20, but set_keep_alive and set_pacing, of version 21.
  *   As those; GONE: the connection of this name is.
  */
 uint32_t tcpcore_host_set_policy(tcpcore_host *host, const struct tcpcore_host_id *id, const struct tcpcore_policy *policy);
 uint32_t tcpcore_host_set_user_timeout(tcpcore_host *host, const struct tcpcore_host_id *id, uint64_t limit);
+uint32_t tcpcore_host_set_keep_alive(tcpcore_host *host, uint64_t now, const struct tcpcore_host_id *id,
+                                     const struct tcpcore_keep_alive *rules);
+uint32_t tcpcore_host_set_pacing(tcpcore_host *host, const struct tcpcore_host_id *id, uint32_t is_paced);
 uint32_t tcpcore_host_resend_first(tcpcore_host *host, uint64_t now, const struct tcpcore_host_id *id);
 uint32_t tcpcore_host_resend(tcpcore_host *host, uint64_t now, const struct tcpcore_host_id *id, uint64_t from, uint64_t to);
 #endif
