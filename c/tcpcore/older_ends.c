@@ -8,16 +8,16 @@
  *
  * Since version 16 a connection has a congestion window, which takes 160 bytes whether one is chosen or not: a connection of an older version
  * that doesn't fit keeps fewer runs, and one for which as few were asked doesn't fit at all. Since version 17 it has a policy, which takes POLICY
- * bytes more in the same way, and since version 18 RECOVERY bytes, by which it knows the memory of its recovery. Programs that are built now
- * call what is in the node of version 18.
+ * bytes more in the same way, since version 18 RECOVERY bytes, by which it knows the memory of its recovery, and since version 21 ASKING bytes
+ * for its keep-alives and its pacing. Programs that are built now call what is in the node of version 21.
  */
 #include "tcpcore.h"
 
 /* What an end takes beside its buffers and tables, with the bytes for a block of any alignment. */
 enum { BESIDE = 416 + 15 };
 
-/* What a connection's congestion window takes, what its policy does, and what it has of its recovery. */
-enum { WINDOW = 160, POLICY = 208, RECOVERY = 48 };
+/* What a connection's congestion window takes, what its policy does, what it has of its recovery, and its keep-alives and its pacing. */
+enum { WINDOW = 160, POLICY = 208, RECOVERY = 48, ASKING = 80 };
 
 /* What the tables of such an end take, and what they took in version 10, and up to version 13 with so many runs. */
 #define TABLES(runs) (TCPCORE_MEMORY_RUNS(0, 0, runs) - BESIDE)
@@ -60,8 +60,8 @@ static uint16_t runs_of(const tcpcore_config *config)
     return config->runs == 0 ? TCPCORE_RUNS : config->runs;
 }
 
-/* The config of a program of the versions 11 to 13, for an end and for a connection; and for a connection of the versions 14 and 15, 16, and
-   17. */
+/* The config of a program of the versions 11 to 13, for an end and for a connection; and for a connection of the versions 14 and 15, 16, 17,
+   and 18 to 20. */
 static const tcpcore_config *of_11(const tcpcore_config *config, tcpcore_config *found)
 {
     return with_fewer(config, TABLES_OF_11(runs_of(config)), 0, found);
@@ -69,22 +69,27 @@ static const tcpcore_config *of_11(const tcpcore_config *config, tcpcore_config 
 
 static const tcpcore_config *connection_of_11(const tcpcore_config *config, tcpcore_config *found)
 {
-    return with_fewer(config, TABLES_OF_11(runs_of(config)), WINDOW + POLICY + RECOVERY, found);
+    return with_fewer(config, TABLES_OF_11(runs_of(config)), WINDOW + POLICY + RECOVERY + ASKING, found);
 }
 
 static const tcpcore_config *connection_of_14(const tcpcore_config *config, tcpcore_config *found)
 {
-    return with_fewer(config, TABLES(runs_of(config)), WINDOW + POLICY + RECOVERY, found);
+    return with_fewer(config, TABLES(runs_of(config)), WINDOW + POLICY + RECOVERY + ASKING, found);
 }
 
 static const tcpcore_config *connection_of_16(const tcpcore_config *config, tcpcore_config *found)
 {
-    return with_fewer(config, TABLES(runs_of(config)), POLICY + RECOVERY, found);
+    return with_fewer(config, TABLES(runs_of(config)), POLICY + RECOVERY + ASKING, found);
 }
 
 static const tcpcore_config *connection_of_17(const tcpcore_config *config, tcpcore_config *found)
 {
-    return with_fewer(config, TABLES(runs_of(config)), RECOVERY, found);
+    return with_fewer(config, TABLES(runs_of(config)), RECOVERY + ASKING, found);
+}
+
+static const tcpcore_config *connection_of_18(const tcpcore_config *config, tcpcore_config *found)
+{
+    return with_fewer(config, TABLES(runs_of(config)), ASKING, found);
 }
 
 uint32_t new_of_10(tcpcore_end *end, const tcpcore_config *config, void *block, size_t length);
@@ -107,6 +112,10 @@ uint32_t listen_of_16(tcpcore_connection *connection, const tcpcore_config *conf
 uint32_t connect_of_17(tcpcore_connection *connection, const tcpcore_config *config, const struct tcpcore_connection_rules *rules,
                        tcpcore_addr addr, uint16_t port, uint64_t now, void *block, size_t length);
 uint32_t listen_of_17(tcpcore_connection *connection, const tcpcore_config *config, const struct tcpcore_connection_rules *rules,
+                      uint64_t now, void *block, size_t length);
+uint32_t connect_of_18(tcpcore_connection *connection, const tcpcore_config *config, const struct tcpcore_connection_rules *rules,
+                       tcpcore_addr addr, uint16_t port, uint64_t now, void *block, size_t length);
+uint32_t listen_of_18(tcpcore_connection *connection, const tcpcore_config *config, const struct tcpcore_connection_rules *rules,
                       uint64_t now, void *block, size_t length);
 
 __asm__(".symver new_of_10, tcpcore_new@TCPCORE_4");
@@ -216,4 +225,22 @@ uint32_t listen_of_17(tcpcore_connection *connection, const tcpcore_config *conf
     tcpcore_config found;
     uint32_t answer = tcpcore_connection_listen(connection, config, rules, now, block, length);
     return answer == TCPCORE_NO_MEMORY ? tcpcore_connection_listen(connection, connection_of_17(config, &found), rules, now, block, length) : answer;
+}
+
+__asm__(".symver connect_of_18, tcpcore_connection_connect@TCPCORE_18");
+uint32_t connect_of_18(tcpcore_connection *connection, const tcpcore_config *config, const struct tcpcore_connection_rules *rules,
+                       tcpcore_addr addr, uint16_t port, uint64_t now, void *block, size_t length)
+{
+    tcpcore_config found;
+    uint32_t answer = tcpcore_connection_connect(connection, config, rules, addr, port, now, block, length);
+    return answer == TCPCORE_NO_MEMORY ? tcpcore_connection_connect(connection, connection_of_18(config, &found), rules, addr, port, now, block, length) : answer;
+}
+
+__asm__(".symver listen_of_18, tcpcore_connection_listen@TCPCORE_18");
+uint32_t listen_of_18(tcpcore_connection *connection, const tcpcore_config *config, const struct tcpcore_connection_rules *rules,
+                      uint64_t now, void *block, size_t length)
+{
+    tcpcore_config found;
+    uint32_t answer = tcpcore_connection_listen(connection, config, rules, now, block, length);
+    return answer == TCPCORE_NO_MEMORY ? tcpcore_connection_listen(connection, connection_of_18(config, &found), rules, now, block, length) : answer;
 }

@@ -59,7 +59,8 @@ runs_well() {
 }
 runs_well older/padding.c
 runs_well older/runs.c
-runs_well -DOF=14 -DTOOK=720 -DFEWEST=19 older/connections.c
-runs_well -DOF=16 -DTOOK=880 -DFEWEST=12 older/connections.c
-runs_well -DOF=17 -DTOOK=1088 -DFEWEST=3 older/connections.c
+runs_well -DOF=14 -DTOOK=720 -DFEWEST=22 older/connections.c
+runs_well -DOF=16 -DTOOK=880 -DFEWEST=15 older/connections.c
+runs_well -DOF=17 -DTOOK=1088 -DFEWEST=7 older/connections.c
+runs_well -DOF=18 -DTOOK=1136 -DFEWEST=5 older/connections.c
 echo "older: $passed passed"

@@ -1,7 +1,7 @@
 /*
- * Connections as a program of version 14, 16 or 17 makes them, in blocks as large as its header said: each is made, but where fewer than
- * FEWEST runs were asked for, whose tables have no place for what a connection has since (the congestion window, the policy, and what it has of
- * a recovery) and a run; and each in a block as large as tcpcore_connection_room tells. OF is the version, and TOOK what a connection took then.
+ * Connections as a program of version 14, 16, 17 or 18 makes them, in blocks as large as its header said: each is made, but where fewer than
+ * FEWEST runs were asked for, whose tables have no place for what a connection has since (the congestion window, the policy, what it has of
+ * a recovery, keep-alives and pacing) and a run; and each in a block as large as tcpcore_connection_room tells. OF is the version, and TOOK what a connection took then.
  */
 #include "tcpcore.h"
 

@@ -14,7 +14,7 @@ __asm__(".symver tcpcore_connection_listen, tcpcore_connection_listen@TCPCORE_11
 __asm__(".symver tcpcore_connection_room, tcpcore_connection_room@TCPCORE_11");
 
 /* Below as many runs the tables of version 13 have no place for the window, the policy, the recovery and a run. */
-enum { FEWEST = 29 };
+enum { FEWEST = 33 };
 
 /* TCPCORE_MEMORY_RUNS and TCPCORE_CONNECTION_MEMORY_RUNS of version 13. */
 #define MEMORY_OF_13(send, receive, runs) \
