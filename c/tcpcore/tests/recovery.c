@@ -131,6 +131,51 @@ static void overtaking_is_no_loss(void)
     free_both();
 }
 
+/*
+ * Round trips have become shorter, since a queue has drained: what was sent before is waited for by so much longer, for a window at most. Of
+ * two segments the first takes `longest`, and a third, which goes out `later`, `shorter`. The second comes just before it would be lost, or
+ * is lost.
+ */
+static void a_queue_has_drained(uint64_t longest, uint64_t later, uint64_t shorter, uint64_t window)
+{
+    uint64_t due = NOW + shorter + window, came = NOW + later + shorter;
+    for (int is_lost = 0; is_lost < 2; is_lost++) {
+        begin(1, TCPCORE_CONGESTION_NONE);
+        sends(NOW, 2);
+        struct flight late = flying;
+        comes(0, NOW + longest / 2);
+        flying.count = 0;
+        sends(NOW + later, 1);
+        answered(NOW + longest);
+        comes(0, came - shorter / 2);
+        flying.count = 0;
+        answered(came);
+        rests(came);
+        CHECK(poll_at(), due);
+        rests(due - 1);
+        if (is_lost) {
+            again(due, FULL, FULL);
+            trip(due, 0);
+        } else {
+            flying = late;
+            comes(1, due - TRIP / 2);
+            flying.count = 0;
+            answered(due - 1);
+        }
+        is_over(3 * FULL);
+        /* A trip later that is forgotten. */
+        uint64_t now = NOW + SECOND;
+        sends(now, 3);
+        trip(now, 1 << 1);
+        rests(now + TRIP);
+        CHECK(poll_at(), now + TRIP + WINDOW);
+        again(now + TRIP + WINDOW, FULL + 3 * FULL, FULL);
+        trip(now + TRIP + WINDOW, 0);
+        is_over(6 * FULL);
+        free_both();
+    }
+}
+
 static void without_blocks(void)
 {
     /* A single segment: as with blocks. */
@@ -341,6 +386,8 @@ int main(void)
     losses_in_the_middle();
     losses_at_the_end();
     overtaking_is_no_loss();
+    a_queue_has_drained(130 * MS, 20 * MS, 115 * MS, WINDOW + 15 * MS);
+    a_queue_has_drained(190 * MS, 40 * MS, 155 * MS, 2 * WINDOW);
     without_blocks();
     behind_the_syn();
     too_late();

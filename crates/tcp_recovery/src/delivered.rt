@@ -5,7 +5,7 @@ ghost use Rattle.tcp_recovery.specs.Stretches.{AreInOrder, between};
 use crate::stretch::Stretch;
 
 /// No reordering window is longer than so many quarters of a round trip: the project's own choice.
-const MAX_MULT: u64 = 64;
+const MAX_MULT: u8 = 64;
 
 /// What deliveries have told (RFC 8985, 5.3). Positions and times are those of [`Rack`](crate::Rack).
 #[derive(Clone, Copy, Debug, PartialEq, Eq)]
@@ -24,9 +24,9 @@ pub struct Delivered {
     /// sent again came too soon to be that, the project's own addition.
     pub reordering_seen: bool,
     /// RACK.reo_wnd_mult: how many quarters of the least round trip the window has, 64 at most.
-    pub reo_wnd_mult: u64,
+    pub reo_wnd_mult: u8,
     /// RACK.reo_wnd_persist: for how many recoveries it keeps so many.
-    pub reo_wnd_persist: u64,
+    pub reo_wnd_persist: u8,
     /// In place of RACK.dsack_round: a needless resend of what is before this position is known already.
     pub round: u64,
 }
@@ -175,6 +175,6 @@ impl Delivered {
         if !self.reordering_seen && is_certain {
             return 0;
         }
-        srtt.min(self.reo_wnd_mult.saturating_mul(min_rtt) / 4)
+        srtt.min(u64::from(self.reo_wnd_mult).saturating_mul(min_rtt) / 4)
     }
 }

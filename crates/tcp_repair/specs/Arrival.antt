@@ -8,8 +8,9 @@ use Rattle.tcp_recovery.specs.Stretches.{behind, first_of}
 use Rattle.tcp_repair.specs.declared.seen.Seen.{Seen}
 use Rattle.tcp_repair.specs.declared.seen.Told.{Told}
 use Rattle.tcp_repair.specs.declared.trips.LeastTrip.{LeastTrip}
+use Rattle.tcp_repair.specs.declared.trips.LongestTrip.{LongestTrip}
 use Rattle.tcp_repair.specs.Recovery.{Repair, min_rtt_of, with_probe, with_probe_stopped}
-use Rattle.tcp_repair.specs.Trips.{after_trip}
+use Rattle.tcp_repair.specs.Trips.{after_long_trip, after_trip}
 
 -- ---- STEP 2: what is newly acknowledged (RFC 8985, 6.2), where SND.UNA has moved
 abbrev pub has_moved : Told → Seen → Bool
@@ -58,10 +59,17 @@ has_told before after = not ((after.xmit_ts == before.xmit_ts) && (after.end_seq
 abbrev pub trips_after : LeastTrip → ℕ → ℕ → LeastTrip
 trips_after t rtt now = if nat_lt 0 rtt then after_trip t rtt now else t
 
+abbrev pub longest_after : LongestTrip → ℕ → ℕ → LongestTrip
+longest_after l rtt now = if nat_lt 0 rtt then after_long_trip l rtt now else l
+
 abbrev pub with_trip : Repair → Delivered → Repair
 with_trip r before =
     if has_told before r.rack.delivered
-    then record r { trips = trips_after r.trips r.rack.delivered.rtt r.clock; probe = after_measurement r.probe }
+    then record r {
+      trips = trips_after r.trips r.rack.delivered.rtt r.clock;
+      longest = longest_after r.longest r.rack.delivered.rtt r.clock;
+      probe = after_measurement r.probe;
+    }
     else r
 
 -- the congestion window is told of it, too

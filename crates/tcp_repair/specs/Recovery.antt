@@ -1,10 +1,10 @@
 -- LOSS RECOVERY BY TIME (RFC 8985): what it keeps, and what it does with that.
-use Rattle.std.specs.Prelude.{ℕ, ◌-◌, Bool, false, true, not, ◌&&◌, ◌||◌, ◌==◌, if◌then◌else◌, nat_lt, nat_le, Option, Some, None, is_some, max, min, unwrap_or}
+use Rattle.std.specs.Prelude.{ℕ, ◌+◌, ◌-◌, Bool, false, true, not, ◌&&◌, ◌||◌, ◌==◌, if◌then◌else◌, nat_lt, nat_le, Option, Some, None, is_some, max, min, unwrap_or}
 use Rattle.tcp_driver.specs.declared.machine.Timer.{Timer}
 use Rattle.tcp_driver.specs.declared.machine.Timer.TheVariants.{Retransmit, Reorder}
 use Rattle.tcp_driver.specs.Deadlines.{last}
 use Rattle.tcp_recovery.specs.declared.probe.Probe.{Probe}
-use Rattle.tcp_recovery.specs.Delivered.{reo_wnd_of}
+use Rattle.tcp_recovery.specs.Delivered.{greatest, reo_wnd_of}
 use Rattle.tcp_recovery.specs.Probe.{after_loss, after_probe, after_start, new_probe, without_probe}
 use Rattle.tcp_flow.specs.declared.loss.Loss.{Loss}
 use Rattle.tcp_flow.specs.declared.loss.Loss.TheVariants.{Again, Found}
@@ -12,7 +12,8 @@ use Rattle.tcp_recovery.specs.Stretches.{behind, resent_of}
 use Rattle.tcp_recovery.specs.Rack.{Flight, after_sent, after_settled, lost_in, new_flight}
 use Rattle.tcp_repair.specs.declared.seen.Seen.{Seen}
 use Rattle.tcp_repair.specs.declared.trips.LeastTrip.{LeastTrip}
-use Rattle.tcp_repair.specs.Trips.{least_of, no_trips}
+use Rattle.tcp_repair.specs.declared.trips.LongestTrip.{LongestTrip}
+use Rattle.tcp_repair.specs.Trips.{least_of, no_long_trip, no_trips}
 
 pub record Repair : Type 0 where
   -- what is in flight and when it was sent, and what deliveries have told (RFC 8985, 5.2 and 5.3)
@@ -21,6 +22,8 @@ pub record Repair : Type 0 where
   pub probe : Probe
   -- RACK.min_RTT
   pub trips : LeastTrip
+  -- and the longest round trip of late
+  pub longest : LongestTrip
   -- while a loss is being repaired: SND.NXT when it was found
   pub recover : Option ℕ
   -- when the congestion window was told of a loss last
@@ -30,7 +33,7 @@ pub record Repair : Type 0 where
 
 -- it begins with nothing sent, and at the first time there is: 0 stands for one that isn't known
 abbrev pub new_repair : Repair
-new_repair = record { rack = new_flight; probe = new_probe; trips = no_trips; recover = None; shrunk = 0; clock = 1 }
+new_repair = record { rack = new_flight; probe = new_probe; trips = no_trips; longest = no_long_trip; recover = None; shrunk = 0; clock = 1 }
 
 -- THE TIME OF A CALL: it never goes back, and stands still at the last one
 abbrev pub clock_at : Repair → ℕ → ℕ
@@ -111,12 +114,19 @@ after_expiry r s timer = if is_loss timer && nat_lt s.una s.nxt then timed_out r
 
 -- THE REORDERING WINDOW (RFC 8985, 6.2, step 4). No loss is certain, however many came behind it or whatever is being repaired (own: the
 -- standard has no window then, as long as no reordering was seen, so that the first segments that overtake each other shrink the
--- congestion window). Before a round trip was measured it is of RACK.rtt. With RACK.rtt it is a microsecond at least, so that nothing is
--- lost at the time at which it is sent (own)
+-- congestion window). Before a round trip was measured it is of RACK.rtt
+abbrev pub reordering_of : Repair → Seen → ℕ
+reordering_of r s =
+    reo_wnd_of r.rack.delivered (unwrap_or s.srtt r.rack.delivered.rtt) (unwrap_or (least_of r.trips) r.rack.delivered.rtt) false
+
+-- WHERE A QUEUE HAS JUST DRAINED RACK.rtt, of what was delivered last, is shorter than what was sent before takes: so the window is longer
+-- by as much as a round trip of late was, up to twice as long (own)
+abbrev pub drained_of : Repair → ℕ
+drained_of r = r.longest.trip - r.rack.delivered.rtt
+
+-- and with RACK.rtt it is a microsecond at least, so that nothing is lost at the time at which it is sent (own)
 abbrev pub window_of : Repair → Seen → ℕ
-window_of r s =
-    max (1 - r.rack.delivered.rtt)
-    (reo_wnd_of r.rack.delivered (unwrap_or s.srtt r.rack.delivered.rtt) (unwrap_or (least_of r.trips) r.rack.delivered.rtt) false)
+window_of r s = max (1 - r.rack.delivered.rtt) (min greatest (reordering_of r s + min (reordering_of r s) (drained_of r)))
 
 -- WHAT IS LOST at a time (RFC 8985, 6.2, step 5) is looked for where blocks report a gap, or a loss is being repaired: else all
 -- that is in flight was sent behind all that was delivered

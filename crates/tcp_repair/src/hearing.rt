@@ -196,6 +196,7 @@ impl Recovery {
         let trip = trip_since(before, after);
         if let Some(rtt) = trip {
             self.trips.measured(rtt, self.timed.clock());
+            self.longest.measured(rtt, self.timed.clock());
         }
         trip
     }

@@ -3,8 +3,8 @@
 //!
 //! - [`Repairing`]: a [`Connection`](tcp_connection::Connection), with or without a recovery. Without one each call is the
 //!   connection's.
-//! - [`Recovery`]: what was sent when, what of it is lost, and when a probe goes out; [`LeastTrip`] is the least round trip of
-//!   late.
+//! - [`Recovery`]: what was sent when, what of it is lost, and when a probe goes out; [`LeastTrip`] and [`LongestTrip`] are
+//!   the least and the longest round trip of late.
 //! - [`Reporting`]: what it asks of an end for that.
 //! - [`laws`]: what follows, whatever the end and the window are and whatever is called.
 //!
@@ -32,4 +32,4 @@ mod wired;
 pub use recovery::Recovery;
 pub use repairing::Repairing;
 pub use reporting::Reporting;
-pub use trips::LeastTrip;
+pub use trips::{LeastTrip, LongestTrip};

@@ -5,7 +5,7 @@ ghost use Rattle.tcp_repair.specs.Recovery.{is_loss, may_probe};
 
 use crate::seen::Seen;
 use crate::timed::Timed;
-use crate::trips::LeastTrip;
+use crate::trips::{LeastTrip, LongestTrip};
 use std::marker::Model;
 use tcp_driver::Timer;
 use tcp_flow::Loss;
@@ -19,6 +19,7 @@ pub struct Recovery {
     pub(crate) timed: Timed,
     pub(crate) probe: Probe,
     pub(crate) trips: LeastTrip,
+    pub(crate) longest: LongestTrip,
     /// SND.NXT when a loss was found that isn't repaired yet.
     pub(crate) recover: Option<u64>,
     /// When the congestion window was told of a loss last.
@@ -30,7 +31,7 @@ impl Model for Recovery {
 
     ghost Value = { Repair };
 
-    ghost view = { λ r. record { rack = r.timed.rack; probe = r.probe; trips = r.trips; recover = r.recover; shrunk = r.shrunk; clock = r.timed.clock } };
+    ghost view = { λ r. record { rack = r.timed.rack; probe = r.probe; trips = r.trips; longest = r.longest; recover = r.recover; shrunk = r.shrunk; clock = r.timed.clock } };
 }
 
 /// Whether a probe may wait (RFC 8985, 7.2).
@@ -48,7 +49,7 @@ fn is_loss(timer: Option<Timer>) -> bool
 }
 
 impl Recovery {
-    ghost use Rattle.tcp_repair.specs.Recovery.{after_expiry, at_time, begun, clock_at, is_looking, is_second, loss_at, lost_at, min_rtt_of, new_repair, recovering, sent_between, started, timed_out, window_of, with_probe, with_probe_stopped};
+    ghost use Rattle.tcp_repair.specs.Recovery.{after_expiry, at_time, begun, clock_at, is_looking, is_second, loss_at, lost_at, min_rtt_of, new_repair, recovering, reordering_of, sent_between, started, timed_out, window_of, with_probe, with_probe_stopped};
 
     /// Nothing was sent yet.
     pub fn new() -> Recovery
@@ -58,6 +59,7 @@ impl Recovery {
             timed: Timed::new(),
             probe: Probe::new(),
             trips: LeastTrip::new(),
+            longest: LongestTrip::new(),
             recover: None,
             shrunk: 0,
         }
@@ -85,6 +87,14 @@ impl Recovery {
         ensures { result ≡ self.now.trips }
     {
         self.trips
+    }
+
+    /// The longest round trip of late.
+    #[must_use]
+    pub fn longest(&self) -> LongestTrip
+        ensures { result ≡ self.now.longest }
+    {
+        self.longest
     }
 
     /// Whether a loss is being repaired: SND.NXT when it was found, as a position.
@@ -196,16 +206,27 @@ impl Recovery {
     }
 
     /// RACK.reo_wnd (RFC 8985, 6.2, step 4), of which a loss is never certain.
+    fn reordering(&self, seen: Seen) -> u64
+        ensures { result ≡ reordering_of self.now seen }
+    {
+        let rtt = self.timed.rack().delivered().rtt;
+        self.timed.rack().reo_wnd(
+            seen.srtt.unwrap_or(rtt),
+            self.trips.least().unwrap_or(rtt),
+            false,
+        )
+    }
+
+    /// The window for reordering, which is longer where round trips have just become shorter.
     pub(crate) fn window(&self, seen: Seen) -> u64
         ensures { result ≡ window_of self.now seen }
     {
         let rtt = self.timed.rack().delivered().rtt;
-        let window = self.timed.rack().reo_wnd(
-            seen.srtt.unwrap_or(rtt),
-            self.trips.least().unwrap_or(rtt),
-            false,
-        );
-        window.max(1_u64.saturating_sub(rtt))
+        let reordering = self.reordering(seen);
+        let drained = self.longest.trip.saturating_sub(rtt);
+        reordering
+            .saturating_add(reordering.min(drained))
+            .max(1_u64.saturating_sub(rtt))
     }
 
     /// Whether what is lost is looked for.

@@ -1,6 +1,6 @@
 ghost use Rattle.std.specs.Prelude.{◌≡◌};
 ghost use Rattle.tcp_driver.specs.Deadlines.{earlier};
-ghost use Rattle.tcp_repair.specs.Trips.{after_span, after_trip, least_of, no_trips};
+ghost use Rattle.tcp_repair.specs.Trips.{after_long_trip, after_span, after_trip, least_of, no_long_trip, no_trips};
 
 /// How long a span is, in microseconds: 300 s, the project's own choice.
 const SPAN: u64 = 300_000_000;
@@ -63,6 +63,34 @@ impl LeastTrip {
     {
         let LeastTrip { least, before, .. } = *self;
         earlier(least, before)
+    }
+}
+
+/// The longest round trip of late: of those that were measured within as long as it took the greatest, the project's own. Where round
+/// trips have just become shorter, since a queue has drained, what was sent before may still take so long. All is in microseconds.
+#[derive(Clone, Copy, Debug, PartialEq, Eq)]
+pub struct LongestTrip {
+    /// How long it took: 0 before one was measured.
+    pub trip: u64,
+    /// When it was measured.
+    pub at: u64,
+}
+
+impl LongestTrip {
+    /// None was measured yet.
+    pub fn new() -> LongestTrip
+        ensures { result ≡ no_long_trip }
+    {
+        LongestTrip { trip: 0, at: 0 }
+    }
+
+    /// A round trip was measured.
+    pub fn measured(&mut self, trip: u64, now: u64)
+        ensures { self.new ≡ after_long_trip self.old trip now }
+    {
+        if self.trip <= trip || self.trip < now.saturating_sub(self.at) {
+            *self = LongestTrip { trip, at: now };
+        }
     }
 }
 

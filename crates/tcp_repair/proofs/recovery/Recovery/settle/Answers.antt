@@ -26,6 +26,7 @@ loop-preserved g c =
       rack = t.rack;
       probe = c.self.inside.probe;
       trips = c.self.inside.trips;
+      longest = c.self.inside.longest;
       recover = c.self.inside.recover;
       shrunk = c.self.inside.shrunk;
       clock = t.clock;
