@@ -245,10 +245,10 @@ class Connection(Held):
         self.ask("set_keep_alive", microseconds(now), told)
 
     def set_pacing(self, is_paced: bool = True) -> None:
-        """Has new text go out spread over a round trip, in portions of as many whole segments as go out in a millisecond, two at least, at
-        1.25, in slow start 2, congestion windows a round trip (RFC 9002, 7.7); or with False at once, as a connection begins. What is sent
-        again doesn't wait, and without a congestion window practically nothing does. Where text waits for its portion `poll_at` is when the
-        next one begins: emit then. A program that paces has to wait by a fine timer."""
+        """Has new text go out spread over a round trip, in portions of as many whole segments as go out in a millisecond at 1.25, in slow
+        start 2, congestion windows a round trip, or as the window has, up to ten, where those are more, and two at least (RFC 9002, 7.7); or
+        with False at once, as a connection begins. What is sent again doesn't wait, and without a congestion window practically nothing does.
+        Where text waits for its portion `poll_at` is when the next one begins: emit then. A program that paces has to wait by a fine timer."""
         self.ask("set_pacing", int(bool(is_paced)))
 
     def resend_first(self, now: float) -> bool:

@@ -541,34 +541,48 @@ static void keep_alives()
     CHECK(!b.poll_at());
 }
 
-// RFC 9002, 7.7: with a round trip of 100 ms and a first window of ten segments of 1,000 bytes 200 bytes a millisecond go out in slow start: two
-// segments each 10 ms. By default all goes out at once.
+// RFC 9002, 7.7: with a round trip of 100 ms and a window of 13 segments of 100 bytes 26 bytes a millisecond go out in slow start: ten segments
+// in 38 6/13 ms. By default all goes out at once. The first window is ten segments (RFC 6928, 2), and one acknowledgement of each window adds
+// another (RFC 5681, 3.1).
 static void paced_text()
 {
     using namespace std::chrono_literals;
     tcpcore::connection::time now(5s);
-    tcpcore::connection a = tcpcore::connection::connect(config(A, 7), tcpcore::default_rules(), B, 7, now);
-    tcpcore::connection b = tcpcore::connection::listen(config(B, 7), tcpcore::default_rules(), now);
-    unsigned char out[TCPCORE_EMIT_ROOM], text[4000] = {};
+    tcpcore_config configs[2] = {config(A, 7), config(B, 7)};
+    configs[0].mss = configs[1].mss = 100;
+    tcpcore::connection a = tcpcore::connection::connect(configs[0], tcpcore::default_rules(), B, 7, now);
+    tcpcore::connection b = tcpcore::connection::listen(configs[1], tcpcore::default_rules(), now);
+    unsigned char out[TCPCORE_EMIT_ROOM], text[1300] = {};
     CHECK(a.set_congestion(TCPCORE_CONGESTION_CUBIC));
     CHECK(b.arrive(now, A, B, out, a.emit(now, out).length).first == TCPCORE_DONE);
     now += 100ms;
     CHECK(a.arrive(now, B, A, out, b.emit(now, out).length).first == TCPCORE_DONE);
     CHECK(b.arrive(now, A, B, out, a.emit(now, out).length).first == TCPCORE_DONE);
     auto sent = [&] {
-        int count = 0;
-        while (a.emit(now, out).length > 0) count++;
+        std::size_t count = 0;
+        for (std::size_t length; (length = a.emit(now, out).length) > 0; count++)
+            CHECK(b.arrive(now, A, B, out, length).first == TCPCORE_DONE);
         return count;
     };
+    auto answered = [&] {
+        now += 100ms;
+        CHECK(a.arrive(now, B, A, out, b.emit(now, out).length).first == TCPCORE_DONE);
+    };
+    CHECK(a.send(now, text, 1000) == 1000 && sent() == 10);
+    answered();
+    CHECK(a.send(now, text, 1100) == 1100 && sent() == 11);
+    answered();
     a.set_pacing(true);
-    CHECK(a.send(now, text, 4000) == 4000 && sent() == 2 && a.poll_at() == now + 10ms);
-    now += 10ms - 1us;
+    CHECK(a.send(now, text, 1200) == 1200 && sent() == 10);
+    a.set_pacing(false);
+    CHECK(sent() == 2);
+    answered();
+    a.set_pacing(true);
+    CHECK(a.send(now, text, 1300) == 1300 && sent() == 10 && a.poll_at() == now + 38462us);
+    now += 38461us;
     CHECK(sent() == 0 && !a.timeout(now));
     now += 1us;
-    CHECK(a.poll_at() == now && !a.timeout(now) && sent() == 2);
-    CHECK(a.send(now, text, 1000) == 1000 && sent() == 0 && a.poll_at() == now + 10ms);
-    a.set_pacing(false);
-    CHECK(sent() == 1);
+    CHECK(a.poll_at() == now && !a.timeout(now) && sent() == 3);
 }
 
 // RFC 8985, 7.2: with a round trip of 100 ms the end of what was sent goes out again behind two of them, and the peer's delay of 200 ms behind

@@ -389,10 +389,10 @@ func (connection *Connection) SetKeepAlive(now time.Time, rules *KeepAlive) erro
 	return done(C.tcpcore_connection_set_keep_alive(connection.raw, connection.since(now), &chosen))
 }
 
-// SetPacing has new text go out spread over a round trip, in portions of as many whole segments as go out in a millisecond, two at least, at
-// 1.25, in slow start 2, congestion windows a round trip (RFC 9002, 7.7); or at once, as a connection begins. What is sent again doesn't wait,
-// and without a congestion window practically nothing does. Where text waits for its portion PollAt is when the next one begins: Emit then. A
-// caller that paces has to wait by a fine timer.
+// SetPacing has new text go out spread over a round trip, in portions of as many whole segments as go out in a millisecond at 1.25, in slow
+// start 2, congestion windows a round trip, or as the window has, up to ten, where those are more, and two at least (RFC 9002, 7.7); or at
+// once, as a connection begins. What is sent again doesn't wait, and without a congestion window practically nothing does. Where text waits
+// for its portion PollAt is when the next one begins: Emit then. A caller that paces has to wait by a fine timer.
 func (connection *Connection) SetPacing(paced bool) error {
 	var chosen C.uint32_t
 	if paced {

@@ -256,17 +256,28 @@ def keep_alives():
 
 
 def paced():
-    """RFC 9002, 7.7: with a round trip of 100 ms and a first window of ten segments of 1,000 bytes 200 bytes a millisecond go out in slow
-    start: two segments each 10 ms. By default all goes out at once."""
+    """RFC 9002, 7.7: with a round trip of 100 ms and a window of 13 segments of 1,000 bytes 260 bytes a millisecond go out in slow start: ten
+    segments in 38 6/13 ms. By default all goes out at once. The first window is ten segments (RFC 6928, 2), and one acknowledgement of each
+    window adds another (RFC 5681, 3.1)."""
     a, b = Connection.connect(0.0, CONFIGS[0], B, 2), Connection.listen(0.0, CONFIGS[1])
     a.set_congestion(Congestion.CUBIC)
     check(carry(0.0, a, A, b) + carry(0.1, b, B, a) + carry(0.1, a, A, b), [Answer.DONE] * 3)
-    check((a.send(5.0, bytes(3000)), len(a.emit_all(5.0))), (3000, 3))
+
+    def goes(now, *counts):
+        """So many segments at once, and so many behind them where it isn't paced; all of them are acknowledged."""
+        check(a.send(now, bytes(1000 * sum(counts))), 1000 * sum(counts))
+        for count in counts:
+            check(len(carry(now, a, A, b)), count)
+            a.set_pacing(False)
+        check((len(b.receive(now)), carry(now + 0.1, b, B, a)), (1000 * sum(counts), [Answer.DONE]))
+
+    goes(5.0, 10)
+    goes(5.1, 11)
     a.set_pacing()
-    check((a.send(5.0, bytes(6000)), len(a.emit_all(5.0)), a.poll_at()), (6000, 2, 5.01))
-    check((a.emit_all(5.009), a.timeout(5.01), len(a.emit_all(5.01)), a.poll_at()), ([], None, 2, 5.02))
-    a.set_pacing(False)
-    check(len(a.emit_all(5.01)), 2)
+    goes(5.2, 10, 2)
+    a.set_pacing()
+    check((a.send(5.3, bytes(13000)), len(a.emit_all(5.3)), a.poll_at()), (13000, 10, 5.338462))
+    check((a.emit_all(5.338461), a.timeout(5.338462), len(a.emit_all(5.338462))), ([], None, 3))
 
 
 def peers():

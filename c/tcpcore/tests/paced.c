@@ -1,12 +1,16 @@
 /*
  * The test of pacing (RFC 9002, 7.7): in which portions new text goes out, and when. A trip takes 100 ms, which SRTT is, segments have
  * 1,000 bytes of text, and the first window is ten of them (RFC 6928, 2). The rate is N * cwnd / SRTT; a portion is as many whole segments
- * as go out in a millisecond at that rate, two at least, and lasts for as long as it takes then. Each time and size is worked out by hand.
+ * as go out in a millisecond at that rate, or ten where that is more, and lasts for as long as it takes then. Each time and size is worked
+ * out by hand.
  */
 #include "recovery.h"
 
-/* How long a portion takes, where cwnd is ten segments. */
-enum { PORTION = 2, SLOW_START = 10 * MS, AVOIDANCE = 16 * MS };
+/* A portion, and how long it takes in slow start where cwnd is 14,000: 10,000 / 280 ms, whole microseconds up. */
+enum { PORTION = 10, SLOW_START = 35715 };
+
+/* When ten segments that went out at NOW have all been acknowledged. */
+static const uint64_t LATER = NOW + TRIP;
 
 static void paces(uint32_t is_paced) { CHECK(tcpcore_connection_set_pacing(&a, is_paced), TCPCORE_DONE); }
 
@@ -37,8 +41,8 @@ static void goes_out(uint64_t now, size_t segments, size_t at)
     }
 }
 
-/* The next portion is two segments, which begins at `now`: nothing goes out before, and no timer expires. */
-static void portion(uint64_t now, size_t at)
+/* The next portion begins at `now`, in which so many segments go out: nothing goes out before, and no timer expires. */
+static void portion(uint64_t now, size_t segments, size_t at)
 {
     uint32_t timer;
     CHECK(poll_at(), now);
@@ -46,7 +50,7 @@ static void portion(uint64_t now, size_t at)
     goes_out(now - 1, 0, at);
     CHECK(poll_at(), now);
     CHECK(tcpcore_connection_timeout(&a, now, &timer), TCPCORE_NOT_DUE);
-    goes_out(now, PORTION, at);
+    goes_out(now, segments, at);
 }
 
 static struct tcpcore_congestion congestion(void)
@@ -56,38 +60,57 @@ static struct tcpcore_congestion congestion(void)
     return found;
 }
 
-/* cwnd 10,000 in slow start: 2 * 10,000 bytes in 100 ms are 200 bytes a millisecond: less than a segment, so that a portion is two, and
-   takes 2,000 / 200 = 10 ms. So a window has gone out in half a round trip; then it holds what is left, and no portion is waited for. */
-static void slow_start(uint32_t rule)
+/* The first window goes out at NOW, and at once, and is acknowledged. At LATER cwnd is 14,000: an acknowledgement adds a segment while half
+   of the window is in flight (RFC 5681, 3.1; RFC 7661, 4.3), 10 of 10, 9 of 11, 8 of 12 and 7 of 13, but not 6 of 14. */
+static void grows(uint32_t rule)
 {
     begins(rule);
-    gives(NOW, 12);
-    goes_out(NOW, PORTION, 0);
-    for (size_t i = 1; i < 5; i++)
-        portion(NOW + i * SLOW_START, PORTION * i);
-    goes_out(NOW + 5 * SLOW_START, 0, 10);
-    /* The retransmission timer runs since the first of them, for the second that it takes at least (RFC 6298, 2.4 and 5.1). */
+    gives(NOW, 10);
+    goes_out(NOW, 10, 0);
+    /* No portion is waited for: the retransmission timer runs, for the second that it takes at least (RFC 6298, 2.4 and 5.1). */
     CHECK(poll_at(), NOW + SECOND);
-    CHECK(congestion().cwnd, 10 * FULL);
+    trip(NOW, 0);
+    CHECK(congestion().cwnd, 14 * FULL);
+}
+
+/* cwnd 14,000 in slow start: 2 * 14,000 bytes in 100 ms are 280 bytes a millisecond: less than a segment, so that a portion is ten. So a
+   window has gone out in half a round trip; then it holds what is left, and no portion is waited for. */
+static void slow_start(uint32_t rule)
+{
+    grows(rule);
+    gives(LATER, 16);
+    goes_out(LATER, PORTION, 10);
+    portion(LATER + SLOW_START, 4, 20);
+    goes_out(LATER + 2 * SLOW_START, 0, 24);
+    CHECK(poll_at(), LATER + SECOND);
+    CHECK(congestion().cwnd, 14 * FULL);
     free_both();
     /* Unpaced all of it goes out at once, before and behind. */
-    begins(rule);
+    grows(rule);
     paces(0);
-    gives(NOW, 4);
-    goes_out(NOW, 4, 0);
+    gives(LATER, 1);
+    goes_out(LATER, 1, 10);
     paces(1);
-    gives(NOW, 4);
-    goes_out(NOW, PORTION, 4);
-    portion(NOW + SLOW_START, 6);
-    gives(NOW + SLOW_START, 2);
-    goes_out(NOW + SLOW_START, 0, 8);
+    gives(LATER, 11);
+    goes_out(LATER, PORTION, 11);
+    portion(LATER + SLOW_START, 1, 21);
     paces(0);
-    goes_out(NOW + SLOW_START, 2, 8);
+    paces(1);
+    gives(LATER + SLOW_START, 2);
+    goes_out(LATER + SLOW_START, 2, 22);
+    free_both();
+    grows(rule);
+    gives(LATER, 13);
+    goes_out(LATER, PORTION, 10);
+    goes_out(LATER + MS, 0, 20);
+    paces(0);
+    goes_out(LATER + MS, 3, 20);
     free_both();
 }
 
 /* RFC 5681, 3.1: 20 segments are in flight when the timer expires. So ssthresh is 10,000, which cwnd reaches over 1,000, 2,000, 4,000 and
-   8,000. Then 1.25 * 10,000 bytes in 100 ms are 125 bytes a millisecond, and a portion takes 2,000 / 125 = 16 ms. */
+   8,000, and 11,000 a trip later. Then 1.25 * 11,000 bytes in 100 ms are 137.5 bytes a millisecond, and a portion takes 10,000 / 137.5 ms,
+   whole microseconds up. */
 static void avoidance(void)
 {
     uint64_t now = NOW;
@@ -120,48 +143,51 @@ static void avoidance(void)
     }
     CHECK(congestion().cwnd, 10 * FULL);
     CHECK(congestion().ssthresh, 10 * FULL);
-    /* Five of the 20 are left, which go out at once, and the first portion of new text behind them. */
+    /* Five of the 20 are left, which go out at once, and new text behind them. */
     gives(now, 5);
-    goes_out(now, 5 + PORTION, at);
-    portion(now + AVOIDANCE, at + 7);
-    CHECK(poll_at(), now + 2 * AVOIDANCE);
-    goes_out(now + 2 * AVOIDANCE, 1, at + 9);
+    goes_out(now, 10, at);
+    trip(now, 0);
+    now += TRIP;
+    CHECK(congestion().cwnd, 11 * FULL);
+    gives(now, 12);
+    goes_out(now, PORTION, at + 10);
+    portion(now + 72728, 1, at + 20);
     free_both();
 }
 
 /* What is sent again doesn't wait, and takes nothing away: the next portion begins as it would. */
 static void resends(void)
 {
-    begins(TCPCORE_CONGESTION_CUBIC);
-    gives(NOW, 6);
-    goes_out(NOW, PORTION, 0);
-    CHECK(tcpcore_connection_resend_first(&a, NOW + MS), TCPCORE_DONE);
-    goes_out(NOW + MS, 1, 0);
-    CHECK(tcpcore_connection_resend(&a, NOW + 2 * MS, 1 + FULL, 1 + 2 * FULL), TCPCORE_DONE);
-    goes_out(NOW + 2 * MS, 1, 1);
-    portion(NOW + SLOW_START, 2);
-    portion(NOW + 2 * SLOW_START, 4);
+    grows(TCPCORE_CONGESTION_CUBIC);
+    gives(LATER, 14);
+    goes_out(LATER, PORTION, 10);
+    CHECK(tcpcore_connection_resend_first(&a, LATER + MS), TCPCORE_DONE);
+    goes_out(LATER + MS, 1, 10);
+    CHECK(tcpcore_connection_resend(&a, LATER + 2 * MS, 1 + 11 * FULL, 1 + 12 * FULL), TCPCORE_DONE);
+    goes_out(LATER + 2 * MS, 1, 11);
+    portion(LATER + SLOW_START, 4, 20);
     free_both();
 }
 
 /* Where nothing is in flight the first segment goes out, though the portion is used up; and idle time earns one portion and no more. */
 static void alone(void)
 {
-    begins(TCPCORE_CONGESTION_RENO);
-    gives(NOW, 5);
-    goes_out(NOW, PORTION, 0);
-    comes(0, NOW + MS);
-    comes(1, NOW + MS);
+    grows(TCPCORE_CONGESTION_RENO);
+    gives(LATER, 13);
+    goes_out(LATER, PORTION, 10);
+    for (size_t i = 0; i < PORTION; i++)
+        comes(i, LATER + MS);
     flying.count = 0;
-    answered(NOW + MS);
-    goes_out(NOW + MS, 1, 2);
-    portion(NOW + SLOW_START, 3);
-    trip(NOW + SLOW_START, 0);
+    answered(LATER + MS);
+    goes_out(LATER + MS, 1, 20);
+    portion(LATER + SLOW_START, 2, 21);
+    trip(LATER + SLOW_START, 0);
     /* No text waits, so that there is no time to wait for. */
     CHECK(poll_at(), TCPCORE_NEVER);
-    uint64_t later = NOW + 100 * SECOND;
-    gives(later, 3);
-    goes_out(later, PORTION, 5);
+    /* Not so long that the window begins anew, with what it was at first (RFC 5681, 4.1). */
+    uint64_t later = LATER + SECOND / 2;
+    gives(later, 13);
+    goes_out(later, PORTION, 23);
     CHECK(poll_at() > later && poll_at() <= later + SLOW_START, 1);
     free_both();
 }
@@ -186,37 +212,37 @@ static void unpaced(void)
     CHECK(tcpcore_connection_set_congestion(&a, TCPCORE_CONGESTION_RENO), TCPCORE_DONE);
     gives(NOW, 10);
     goes_out(NOW, 10, 0);
-    /* The first trip that is measured has what follows paced: by a cwnd of 14,000 a portion takes 2,000 / 280 ms, whole microseconds up. */
+    /* The first trip that is measured has what follows paced. */
     trip(NOW, 0);
     CHECK(congestion().cwnd, 14 * FULL);
-    gives(NOW + TRIP, 4);
-    goes_out(NOW + TRIP, PORTION, 10);
-    portion(NOW + TRIP + 7143, 12);
+    gives(LATER, 14);
+    goes_out(LATER, PORTION, 10);
+    portion(LATER + SLOW_START, 4, 20);
     free_both();
 }
 
 /* A FIN that no text waits before doesn't wait for a portion. */
 static void a_fin(void)
 {
-    begins(TCPCORE_CONGESTION_CUBIC);
-    gives(NOW, PORTION);
-    goes_out(NOW, PORTION, 0);
-    CHECK(tcpcore_connection_close(&a, NOW), TCPCORE_DONE);
-    emit(&flying, &a, NOW);
+    grows(TCPCORE_CONGESTION_CUBIC);
+    gives(LATER, PORTION);
+    goes_out(LATER, PORTION, 10);
+    CHECK(tcpcore_connection_close(&a, LATER), TCPCORE_DONE);
+    emit(&flying, &a, LATER);
     CHECK(flying.count, PORTION + 1);
-    CHECK(flying.of[PORTION].segment.position, 1 + PORTION * FULL);
+    CHECK(flying.of[PORTION].segment.position, 1 + (10 + PORTION) * FULL);
     CHECK(flying.of[PORTION].segment.count, 1);
     free_both();
     /* Behind text that waits it waits, too. */
-    begins(TCPCORE_CONGESTION_CUBIC);
-    gives(NOW, 2 * PORTION);
-    CHECK(tcpcore_connection_close(&a, NOW), TCPCORE_DONE);
-    goes_out(NOW, PORTION, 0);
-    CHECK(poll_at(), NOW + SLOW_START);
-    emit(&flying, &a, NOW + SLOW_START);
-    CHECK(flying.count, 2 * PORTION + 1);
-    CHECK(flying.of[2 * PORTION].segment.position, 1 + 2 * PORTION * FULL);
-    CHECK(flying.of[2 * PORTION].segment.count, 1);
+    grows(TCPCORE_CONGESTION_CUBIC);
+    gives(LATER, PORTION + 2);
+    CHECK(tcpcore_connection_close(&a, LATER), TCPCORE_DONE);
+    goes_out(LATER, PORTION, 10);
+    CHECK(poll_at(), LATER + SLOW_START);
+    emit(&flying, &a, LATER + SLOW_START);
+    CHECK(flying.count, PORTION + 3);
+    CHECK(flying.of[PORTION + 2].segment.position, 1 + (10 + PORTION + 2) * FULL);
+    CHECK(flying.of[PORTION + 2].segment.count, 1);
     free_both();
 }
 
@@ -225,17 +251,18 @@ static void as_a_train(void)
 {
     static unsigned char whole[TCPCORE_TRAIN_ROOM];
     struct tcpcore_train train;
-    begins(TCPCORE_CONGESTION_CUBIC);
-    gives(NOW, 6);
-    for (size_t i = 0; i < 3; i++) {
-        uint64_t now = NOW + i * SLOW_START;
+    grows(TCPCORE_CONGESTION_CUBIC);
+    gives(LATER, 14);
+    for (size_t i = 0; i < 2; i++) {
+        uint64_t now = LATER + i * SLOW_START;
+        size_t segments = i == 0 ? PORTION : 4;
         if (i > 0)
             CHECK(poll_at(), now);
-        CHECK(tcpcore_connection_emit_train(&a, now, UINT64_MAX, whole, sizeof whole, 9, &train), TCPCORE_DONE);
-        CHECK(train.segments, PORTION);
-        CHECK(train.whole.position, 1 + i * PORTION * FULL);
-        CHECK(train.whole.count, PORTION * FULL);
-        CHECK(tcpcore_connection_emit_train(&a, now, UINT64_MAX, whole, sizeof whole, 9, &train), TCPCORE_NOT_DUE);
+        CHECK(tcpcore_connection_emit_train(&a, now, UINT64_MAX, whole, sizeof whole, 19, &train), TCPCORE_DONE);
+        CHECK(train.segments, segments);
+        CHECK(train.whole.position, 1 + (10 + i * PORTION) * FULL);
+        CHECK(train.whole.count, segments * FULL);
+        CHECK(tcpcore_connection_emit_train(&a, now, UINT64_MAX, whole, sizeof whole, 19, &train), TCPCORE_NOT_DUE);
     }
     free_both();
 }

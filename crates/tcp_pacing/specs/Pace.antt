@@ -38,9 +38,17 @@ rate_bytes p = gain p * cwnd_of p
 abbrev pub rate_time : Pace → ℕ
 rate_time p = 4 * srtt_of p
 
--- A PORTION is as many whole segments as go out in a millisecond at the rate, or two
+-- the initial window (RFC 6928, 2), to which bursts are limited (RFC 9002, 7.7), in segments, however long these are (own)
+abbrev pub initial_window : ℕ
+initial_window = 10
+
+-- so many may go out at once at any rate: cwnd's whole segments, up to the initial window
+abbrev pub burst : Pace → ℕ
+burst p = min initial_window (cwnd_of p / smss_of p)
+
+-- A PORTION is as many whole segments as go out in a millisecond at the rate, or a burst where that is more, and two at least
 abbrev pub portion : Pace → ℕ
-portion p = smss_of p * max 2 (rate_bytes p * period / (rate_time p * smss_of p))
+portion p = smss_of p * max 2 (max (burst p) (rate_bytes p * period / (rate_time p * smss_of p)))
 
 abbrev pub rounded_up : ℕ → ℕ → ℕ
 rounded_up n by = n / by + min 1 (n % by)

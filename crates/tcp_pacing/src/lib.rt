@@ -11,5 +11,5 @@ pub mod laws;
 mod pace;
 mod pacer;
 
-pub use pace::{MAX_SEGMENT, MAX_SRTT, MAX_WINDOW, PERIOD, Pace};
+pub use pace::{INITIAL_WINDOW, MAX_SEGMENT, MAX_SRTT, MAX_WINDOW, PERIOD, Pace};
 pub use pacer::Pacer;

@@ -1,5 +1,5 @@
 ghost use Rattle.std.specs.Prelude.{◌≡◌};
-ghost use Rattle.tcp_pacing.specs.Pace.{cwnd_of, gain, interval, portion, rate_bytes, rate_time, smss_of, srtt_of};
+ghost use Rattle.tcp_pacing.specs.Pace.{burst, cwnd_of, gain, interval, portion, rate_bytes, rate_time, smss_of, srtt_of};
 
 /// No segment is longer (RFC 9293, 3.7.1).
 pub const MAX_SEGMENT: u64 = 65_535;
@@ -10,8 +10,12 @@ pub const MAX_WINDOW: u64 = 1 << 40;
 /// No round trip counts as longer, in microseconds: 2^40, some 12 days.
 pub const MAX_SRTT: u64 = 1 << 40;
 
-/// A portion is what goes out in so long, in microseconds: a millisecond. Where that is less than two segments, it is two.
+/// A portion is as many whole segments as go out in so long, in microseconds: a millisecond. It is as many as cwnd has, up to
+/// [`INITIAL_WINDOW`], where those are more, and two at least.
 pub const PERIOD: u64 = 1_000;
+
+/// The initial window (RFC 6928, 2), to which bursts are limited (RFC 9002, 7.7), in segments, however long these are.
+pub const INITIAL_WINDOW: u64 = 10;
 
 /// How fast new text goes out: by N * cwnd / srtt, where N is 2 in slow start, in which the window may double in a round trip,
 /// and else 5/4, so that no window is left unused where round trips vary (RFC 9002, 7.7). Any values will do.
@@ -67,13 +71,21 @@ impl Pace {
         4 * self.srtt()
     }
 
-    /// How many bytes may go out at once: as many whole segments as go out in [`PERIOD`] at the rate, or two.
+    /// How many segments may go out at once at any rate: as many as cwnd has, up to [`INITIAL_WINDOW`].
+    fn burst(self) -> u64
+        ensures { result ≡ burst self }
+    {
+        INITIAL_WINDOW.min(self.cwnd() / self.smss())
+    }
+
+    /// How many bytes may go out at once: as many whole segments as go out in [`PERIOD`] at the rate, or a
+    /// [`burst`](Self::burst) where that is more, and two at least.
     pub(crate) fn portion(self) -> u64
         ensures { result ≡ portion self }
     {
         let smss = self.smss();
         let segments = self.rate_bytes() * PERIOD / (self.rate_time() * smss);
-        smss * segments.max(2)
+        smss * segments.max(self.burst()).max(2)
     }
 
     /// How long a portion takes at the rate, in microseconds, rounded up.

@@ -73,7 +73,7 @@ impl Pacer {
     pub fn is_paced(&self, pace: Pace) -> bool
         ensures { result ≡ is_paced self.now pace }
     {
-        self.is_on && pace.srtt > 0
+        pace.srtt > 0 && self.is_on
     }
 
     /// How many bytes of the last portion didn't go out.
@@ -81,7 +81,8 @@ impl Pacer {
     pub fn left(&self) -> u64
         ensures { result ≡ self.now.left }
     {
-        self.left
+        let Pacer { left, .. } = *self;
+        left
     }
 
     /// It is `now`: how many bytes of new text may go out. A portion begins where its time has come. `u64::MAX`, and nothing

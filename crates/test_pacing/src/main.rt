@@ -32,7 +32,7 @@ fn avoidance(cwnd: u64) -> Pace {
     }
 }
 
-/// Ten segments over 50 ms.
+/// Two windows of ten segments, each over half of 50 ms.
 fn first_flight(rt: &impl Print) -> io::Result<()> {
     let mut pacer = Pacer::off();
     let mut pace = Pace {
@@ -49,17 +49,19 @@ fn first_flight(rt: &impl Print) -> io::Result<()> {
     send(rt, &mut pacer, pace, 0, 14_600)?;
     pace.srtt = 50_000;
     println!(rt; "slow start, 0.584 bytes in a microsecond")?;
-    send(rt, &mut pacer, pace, 0, 14_600)
+    send(rt, &mut pacer, pace, 0, 29_200)
 }
 
 fn main(rt: HostRuntime) -> io::Result<()> {
     first_flight(&rt)?;
     let mut pacer = Pacer::off();
     pacer.set(true);
-    println!(rt; "14.6 bytes in a microsecond")?;
-    send(&rt, &mut pacer, avoidance(1_168_000), 0, 30_000)?;
+    println!(rt; "29.2 bytes in a microsecond")?;
+    send(&rt, &mut pacer, avoidance(2_336_000), 0, 60_000)?;
     println!(rt; "5 bytes in a microsecond, behind a second")?;
-    send(&rt, &mut pacer, avoidance(400_000), 1_000_000, 10_000)?;
-    println!(rt; "0.05475 bytes in a microsecond")?;
-    send(&rt, &mut pacer, avoidance(4_380), 2_000_000, 4_380)
+    send(&rt, &mut pacer, avoidance(400_000), 1_000_000, 30_000)?;
+    println!(rt; "0.075 bytes in a microsecond")?;
+    send(&rt, &mut pacer, avoidance(6_000), 2_000_000, 6_000)?;
+    println!(rt; "0.01825 bytes in a microsecond")?;
+    send(&rt, &mut pacer, avoidance(1_460), 3_000_000, 4_000)
 }

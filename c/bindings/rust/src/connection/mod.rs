@@ -245,10 +245,10 @@ impl Connection<'_> {
         unsafe { sys::tcpcore_connection_set_user_timeout(self.raw.as_ptr(), rules::limit(limit)) };
     }
 
-    /// Has new text go out spread over a round trip, in portions of as many whole segments as go out in a millisecond, two at least, at 1.25,
-    /// in slow start 2, congestion windows a round trip (RFC 9002, 7.7); or at once, as a connection begins. What is sent again doesn't wait,
-    /// and without a congestion window practically nothing does. Where text waits for its portion [`Connection::poll_timeout`] is when the
-    /// next one begins: poll then. A caller that paces has to wait by a fine timer.
+    /// Has new text go out spread over a round trip, in portions of as many whole segments as go out in a millisecond at 1.25, in slow start 2,
+    /// congestion windows a round trip, or as the window has, up to ten, where those are more, and two at least (RFC 9002, 7.7); or at once,
+    /// as a connection begins. What is sent again doesn't wait, and without a congestion window practically nothing does. Where text waits
+    /// for its portion [`Connection::poll_timeout`] is when the next one begins: poll then. A caller that paces has to wait by a fine timer.
     pub fn set_pacing(&mut self, is_paced: bool) {
         unsafe { sys::tcpcore_connection_set_pacing(self.raw.as_ptr(), u32::from(is_paced)) };
     }

@@ -237,26 +237,38 @@ fn is_probed(ends: &mut [Connection; 2], opened: Time) {
     assert!(client.poll_timeout() > Some(probed));
 }
 
-/// RFC 9002, 7.7: with a round trip of 100 ms and a first window of ten segments of 1,460 bytes 292 bytes a millisecond go out in slow start:
-/// two segments each 10 ms. Without being asked for all goes out at once.
+/// RFC 9002, 7.7: with a round trip of 100 ms and a window of 13 segments of 1,460 bytes 379.6 bytes a millisecond go out in slow start: ten
+/// segments in 38 6/13 ms. Without being asked for all goes out at once. The first window is ten segments (RFC 6928, 2), and one
+/// acknowledgement of each window adds another (RFC 5681, 3.1).
 #[test]
 fn new_text_is_paced() {
-    let (opened, each) = (seconds(10), Duration::from_millis(10));
+    let opened = seconds(10);
     let mut ends = pair(&Rules::new(), opened);
     assert!(ends[0].set_congestion(Congestion::Cubic));
     let (half, trip) = (opened + Duration::from_millis(50), opened + Duration::from_millis(100));
     carry_one(&mut ends, 0, opened, half);
     carry_one(&mut ends, 1, half, trip);
     carry_one(&mut ends, 0, trip, trip);
-    let (client, sent) = (&mut ends[0], opened + SECOND);
-    assert_eq!((client.send(sent, &[0; 3 * 1460]), emitted(client, sent).len()), (Ok(3 * 1460), 3));
+    let mut now = opened + SECOND;
+    for (segments, paced) in [(10, None), (11, None), (12, Some(10))] {
+        ends[0].set_pacing(paced.is_some());
+        assert_eq!(ends[0].send(now, &vec![0; segments * 1460]), Ok(segments * 1460));
+        let mut all = emitted(&mut ends[0], now);
+        assert_eq!(all.len(), paced.unwrap_or(segments));
+        ends[0].set_pacing(false);
+        all.extend(emitted(&mut ends[0], now));
+        assert_eq!(all.len(), segments);
+        hand_in(&mut ends[1], 1, now, &all);
+        assert_eq!(ends[1].receive(now, &mut [0; 20_000]), Ok(Received::Bytes(segments * 1460)));
+        let sent = now;
+        now = sent + Duration::from_millis(100);
+        carry_one(&mut ends, 1, sent, now);
+    }
+    let (client, next) = (&mut ends[0], now + Duration::from_micros(38_462));
     client.set_pacing(true);
-    assert_eq!((client.send(sent, &[0; 6 * 1460]), emitted(client, sent).len()), (Ok(6 * 1460), 2));
-    assert_eq!((client.poll_timeout(), emitted(client, sent + Duration::from_micros(9_999)).len()), (Some(sent + each), 0));
-    assert_eq!((client.handle_timeout(sent + each), emitted(client, sent + each).len()), (None, 2));
-    assert_eq!(client.poll_timeout(), Some(sent + 2 * each));
-    client.set_pacing(false);
-    assert_eq!(emitted(client, sent + each).len(), 2);
+    assert_eq!((client.send(now, &[0; 13 * 1460]), emitted(client, now).len()), (Ok(13 * 1460), 10));
+    assert_eq!((client.poll_timeout(), emitted(client, now + Duration::from_micros(38_461)).len()), (Some(next), 0));
+    assert_eq!((client.handle_timeout(next), emitted(client, next).len()), (None, 3));
 }
 
 #[test]
