@@ -122,7 +122,8 @@ void limits_touch(struct usernet *net, struct conn *conn)
     if (conn->order.queue != &net->active)
         return;
     conn->since = net->now;
-    queue_add(&net->active, &conn->order);
+    if (net->active.newest != &conn->order)
+        queue_add(&net->active, &conn->order);
 }
 
 void limits_leave(struct usernet *net, struct conn *conn)

@@ -25,33 +25,33 @@ same-list (x ∷ xs) (y ∷ ys) e =
     cc (same-number x y parts.0, same-list xs ys parts.1)
 
 abbrev pub socket_cmp : Socket → Socket → Ordering
-socket_cmp a b = ordering_then (slice_cmp nat_cmp a.addr b.addr) (nat_cmp a.port b.port)
+socket_cmp a b = ordering_then (nat_cmp a.port b.port) (slice_cmp nat_cmp a.addr b.addr)
 
 abbrev pub pair_cmp : Pair → Pair → Ordering
-pair_cmp a b = ordering_then (socket_cmp a.local b.local) (socket_cmp a.peer b.peer)
+pair_cmp a b = ordering_then (socket_cmp a.peer b.peer) (socket_cmp a.local b.local)
 
-socket : List ℕ → ℕ → Socket
-socket addr port = record { addr = addr; port = port }
+socket : ℕ → List ℕ → Socket
+socket port addr = record { port = port; addr = addr }
 
 pair : Socket → Socket → Pair
-pair local peer = record { local = local; peer = peer }
+pair peer local = record { peer = peer; local = local }
 
 pub same_socket : (a b : Socket) → socket_cmp a b ≡ Equal → a ≡ b
 unfolding socket
 same_socket a b e =
-    let parts = both (slice_cmp nat_cmp a.addr b.addr) (nat_cmp a.port b.port) e in
-    ap (λ addr. socket addr a.port) (same-list a.addr b.addr parts.0) ∙ ap (socket b.addr) (same-number a.port b.port parts.1)
+    let parts = both (nat_cmp a.port b.port) (slice_cmp nat_cmp a.addr b.addr) e in
+    ap (λ port. socket port a.addr) (same-number a.port b.port parts.0) ∙ ap (socket b.port) (same-list a.addr b.addr parts.1)
 
 pub same_pair : (a b : Pair) → pair_cmp a b ≡ Equal → a ≡ b
 unfolding pair
 same_pair a b e =
-    let parts = both (socket_cmp a.local b.local) (socket_cmp a.peer b.peer) e in
-    ap (λ local. pair local a.peer) (same_socket a.local b.local parts.0) ∙ ap (pair b.local) (same_socket a.peer b.peer parts.1)
+    let parts = both (socket_cmp a.peer b.peer) (socket_cmp a.local b.local) e in
+    ap (λ peer. pair peer a.local) (same_socket a.peer b.peer parts.0) ∙ ap (pair b.peer) (same_socket a.local b.local parts.1)
 
 pub socket_itself : (a b : Socket) → a ≡ b → socket_cmp a b ≡ Equal
 socket_itself a b e =
-    ap (socket_cmp a) (sym e) ∙ ap (λ o. ordering_then o (nat_cmp a.port a.port)) (tied_itself nat_list_cmp_total a.addr) ∙ tied_itself nat_cmp_total a.port
+    ap (socket_cmp a) (sym e) ∙ ap (λ o. ordering_then o (slice_cmp nat_cmp a.addr a.addr)) (tied_itself nat_cmp_total a.port) ∙ tied_itself nat_list_cmp_total a.addr
 
 pub pair_itself : (a b : Pair) → a ≡ b → pair_cmp a b ≡ Equal
 pair_itself a b e =
-    ap (pair_cmp a) (sym e) ∙ ap (λ o. ordering_then o (socket_cmp a.peer a.peer)) (socket_itself a.local a.local refl) ∙ socket_itself a.peer a.peer refl
+    ap (pair_cmp a) (sym e) ∙ ap (λ o. ordering_then o (socket_cmp a.local a.local)) (socket_itself a.peer a.peer refl) ∙ socket_itself a.local a.local refl

@@ -2,22 +2,24 @@
 ghost use Rattle.std.specs.Prelude.{◌≡◌};
 ghost use Rattle.tcp_host.specs.Pair.{acknowledges, asks, pair_of};
 
-/// A socket: an IPv4 address and a port (RFC 9293, 3.3.1).
+/// A socket: an IPv4 address and a port (RFC 9293, 3.3.1). They are ordered by their ports first, in which sockets of one
+/// host differ.
 #[derive(Clone, Copy, Debug, PartialEq, Eq, PartialOrd, Ord)]
 pub struct Socket {
-    /// The address.
-    pub addr: [u8; 4],
     /// The port.
     pub port: u16,
+    /// The address.
+    pub addr: [u8; 4],
 }
 
-/// The pair of sockets that identifies a connection (RFC 9293, 3.3.1).
+/// The pair of sockets that identifies a connection (RFC 9293, 3.3.1). They are ordered by the peers first, in whose ports
+/// most connections of a host differ: one comparison of two numbers tells them apart.
 #[derive(Clone, Copy, Debug, PartialEq, Eq, PartialOrd, Ord)]
 pub struct Pair {
-    /// This end's.
-    pub local: Socket,
     /// The peer's.
     pub peer: Socket,
+    /// This end's.
+    pub local: Socket,
 }
 
 /// The pair that a segment from `src` to `dst` is for, if it has ports (RFC 9293, 3.1).

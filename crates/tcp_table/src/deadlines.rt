@@ -109,6 +109,9 @@ impl<A: Allocator + Copy> Deadlines<A> {
         ensures { self.new ≡ slice_set self.old id time }
     {
         let leaf = self.count + id;
+        if self.tree[leaf] == time {
+            return;
+        }
         self.tree[leaf] = time;
         raise(&mut self.tree, self.count, leaf);
     }
@@ -154,7 +157,7 @@ fn build(tree: &mut [Option<u64>], count: usize)
     }
 }
 
-/// Makes it a tree again above a leaf that has changed.
+/// Makes it a tree again above a leaf that has changed. Above a place that keeps its time nothing changes.
 fn raise(tree: &mut [Option<u64>], count: usize, leaf: usize)
     requires size { length tree.old ≡ 2 * count }
     requires within { leaf < 2 * count }
@@ -164,7 +167,11 @@ fn raise(tree: &mut [Option<u64>], count: usize, leaf: usize)
 {
     let mut at = leaf / 2;
     while at > 0 {
-        tree[at] = earlier(tree[2 * at], tree[2 * at + 1]);
+        let time = earlier(tree[2 * at], tree[2 * at + 1]);
+        if tree[at] == time {
+            return;
+        }
+        tree[at] = time;
         at /= 2;
     }
 }
