@@ -1,4 +1,6 @@
+mod Both
 mod Calling
+mod Off
 pub mod Paced
 pub mod Resting
 mod Silent
