@@ -5,7 +5,8 @@
  *   seconds from the SYN to the last byte that was read;
  *   segments with text that were sent, and those of them that were sent again.
  * It fails where other bytes come than were sent. Times are in milliseconds, and parts in percent. NAME is
- * - ours (1: the sender is a connection; 0: Linux), congestion (1 Reno, 2 CUBIC), recovery (of a connection; 1: by time);
+ * - ours (1: the sender is a connection; 0: Linux), congestion (1 Reno, 2 CUBIC), recovery (of a connection; 1: by time),
+ *   pacing (of a connection; 1: its new text goes out in portions);
  * - rate (of the link each way, Mbit/s), trip (there and back without a load), queue (what would wait longer to leave is lost; 0: nothing is),
  *   jitter (each segment takes up to so much more, drawn for it alone), loss (of the segments each way);
  * - bytes, window (bytes of each of a connection's buffers), seed, stamps (1: Linux offers timestamps, as it does by itself).
@@ -31,14 +32,14 @@
 #include <time.h>
 #include <unistd.h>
 
-enum { OURS, CONGESTION, RECOVERY, RATE, TRIP, QUEUE, JITTER, LOSS, BYTES, WINDOW, SEED, STAMPS, WORDS };
+enum { OURS, CONGESTION, RECOVERY, PACING, RATE, TRIP, QUEUE, JITTER, LOSS, BYTES, WINDOW, SEED, STAMPS, WORDS };
 enum { PORT = 2, MTU = 1500, IP_HEADER = 20, PROTOCOL = 9, TCP = 6 };
 
 static struct {
     const char *name;
     double value;
-} words[WORDS] = {[OURS] = {"ours", 1}, [CONGESTION] = {"congestion", 2}, [RECOVERY] = {"recovery", 1}, [RATE] = {"rate", 100},
-                  [TRIP] = {"trip", 50}, [QUEUE] = {"queue", 0}, [JITTER] = {"jitter", 0}, [LOSS] = {"loss", 0},
+} words[WORDS] = {[OURS] = {"ours", 1}, [CONGESTION] = {"congestion", 2}, [RECOVERY] = {"recovery", 1}, [PACING] = {"pacing", 0},
+                  [RATE] = {"rate", 100}, [TRIP] = {"trip", 50}, [QUEUE] = {"queue", 0}, [JITTER] = {"jitter", 0}, [LOSS] = {"loss", 0},
                   [BYTES] = {"bytes", 5000000}, [WINDOW] = {"window", 1048576}, [SEED] = {"seed", 1}, [STAMPS] = {"stamps", 1}};
 
 static double of(int word) { return words[word].value; }
@@ -246,6 +247,8 @@ static void begin_connection(void)
         fail("no connection");
     if (of(RECOVERY) != 0 && tcpcore_connection_set_recovery(&connection, now() / 1000, recovery, TCPCORE_RECOVERY_MEMORY))
         fail("no recovery");
+    if (of(PACING) != 0 && tcpcore_connection_set_pacing(&connection, 1))
+        fail("no pacing");
 }
 
 /* Until something comes, a packet arrives, or the connection is due. */

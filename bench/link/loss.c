@@ -16,7 +16,8 @@
  *   and so is each `every` behind it, if that isn't 0), cut and uncut (between these times all is lost);
  * - bytes of a request, requests one after another, pause from the acknowledgement of one to the next; shut and open (between these times
  *   nothing is read);
- * - mss, window (bytes of each buffer), runs, sack, congestion (0 none, 1 Reno, 2 CUBIC), recovery (1: by time), ack (how long an
+ * - mss, window (bytes of each buffer), runs, sack, congestion (0 none, 1 Reno, 2 CUBIC), recovery (1: by time), pacing (1: its new text goes out in
+ *   portions), ack (how long an
  *   acknowledgement waits), clock (the step of the connections' clock), seed, trace (1: each segment that is sent, each that is lost, and
  *   each timer).
  */
@@ -29,7 +30,7 @@
 
 enum {
     RATE, TRIP, QUEUE, JITTER, LOSS, LATE, LATER, TWICE, TAIL, DROP, EVERY, CUT, UNCUT, BYTES, REQUESTS, PAUSE, SHUT, OPEN, MSS, WINDOW, RUNS,
-    SACK, CONGESTION, RECOVERY, ACK, CLOCK, SEED, TRACE, WORDS
+    SACK, CONGESTION, RECOVERY, PACING, ACK, CLOCK, SEED, TRACE, WORDS
 };
 
 static struct {
@@ -41,7 +42,7 @@ static struct {
     [EVERY] = {"every", 0}, [CUT] = {"cut", 0}, [UNCUT] = {"uncut", 0}, [BYTES] = {"bytes", 1000000}, [REQUESTS] = {"requests", 1},
     [PAUSE] = {"pause", 0}, [SHUT] = {"shut", 0}, [OPEN] = {"open", 0}, [MSS] = {"mss", 1460}, [WINDOW] = {"window", 1048576},
     [RUNS] = {"runs", 1024}, [SACK] = {"sack", 1}, [CONGESTION] = {"congestion", TCPCORE_CONGESTION_RENO}, [RECOVERY] = {"recovery", 0},
-    [ACK] = {"ack", 0}, [CLOCK] = {"clock", 0.001}, [SEED] = {"seed", 1}, [TRACE] = {"trace", 0},
+    [PACING] = {"pacing", 0}, [ACK] = {"ack", 0}, [CLOCK] = {"clock", 0.001}, [SEED] = {"seed", 1}, [TRACE] = {"trace", 0},
 };
 
 static double of(int word) { return words[word].value; }
@@ -273,6 +274,18 @@ static void recover(int at)
 #endif
 }
 
+/* A side's new text goes out in portions. */
+static void pace(int at)
+{
+#if TCPCORE_VERSION >= 21
+    if (tcpcore_connection_set_pacing(&sides[at].connection, 1) != TCPCORE_DONE)
+        fail("no pacing");
+#else
+    (void)at;
+    fail("this library paces nothing");
+#endif
+}
+
 /* From the first segment on, so that a SYN that is lost is in the numbers, too. */
 static void make(int at)
 {
@@ -294,6 +307,8 @@ static void make(int at)
         fail("no connection");
     if (of(RECOVERY) != 0)
         recover(at);
+    if (of(PACING) != 0)
+        pace(at);
 }
 
 static int is_over(void)
