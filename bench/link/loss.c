@@ -16,10 +16,9 @@
  *   and so is each `every` behind it, if that isn't 0), cut and uncut (between these times all is lost);
  * - bytes of a request, requests one after another, pause from the acknowledgement of one to the next; shut and open (between these times
  *   nothing is read);
- * - mss, window (bytes of each buffer), runs, sack, congestion (0 none, 1 Reno, 2 CUBIC), recovery (1: by time), pacing (1: its new text goes out in
- *   portions), ack (how long an
- *   acknowledgement waits), clock (the step of the connections' clock), seed, trace (1: each segment that is sent, each that is lost, and
- *   each timer).
+ * - mss, window (bytes of each buffer), runs, sack, congestion (0 none, 1 Reno, 2 CUBIC), recovery (1: by time), pacing (1: new text goes
+ *   out in portions), ack (how long an acknowledgement waits), clock (the step of the connections' clock), seed, trace (1: each segment
+ *   that is sent, each that is lost, and each timer).
  */
 #include "link.h"
 #include "tcpcore.h"

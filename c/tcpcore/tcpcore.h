@@ -1286,8 +1286,8 @@ uint32_t tcpcore_connection_set_policy(tcpcore_connection *connection, const str
  * out again, where something that was sent later has come, and a round trip and a window for reordering have passed since it was sent; and
  * where nothing is sent or acknowledged for two round trips, and for the peer's delay behind less than two full segments, the last SMSS
  * numbers, the FIN among them, go out again as a probe, or the first ones while blocks report a gap or a loss is repaired. So a loss rarely
- * waits for the retransmission timeout. The window is a quarter of the least round trip, up to twice that where round trips have just become
- * shorter, or more where what was sent again came late, and what is late by less isn't taken for lost.
+ * waits for the retransmission timeout. The window is a quarter of the least round trip, or more where what was sent again came late, and
+ * up to twice as long where round trips have just become shorter; what is late by less isn't taken for lost.
  *   Choose a congestion window, too: without one all that looks lost goes out again at once, and a peer that reports as received what was
  * sent last has all that is in flight sent again for each of its segments. That window shrinks once for all that is in flight when
  * a loss is found, also for a loss that a probe has repaired, and once more where what was sent again is lost again. As of version 21 its

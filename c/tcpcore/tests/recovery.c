@@ -132,9 +132,9 @@ static void overtaking_is_no_loss(void)
 }
 
 /*
- * Round trips have become shorter, since a queue has drained: what was sent before is waited for by so much longer, for a window at most. Of
- * two segments the first takes `longest`, and a third, which goes out `later`, `shorter`. The second comes just before it would be lost, or
- * is lost.
+ * Round trips have become shorter, since a queue has drained: what was sent before is waited for by so much longer, for a window at most.
+ * Of two segments the first takes `longest`, and a third, which goes out `later`, `shorter`. The second comes just before it would be
+ * lost, or is lost.
  */
 static void a_queue_has_drained(uint64_t longest, uint64_t later, uint64_t shorter, uint64_t window)
 {
