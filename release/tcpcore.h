@@ -135,7 +135,7 @@ extern "C" {
 #endif
 
 /* The version of this header: it grows with each change of a struct, a call or an answer. */
-#define TCPCORE_VERSION 21
+#define TCPCORE_VERSION 22
 
 /* Whether there are hosts (HOSTS, below): where tcpcore.c takes machine code, by the rule that stands at its top. */
 #if !defined(TCPCORE_HAS_HOSTS) && !defined(TCPCORE_PORTABLE) && defined(__GNUC__) && !defined(__TINYC__) && defined(__linux__) && \
@@ -1287,7 +1287,7 @@ uint32_t tcpcore_connection_set_policy(tcpcore_connection *connection, const str
  * where nothing is sent or acknowledged for two round trips, and for the peer's delay behind less than two full segments, the last SMSS
  * numbers, the FIN among them, go out again as a probe, or the first ones while blocks report a gap or a loss is repaired. So a loss rarely
  * waits for the retransmission timeout. The window is a quarter of the least round trip, or more where what was sent again came late, and
- * what is late by less isn't taken for lost.
+ * up to twice as long where round trips have just become shorter; what is late by less isn't taken for lost.
  *   Choose a congestion window, too: without one all that looks lost goes out again at once, and a peer that reports as received what was
  * sent last has all that is in flight sent again for each of its segments. That window shrinks once for all that is in flight when
  * a loss is found, also for a loss that a probe has repaired, and once more where what was sent again is lost again. As of version 21 its
@@ -1328,9 +1328,10 @@ uint32_t tcpcore_connection_set_keep_alive(tcpcore_connection *connection, uint6
  * Has new text go out spread over a round trip, so that no queue on the path has to take a window at once (RFC 9002, 7.7), or, where
  * `is_paced` is 0, as soon as the windows let it out, which is so where this isn't called.
  *   It goes out in portions. One is as many whole segments as go out in 1 ms at the rate 1.25 * cwnd / SRTT, in slow start 2 * cwnd / SRTT,
- * and at least two; the next begins where it is over at that rate. Idle time earns no more than one portion. What is sent again doesn't
- * wait, nor does a FIN that no text waits before, nor a segment before which nothing is in flight. Until a round trip is measured nothing is
- * paced, and without a congestion window (tcpcore_connection_set_congestion) practically nothing waits.
+ * or as many as cwnd has, up to the ten of an initial window (RFC 6928, 2), where those are more; and two at least. The next begins where
+ * it is over at that rate. Idle time earns no more than one portion. What is sent again doesn't wait, nor does a FIN that no text waits
+ * before, nor a segment before which nothing is in flight. Until a round trip is measured nothing is paced, and without a congestion window
+ * (tcpcore_connection_set_congestion) practically nothing waits.
  *   Where text waits for its portion an emission answers NOT_DUE, and tcpcore_connection_poll_at is when the next one begins: emit then,
  * whatever tcpcore_connection_timeout answers. So who paces waits by a timer that is finer than a portion takes, which is often a
  * millisecond or less: by a coarser one text goes out more slowly than the window has it, one portion for each call. It may be called at
