@@ -207,8 +207,8 @@ class Connection(Held):
         self.ask("set_user_timeout", limit(time))
 
     def set_congestion(self, rule: Congestion) -> None:
-        """Chooses the congestion window (RFC 5681, 3; RFC 9438), any time before text is sent: from then on what is emitted ends within it,
-        beside `window`. Refused where text was sent already."""
+        """Chooses the congestion window (RFC 5681, 3; RFC 9438), any time before text is sent: from then on what is emitted ends within it
+        and what it lets out beyond itself (RFC 3042; RFC 6675, 5), beside `window`. Refused where text was sent already."""
         self.ask("set_congestion", number("the rule of congestion", rule, 32))
 
     def congestion(self) -> CongestionWindow:

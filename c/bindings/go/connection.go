@@ -308,7 +308,8 @@ type Congestion struct {
 }
 
 // SetCongestion chooses the congestion window, NoCongestion, Reno or Cubic (RFC 5681, 3; RFC 9438), any time before text is sent: from then
-// on what is emitted ends within it, beside the Window. Refused(54) where text was sent already.
+// on what is emitted ends within it and what it lets out beyond itself (RFC 3042; RFC 6675, 5), beside the Window. Refused(54) where text
+// was sent already.
 func (connection *Connection) SetCongestion(kind uint32) error {
 	return done(C.tcpcore_connection_set_congestion(connection.raw, C.uint32_t(kind)))
 }

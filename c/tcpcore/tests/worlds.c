@@ -33,7 +33,7 @@ static void cause(void)
     widest = links[0].count + links[1].count;
 }
 
-/* New text stays within the congestion window, and two segments more (RFC 3042), but for what goes out while nothing is in flight. */
+/* New text stays within the congestion window and what goes past it, but for what goes out while nothing is in flight. */
 static void inspect_new(int at, uint64_t position, uint64_t size)
 {
     struct tcpcore_congestion congestion;
@@ -41,8 +41,8 @@ static void inspect_new(int at, uint64_t position, uint64_t size)
     DONE(at, tcpcore_connection_congestion(&sides[at].connection, &congestion));
     DONE(at, tcpcore_connection_status(&sides[at].connection, &status));
     SURE(at, congestion.cwnd >= congestion.smss, "a congestion window below a segment");
-    SURE(at, position == status.snd_una || position + size <= status.snd_una + lesser(words[at][WINDOW], congestion.cwnd + 2 * congestion.smss),
-         "text past the congestion window");
+    uint64_t most = lesser(words[at][WINDOW], congestion.cwnd + past_window(at, status.snd_una, &congestion));
+    SURE(at, position == status.snd_una || position + size <= status.snd_una + most, "text past the congestion window");
     cause();
 }
 
@@ -146,7 +146,7 @@ static void look(int at)
 static void hand_in(int at)
 {
     struct side *s = &sides[at];
-    struct packet *packet = pop(&links[at]);
+    struct packet *packet = arrived(at);
     struct tcpcore_arrive_report report;
     uint32_t answer = TCPCORE_BAD_CHECKSUM;
     for (int turns = 0; !packet->is_damaged || !words[at][VOUCHED]; turns++) {

@@ -411,6 +411,8 @@ static struct side {
     uint64_t given, got, highest, ordered, released, edge;
     uint64_t emitted, again, calls, harmed, not_kept, probes, expired[4];
     struct tcpcore_status status;
+    /* A mark for each position of its text and its FIN that blocks have reported. */
+    unsigned char is_reported[TEXT + 2];
 } sides[2];
 
 /* Whether the world is without losses, in order. */
@@ -420,6 +422,33 @@ static void fail(int at, const char *what)
 {
     printf("worlds: world %" PRIu64 "%s: side %c at %" PRIu64 " us: %s\n", seed, is_clean ? ", without losses" : "", "ab"[at], now / US, what);
     exit(1);
+}
+
+/* The segment that comes to a side next, whose blocks report some of what that sent. */
+static struct packet *arrived(int at)
+{
+    struct packet *packet = pop(&links[at]);
+    const unsigned char *bytes = packet->bytes;
+    size_t header = 4 * (size_t)(bytes[12] >> 4);
+    for (size_t i = 20; !packet->is_damaged && i + 4 <= header && header <= packet->length && bytes[i] == 1; i += 4)
+        for (size_t block = i + 4; bytes[i + 2] == 5 && block + 8 <= header; block += 8) {
+            uint64_t from = position_of(get32(bytes + block), at, sides[at].highest);
+            uint64_t to = position_of(get32(bytes + block + 4), at, sides[at].highest);
+            if (from < to && to <= TEXT + 2)
+                memset(sides[at].is_reported + from, 1, (size_t)(to - from));
+        }
+    return packet;
+}
+
+/* How far text may go past the congestion window: two segments (RFC 3042), or at most what blocks have reported, where losses are found by
+ * time and no recovery goes on (RFC 6675, 5). Marks are never taken back: the bound is the looser for it. */
+static uint64_t past_window(int at, uint64_t una, const struct tcpcore_congestion *congestion)
+{
+    int is_open = words[at][RECOVERY] && !congestion->is_recovering && congestion->ssthresh <= congestion->cwnd;
+    uint64_t reported = 0;
+    for (uint64_t position = una; is_open && position <= sides[at].highest + 1; position++)
+        reported += sides[at].is_reported[position];
+    return greater(2 * congestion->smss, reported);
 }
 
 /* Whether a side has a congestion window, and the other one room for four of its segments. */

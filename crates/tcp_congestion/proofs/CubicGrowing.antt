@@ -235,11 +235,11 @@ grew c each is calm least more (ack ∷ earlier) =
     use-by c.window p ack.acked ack.now ack.rtt (start c + total_of earlier * each) each (is_used p.window ack.acked ack.flight) two least
     (λ e. more v.window.cwnd h.kept.least (at-threshold v.window.cwnd v.window.ssthresh c.window.ssthresh t e)) k in
     let sum : (start c + total_of earlier * each) + ack.acked * each ≤ start c + (ack.acked + total_of earlier) * each = omega arith in
-    let other : Grows c.window (after_growth v ack.acked ack.flight ack.now ack.rtt) ((start c + total_of earlier * each) + ack.acked * each) =
-    use-by c.window v ack.acked ack.now ack.rtt (start c + total_of earlier * each) each (is_used v.window ack.acked ack.flight) two least
+    let other : Grows c.window (after_growth v ack.acked (ack.flight - ack.acked) ack.now ack.rtt) ((start c + total_of earlier * each) + ack.acked * each) =
+    use-by c.window v ack.acked ack.now ack.rtt (start c + total_of earlier * each) each (is_used v.window ack.acked (ack.flight - ack.acked)) two least
     (λ e. more v.window.cwnd h.kept.least (at-threshold v.window.cwnd v.window.ssthresh c.window.ssthresh t e)) h in
     by-blocks (λ u. Grows c.window u (start c + (ack.acked + total_of earlier) * each)) v _ _ _ ack.by_blocks v.window.is_recovering shut
-    (wider c.window (after_growth v ack.acked ack.flight ack.now ack.rtt) ((start c + total_of earlier * each) + ack.acked * each)
+    (wider c.window (after_growth v ack.acked (ack.flight - ack.acked) ack.now ack.rtt) ((start c + total_of earlier * each) + ack.acked * each)
     (start c + (ack.acked + total_of earlier) * each) sum other)
     (wider c.window (after_growth p ack.acked ack.flight ack.now ack.rtt) ((start c + total_of earlier * each) + ack.acked * each)
     (start c + (ack.acked + total_of earlier) * each) sum one)

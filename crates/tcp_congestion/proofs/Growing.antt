@@ -75,8 +75,8 @@ progressed w v total acked h = record {
 
 -- an acknowledgement is one of growth where fast recovery doesn't go on, and so is one by blocks
 by-blocks : (P : Window → Type 0) (w : Window) (ack : Acknowledgement) (b by_blocks : Bool) → w.is_recovering ≡ b → b ≡ false
-    → P (after_growth w ack.acked ack.flight) → P (after_growth (with_progress w ack.acked) ack.acked ack.flight)
-    → P (if by_blocks then (if b then w else after_growth w ack.acked ack.flight)
+    → P (after_growth w ack.acked (ack.flight - ack.acked)) → P (after_growth (with_progress w ack.acked) ack.acked ack.flight)
+    → P (if by_blocks then (if b then w else after_growth w ack.acked (ack.flight - ack.acked))
     else (if b then after_recovering (with_progress w ack.acked) ack.acked ack.snd_una ack.flight
     else after_growth (with_progress w ack.acked) ack.acked ack.flight))
 by-blocks P w ack true by_blocks e calm h i = absurd (cc)
@@ -100,7 +100,7 @@ grew w (ack ∷ earlier) is calm past =
     let l = h.least in
     by-blocks (λ v. Grew w v (ack.acked + total_of earlier)) (after_acks w earlier) ack
     (after_acks w earlier).is_recovering ack.by_blocks refl h.open_still
-    (by-use w (after_acks w earlier) (total_of earlier) ack.acked (is_used (after_acks w earlier) ack.acked ack.flight) (omega (arith, t, l, past)) h)
+    (by-use w (after_acks w earlier) (total_of earlier) ack.acked (is_used (after_acks w earlier) ack.acked (ack.flight - ack.acked)) (omega (arith, t, l, past)) h)
     (by-use w (with_progress (after_acks w earlier) ack.acked) (total_of earlier) ack.acked (is_used (after_acks w earlier) ack.acked ack.flight)
     (omega (arith, t, l, past)) (progressed w (after_acks w earlier) (total_of earlier) ack.acked h))
 
@@ -153,7 +153,7 @@ grew-at-most w (ack ∷ earlier) is calm =
     record { both = h.both; least = h.least; most = h.most; open_still = h.open_still } in
     by-blocks (λ v. GrewAtMost w v (ack.acked + total_of earlier)) (after_acks w earlier) ack
     (after_acks w earlier).is_recovering ack.by_blocks refl h.open_still
-    (most-by-use w (after_acks w earlier) (total_of earlier) ack.acked (is_used (after_acks w earlier) ack.acked ack.flight) h)
+    (most-by-use w (after_acks w earlier) (total_of earlier) ack.acked (is_used (after_acks w earlier) ack.acked (ack.flight - ack.acked)) h)
     (most-by-use w (with_progress (after_acks w earlier) ack.acked) (total_of earlier) ack.acked (is_used (after_acks w earlier) ack.acked ack.flight) p)
 
 pub acknowledged_lem : GrowthIsAcknowledged

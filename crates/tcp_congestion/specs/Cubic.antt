@@ -149,7 +149,7 @@ after_acknowledgement c acked snd_una flight now rtt =
     else after_growth (record c { window = with_progress c.window acked }) acked flight now rtt
 
 abbrev pub after_delivery : CubicWindow → ℕ → ℕ → ℕ → ℕ → CubicWindow
-after_delivery c delivered flight now rtt = if c.window.is_recovering then c else after_growth c delivered flight now rtt
+after_delivery c delivered flight now rtt = if c.window.is_recovering then c else after_growth c delivered (flight - delivered) now rtt
 
 abbrev pub after_report_of : CubicWindow → CubicWindow
 after_report_of c = record c { window = after_report c.window }

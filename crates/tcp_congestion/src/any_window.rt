@@ -101,6 +101,14 @@ impl Congestion for AnyWindow {
         }
     }
 
+    fn is_new_loss(&self, snd_una: u64) -> bool {
+        match self {
+            AnyWindow::Unlimited => false,
+            AnyWindow::Reno(window) => Congestion::is_new_loss(window, snd_una),
+            AnyWindow::Cubic(window) => Congestion::is_new_loss(window, snd_una),
+        }
+    }
+
     fn lost(&mut self, snd_una: u64, flight: u64, snd_nxt: u64) -> bool {
         match self {
             AnyWindow::Unlimited => false,

@@ -62,6 +62,10 @@ pub trait Congestion {
     fn reported(&mut self)
         ensures { self.new ≡ control.reported self.old };
 
+    /// Whether a loss would be the first of a window of data: all before the last one is acknowledged (RFC 5681, 4.3).
+    fn is_new_loss(&self, snd_una: u64) -> bool
+        ensures { result ≡ control.is_new_loss self.now snd_una };
+
     /// Blocks or a probe have found a loss. Returns whether it shrinks the window.
     fn lost(&mut self, snd_una: u64, flight: u64, snd_nxt: u64) -> bool
         ensures shrinks { result ≡ control.is_new_loss self.old snd_una }
@@ -166,6 +170,10 @@ impl Congestion for Reno {
         Reno::reported(self);
     }
 
+    fn is_new_loss(&self, snd_una: u64) -> bool {
+        Reno::is_new_loss(self, snd_una)
+    }
+
     fn lost(&mut self, snd_una: u64, flight: u64, snd_nxt: u64) -> bool {
         Reno::lost(self, snd_una, flight, snd_nxt)
     }
@@ -254,6 +262,10 @@ impl Congestion for Cubic {
 
     fn reported(&mut self) {
         Cubic::reported(self);
+    }
+
+    fn is_new_loss(&self, snd_una: u64) -> bool {
+        Cubic::is_new_loss(self, snd_una)
     }
 
     fn lost(&mut self, snd_una: u64, flight: u64, snd_nxt: u64) -> bool {

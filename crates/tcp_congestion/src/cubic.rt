@@ -126,6 +126,13 @@ impl Cubic {
         self.window.is_recovering()
     }
 
+    /// Whether a loss would be the first of a window of data (RFC 5681, 4.3).
+    pub(crate) fn is_new_loss(&self, snd_una: u64) -> bool
+        ensures { result ≡ is_new_loss self.now.window snd_una }
+    {
+        self.window.is_new_loss(snd_una)
+    }
+
     /// How many bytes may be sent beside the `flight` bytes that aren't acknowledged.
     #[must_use]
     pub fn room(&self, flight: u64) -> u64
@@ -164,7 +171,7 @@ impl Cubic {
         ensures { self.new ≡ after_delivery self.old count flight now rtt }
     {
         if !self.window.is_recovering() {
-            self.grow(count, flight, now, rtt);
+            self.grow(count, flight.saturating_sub(count), now, rtt);
         }
     }
 

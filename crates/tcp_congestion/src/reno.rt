@@ -186,7 +186,7 @@ impl Reno {
         ensures { self.new ≡ after_delivery self.old count flight }
     {
         if !self.is_recovering {
-            self.grow(count, flight);
+            self.grow(count, flight.saturating_sub(count));
         }
     }
 

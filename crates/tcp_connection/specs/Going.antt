@@ -32,7 +32,7 @@ ack_waits i k now = is_to_come (deadline_of k.ack) now || is_small i k
 -- ---- NEW TEXT WAITS for the congestion window, so that at most an acknowledgement goes out (RFC 5681, 3.1)
 abbrev pub is_past : {S W : Type 0} → Machine S → Control W → Connecting S W → ℕ → Bool
 is_past m c k window =
-    holds_by (m.due (core_of k)) (m.una (core_of k)) (m.flight (core_of k)) false (allowed c k.flowing window)
+    holds_by (m.due (core_of k)) (m.una (core_of k)) (m.flight (core_of k)) false (allowed m c k.flowing window)
 
 abbrev pub is_new_text : Option Kind → Bool
 is_new_text (Some NewText) = true
@@ -79,10 +79,10 @@ holds_back m i c k window now = keeps m i k (i.kind (core_of k)) (is_past m c k 
 
 -- ---- THE FLOW EMITS: what goes out, what is written, and the flow after it
 unfoldable pub flow_sent : {S W : Type 0} → Machine S → Control W → Flowing S W → ℕ → ℕ → Option Sent
-flow_sent m c f now window = sent_of m f.driving.core (allowed c (rested m c f now) window)
+flow_sent m c f now window = sent_of m f.driving.core (allowed m c (rested m c f now) window)
 
 unfoldable pub flow_written : {S W : Type 0} → Machine S → Control W → Flowing S W → ℕ → ℕ → List ℕ → List ℕ
-flow_written m c f now window out = written_of m f.driving.core (allowed c (rested m c f now) window) out
+flow_written m c f now window out = written_of m f.driving.core (allowed m c (rested m c f now) window) out
 
 unfoldable pub flow_after : {S W : Type 0} → Machine S → Control W → Flowing S W → ℕ → ℕ → Flowing S W
 flow_after m c f now window = emitted m c (rested m c f now) now window

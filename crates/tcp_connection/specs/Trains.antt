@@ -26,10 +26,10 @@ most_of m i c k window most = most_by m i k (is_past m c k window) most
 
 -- ---- THE FLOW EMITS them: its answer, by the end's, what is written, the flow after it, and how many numbers they take
 unfoldable pub flow_train : {S W T : Type 0} → Machine S → (S → ℕ → ℕ → ℕ → Option T) → Control W → Flowing S W → ℕ → ℕ → ℕ → ℕ → Option T
-flow_train m answer c f now window most room = answer f.driving.core (allowed c (rested m c f now) window) most room
+flow_train m answer c f now window most room = answer f.driving.core (allowed m c (rested m c f now) window) most room
 
 unfoldable pub train_written : {S W : Type 0} → Machine S → Control W → Flowing S W → ℕ → ℕ → ℕ → List ℕ → List ℕ
-train_written m c f now window most out = m.written_row f.driving.core (allowed c (rested m c f now) window) most out
+train_written m c f now window most out = m.written_row f.driving.core (allowed m c (rested m c f now) window) most out
 
 unfoldable pub train_after : {S W : Type 0} → Machine S → Control W → Flowing S W → ℕ → ℕ → ℕ → ℕ → Flowing S W
 train_after m c f now window most room = emitted_as_one m c (rested m c f now) now window most room

@@ -191,11 +191,7 @@ impl<C: Deferring + Drop, W: Congestion + Drop> Connection<C, W> {
         ensures { result ≡ is_past C.machine W.control self.now window }
     {
         let core = self.flow.driver().core();
-        let allowed = if self.flow.window().limits() {
-            window.min(self.flow.window().room(0))
-        } else {
-            window
-        };
+        let allowed = self.flow.allowed(window);
         holds(due, core.una(), core.flight(), false, allowed)
     }
 

@@ -128,11 +128,11 @@ driven_lem m smss_of c trains f (Comes now src dst bytes vouched) =
     record { resends = h.resends; same = h.same }
 driven_lem m smss_of c trains f (Goes now window) = record {
   resends = Nothing;
-  same = emits-by m f (rested m c f now) now (allowed c (rested m c f now) window) (rest_by f (c.idle f.window) (c.limits f.window && is_idle m f now));
+  same = emits-by m f (rested m c f now) now (allowed m c (rested m c f now) window) (rest_by f (c.idle f.window) (c.limits f.window && is_idle m f now));
 }
 driven_lem m smss_of c trains f (GoesAsOne now window most room) = record {
   resends = Nothing;
-  same = many-by m f (rested m c f now) (emissions_of (row_of m c (rested m c f now) window most room)) now (allowed c (rested m c f now) window) trains
+  same = many-by m f (rested m c f now) (emissions_of (row_of m c (rested m c f now) window most room)) now (allowed m c (rested m c f now) window) trains
       (rest_by f (c.idle f.window) (c.limits f.window && is_idle m f now));
 }
 driven_lem m smss_of c trains f (Passes now) = record { resends = Nothing; same = refl }

@@ -15,7 +15,7 @@ use Rattle.tcp_driver.specs.Rows.{after_emissions, emissions_of}
 use Rattle.tcp_driver.specs.Times.{expiry}
 use Rattle.tcp_flow.proofs.Driving.{chosen_by, rest_by}
 use Rattle.tcp_flow.specs.Calls.{FlowCall, Comes, Goes, GoesAsOne, Passes, Asks, Limits, Waits, Chooses, Loses, Measures, FlowIsDriven, Resends, Nothing, First, Between, after_flow_call, after_flow_calls, behind}
-use Rattle.tcp_flow.specs.Flow.{Flowing, allowed, flight_of, is_idle, rested, row_of, una_of}
+use Rattle.tcp_flow.specs.Flow.{Flowing, allowed, flight_of, is_idle, left_of, let_out_of, most_of, rested, row_of, una_of}
 use Rattle.tcp_flow.specs.InFlight.{AllUseNone, CountsFlight, InFlightStaysInWindow, LetsOutTwoMore, UsesNone, flight_with, let_out, let_out_by, let_out_in_turn, most_let_out, reach}
 
 -- WHAT AN END IS AFTER A CALL: what always holds does, and no more is in flight than this
@@ -116,31 +116,37 @@ time-by m Always h d now (Some timer) a =
     record { always = r.0; flight = omega (arith, r.1) }
 
 -- ---- THE FLOW'S EMISSIONS stay within what its window lets out
-reach-by : {S W : Type 0} (c : Control W) (g : Flowing S W) (window : ℕ) (limits : Bool) → LetsOutTwoMore c
-    → (if limits then min window (c.room g.window 0) else window) ≤ (if limits then min window (c.cwnd g.window + 2 * c.smss g.window) else window)
-reach-by c g window true more = omega (arith, more g.window)
-reach-by c g window false more = omega arith
+reach-by : {S W : Type 0} (m : Machine S) (c : Control W) (g : Flowing S W) (window : ℕ) (limits : Bool) (left : ℕ) (some : Bool) → LetsOutTwoMore c
+    → (if limits then min window (if some then c.cwnd g.window + left else c.room g.window 0) else window)
+    ≤ (if limits then min window (c.cwnd g.window + (if some then left else 2 * c.smss g.window)) else window)
+reach-by m c g window true left true more = omega arith
+reach-by m c g window true left false more = omega (arith, more g.window)
+reach-by m c g window false left some more = omega arith
+
+reach-in : {S W : Type 0} (m : Machine S) (c : Control W) (g : Flowing S W) (window : ℕ) → LetsOutTwoMore c → allowed m c g window ≤ reach m c g window
+unfolding let_out_of most_of
+reach-in m c g window more = reach-by m c g window (c.limits g.window) (left_of m c g) (nat_lt 0 (left_of m c g)) more
 
 goes-by : {S W : Type 0} (m : Machine S) (Always : S → Type 0) (c : Control W) → CountsFlight m Always → LetsOutTwoMore c → (f g : Flowing S W) (window : ℕ) → g.driving ≡ f.driving
     → Always f.driving.core
-    → Has m Always (core_after m g.driving.core (allowed c g window))
-    (max (flight_of m f) (let_out_by (reach c g.window window) (una_of m g) (sent_of m g.driving.core (allowed c g window))))
+    → Has m Always (core_after m g.driving.core (allowed m c g window))
+    (max (flight_of m f) (let_out_by (reach m c g window) (una_of m g) (sent_of m g.driving.core (allowed m c g window))))
 goes-by m Always c h more f g window e a =
-    let core = core_after m g.driving.core (allowed c g window) in
-    let out = let_out_by (reach c g.window window) (una_of m g) (sent_of m g.driving.core (allowed c g window)) in
-    let r = emits m Always h g.driving.core (allowed c g window) (reach c g.window window) (reach-by c g window (c.limits g.window) more)
+    let core = core_after m g.driving.core (allowed m c g window) in
+    let out = let_out_by (reach m c g window) (una_of m g) (sent_of m g.driving.core (allowed m c g window)) in
+    let r = emits m Always h g.driving.core (allowed m c g window) (reach m c g window) (reach-in m c g window more)
     (subst (λ d. Always d.core) (sym e) a) in
     let same : flight_of m g ≡ flight_of m f = cc in
     record { always = r.always; flight = subst (λ n. m.flight core ≤ max n out) same r.flight }
 
 train-by : {S W : Type 0} (m : Machine S) (Always : S → Type 0) (c : Control W) → CountsFlight m Always → LetsOutTwoMore c → (f g : Flowing S W) (count now window : ℕ)
     → g.driving ≡ f.driving → Always f.driving.core
-    → Has m Always (after_emissions m count g.driving now (allowed c g window)).core
-    (max (flight_of m f) (let_out_in_turn m (reach c g.window window) count g.driving.core (allowed c g window)))
+    → Has m Always (after_emissions m count g.driving now (allowed m c g window)).core
+    (max (flight_of m f) (let_out_in_turn m (reach m c g window) count g.driving.core (allowed m c g window)))
 train-by m Always c h more f g count now window e a =
-    let core = (after_emissions m count g.driving now (allowed c g window)).core in
-    let out = let_out_in_turn m (reach c g.window window) count g.driving.core (allowed c g window) in
-    let r = many m Always h count g.driving now (allowed c g window) (reach c g.window window) (reach-by c g window (c.limits g.window) more)
+    let core = (after_emissions m count g.driving now (allowed m c g window)).core in
+    let out = let_out_in_turn m (reach m c g window) count g.driving.core (allowed m c g window) in
+    let r = many m Always h count g.driving now (allowed m c g window) (reach m c g window) (reach-in m c g window more)
     (subst (λ d. Always d.core) (sym e) a) in
     let same : flight_of m g ≡ flight_of m f = cc in
     record { always = r.always; flight = subst (λ n. m.flight core ≤ max n out) same r.flight }

@@ -55,9 +55,9 @@ behind m now (Between from to) calls = Uses now (λ s. m.resent s from to) ∷ c
 abbrev pub calls_of : {S W : Type 0} → Machine S → Control W → Flowing S W → Resends → FlowCall S W → List (Call S)
 calls_of m c f resends (Comes now src dst bytes vouched) =
     behind m now resends (Arrives now src dst bytes vouched ∷ [])
-calls_of m c f resends (Goes now window) = Emits now (allowed c (rested m c f now) window) ∷ []
+calls_of m c f resends (Goes now window) = Emits now (allowed m c (rested m c f now) window) ∷ []
 calls_of m c f resends (GoesAsOne now window most room) =
-    replicate (emissions_of (row_of m c (rested m c f now) window most room)) (Emits now (allowed c (rested m c f now) window))
+    replicate (emissions_of (row_of m c (rested m c f now) window most room)) (Emits now (allowed m c (rested m c f now) window))
 calls_of m c f resends (Passes now) = Expires now ∷ []
 calls_of m c f resends (Asks now does) = Uses now does ∷ []
 calls_of m c f resends (Limits limit) = SetsUserTimeout limit ∷ []

@@ -1,6 +1,6 @@
 -- One end with its times, under a congestion window, whatever the end and the window are. Where a window is none (`limits`), nothing is
 -- told to it, and nothing waits for it: the flow does what its driver does.
-use Rattle.std.specs.Prelude.{◌≡◌, ℕ, ◌+◌, ◌-◌, ◌*◌, ◌<◌, ◌≤◌, nat_lt, min, Bool, true, false, not, ◌&&◌, ◌||◌, ◌==◌, if◌then◌else◌, List, Option, Some, None, IfSome, is_some}
+use Rattle.std.specs.Prelude.{◌≡◌, ℕ, ◌+◌, ◌-◌, ◌*◌, ◌<◌, ◌≤◌, nat_lt, nat_le, min, Bool, true, false, not, ◌&&◌, ◌||◌, ◌==◌, if◌then◌else◌, List, Option, Some, None, IfSome, is_some}
 use Rattle.tcp_timing.specs.declared.round_trip.RoundTrip.{RoundTrip}
 use Rattle.tcp_congestion.specs.Control.{Control}
 use Rattle.tcp_congestion.specs.Sizes.{latest}
@@ -182,20 +182,37 @@ is_idle m f now = (flight_of m f == 0) && nat_lt f.driving.times.estimate.rto (n
 abbrev pub rested : {S W : Type 0} → Machine S → Control W → Flowing S W → ℕ → Flowing S W
 rested m c f now = if c.limits f.window && is_idle m f now then record f { window = c.idle f.window } else f
 
--- THE WINDOW OF WHAT GOES OUT, in numbers from SND.UNA: the caller's, and the room where nothing is in flight
-abbrev pub allowed : {S W : Type 0} → Control W → Flowing S W → ℕ → ℕ
-allowed c f window = if c.limits f.window then min window (c.room f.window 0) else window
+-- BEFORE A LOSS IS FOUND what blocks report has left the network, so that as much may go out beside cwnd: limited transmit is governed by
+-- pipe (RFC 6675, 4 and 5, step 3), here until losses are found by time (own). It is once all is acknowledged that was in flight when the
+-- last one was found, and not in slow start, where a gap is mostly that of a queue that has overflown (own)
+abbrev pub is_avoiding : {S W : Type 0} → Control W → Flowing S W → Bool
+is_avoiding c f = nat_le (c.ssthresh f.window) (c.cwnd f.window)
 
--- WHAT GOES OUT STAYS IN THE WINDOW (RFC 5681, 3.1; RFC 3042, 2): unless it is the acknowledgement alone, or nothing before it is in
--- flight, it ends at most cwnd and two segments past SND.UNA, and no further than the caller's window
+abbrev pub left_of : {S W : Type 0} → Machine S → Control W → Flowing S W → ℕ
+left_of m c f = if f.patient && (is_avoiding c f && c.is_new_loss f.window (una_of m f)) then m.reported f.driving.core else 0
+
+-- THE WINDOW OF WHAT GOES OUT, in numbers from SND.UNA: the caller's, and the room where nothing is in flight, or cwnd and what has left
+-- the network
+unfoldable pub let_out_of : {S W : Type 0} → Machine S → Control W → Flowing S W → ℕ
+let_out_of m c f = if nat_lt 0 (left_of m c f) then c.cwnd f.window + left_of m c f else c.room f.window 0
+
+abbrev pub allowed : {S W : Type 0} → Machine S → Control W → Flowing S W → ℕ → ℕ
+allowed m c f window = if c.limits f.window then min window (let_out_of m c f) else window
+
+-- cwnd, and past it two segments (RFC 3042, 2), or what has left the network
+unfoldable pub most_of : {S W : Type 0} → Machine S → Control W → Flowing S W → ℕ
+most_of m c f = c.cwnd f.window + (if nat_lt 0 (left_of m c f) then left_of m c f else 2 * c.smss f.window)
+
+-- WHAT GOES OUT STAYS IN THE WINDOW (RFC 5681, 3.1; RFC 3042, 2; RFC 6675, 5): unless it is the acknowledgement alone, or nothing before it
+-- is in flight, it ends at most so much past SND.UNA, and no further than the caller's window
 abbrev pub StaysInWindow : {S W : Type 0} → Machine S → Control W → Flowing S W → ℕ → Option Sent → Type 0
 StaysInWindow m c f window sent =
-    holds m f.driving.core (allowed c f window) ≡ false → c.limits f.window ≡ true
-    → IfSome sent (λ sent. una_of m f < sent.start → 0 < sent.count → sent.start + sent.count ≤ una_of m f + (c.cwnd f.window + 2 * c.smss f.window))
+    holds m f.driving.core (allowed m c f window) ≡ false → c.limits f.window ≡ true
+    → IfSome sent (λ sent. una_of m f < sent.start → 0 < sent.count → sent.start + sent.count ≤ una_of m f + most_of m c f)
 
 abbrev pub StaysInOwn : {S W : Type 0} → Machine S → Control W → Flowing S W → ℕ → Option Sent → Type 0
 StaysInOwn m c f window sent =
-    holds m f.driving.core (allowed c f window) ≡ false
+    holds m f.driving.core (allowed m c f window) ≡ false
     → IfSome sent (λ sent. una_of m f < sent.start → 0 < sent.count → sent.start + sent.count ≤ una_of m f + window)
 
 abbrev pub sent_at_by : Bool → Option Sent → ℕ → ℕ → ℕ
@@ -204,13 +221,13 @@ sent_at_by limits (Some sent) now before = if limits && not (sent.count == 0) th
 
 abbrev pub emitted : {S W : Type 0} → Machine S → Control W → Flowing S W → ℕ → ℕ → Flowing S W
 emitted m c f now window = record f {
-  driving = after_emission m f.driving (at f.driving now) (allowed c f window);
-  sent_at = sent_at_by (c.limits f.window) (sent_of m f.driving.core (allowed c f window)) now f.sent_at;
+  driving = after_emission m f.driving (at f.driving now) (allowed m c f window);
+  sent_at = sent_at_by (c.limits f.window) (sent_of m f.driving.core (allowed m c f window)) now f.sent_at;
 }
 
 -- AS ONE, for a device that cuts them: as many emissions as these segments are
 abbrev pub row_of : {S W : Type 0} → Machine S → Control W → Flowing S W → ℕ → ℕ → ℕ → Option Row
-row_of m c f window most room = m.row f.driving.core (allowed c f window) most room
+row_of m c f window most room = m.row f.driving.core (allowed m c f window) most room
 
 abbrev pub sent_at_by_row : Bool → Option Row → ℕ → ℕ → ℕ
 sent_at_by_row limits None now before = before
@@ -218,7 +235,7 @@ sent_at_by_row limits (Some row) now before = if limits && not (row.count == 0) 
 
 abbrev pub emitted_as_one : {S W : Type 0} → Machine S → Control W → Flowing S W → ℕ → ℕ → ℕ → ℕ → Flowing S W
 emitted_as_one m c f now window most room = record f {
-  driving = after_emissions m (emissions_of (row_of m c f window most room)) f.driving (at f.driving now) (allowed c f window);
+  driving = after_emissions m (emissions_of (row_of m c f window most room)) f.driving (at f.driving now) (allowed m c f window);
   sent_at = sent_at_by_row (c.limits f.window) (row_of m c f window most room) now f.sent_at;
 }
 

@@ -9,7 +9,7 @@ use Rattle.tcp_driver.specs.Driver.{core_after, sent_of}
 use Rattle.tcp_driver.specs.Machine.{Machine}
 use Rattle.tcp_driver.specs.Rows.{emissions_of}
 use Rattle.tcp_flow.specs.Calls.{FlowCall, Comes, Goes, GoesAsOne, Asks, after_flow_calls}
-use Rattle.tcp_flow.specs.Flow.{Flowing, allowed, flight_of, rested, row_of, una_of}
+use Rattle.tcp_flow.specs.Flow.{Flowing, allowed, flight_of, most_of, rested, row_of, una_of}
 
 -- ---- WHAT AN END MAKES OF IT, where something always holds of the end: what sends nothing makes it no greater,
 abbrev pub SendsNothing : {S : Type 0} → Machine S → (S → Type 0) → (S → S) → Type 0
@@ -37,9 +37,10 @@ pub record CountsFlight {S : Type 0} (m : Machine S) (Always : S → Type 0) : T
   pub closed : SendsNothing m Always m.closed
   pub aborted : SendsNothing m Always m.aborted
 
--- ---- HOW FAR AN EMISSION MAY REACH past SND.UNA: cwnd and two segments (RFC 3042, 2), and no further than the caller's window
-abbrev pub reach : {W : Type 0} → Control W → W → ℕ → ℕ
-reach c w window = if c.limits w then min window (c.cwnd w + 2 * c.smss w) else window
+-- ---- HOW FAR AN EMISSION MAY REACH past SND.UNA: cwnd and two segments (RFC 3042, 2), or cwnd and what blocks report (RFC 6675, 5), and
+-- no further than the caller's window
+abbrev pub reach : {S W : Type 0} → Machine S → Control W → Flowing S W → ℕ → ℕ
+reach m c f window = if c.limits f.window then min window (most_of m c f) else window
 
 -- WHAT A SEGMENT LETS BE IN FLIGHT that may reach so far: no more; and where nothing before it is in flight what it takes itself, since a
 -- probe goes out whatever the windows (RFC 9293, 3.8.6.1). One that takes no number adds nothing
@@ -57,10 +58,10 @@ let_out_in_turn m reach (suc more) s window =
 abbrev pub let_out : {S W : Type 0} → Machine S → Control W → Flowing S W → FlowCall S W → ℕ
 let_out m c f (Comes now src dst bytes vouched) = 1
 let_out m c f (Goes now window) =
-    let g = rested m c f now in let_out_by (reach c g.window window) (una_of m g) (sent_of m g.driving.core (allowed c g window))
+    let g = rested m c f now in let_out_by (reach m c g window) (una_of m g) (sent_of m g.driving.core (allowed m c g window))
 let_out m c f (GoesAsOne now window most room) =
     let g = rested m c f now in
-    let_out_in_turn m (reach c g.window window) (emissions_of (row_of m c g window most room)) g.driving.core (allowed c g window)
+    let_out_in_turn m (reach m c g window) (emissions_of (row_of m c g window most room)) g.driving.core (allowed m c g window)
 let_out m c f other = 0
 
 -- the most that any of these calls does, THE NEWEST FIRST, or that was in flight before
@@ -77,7 +78,7 @@ abbrev pub AllUseNone : {S W : Type 0} → Machine S → (S → Type 0) → List
 AllUseNone m Always [] = Unit {0}
 AllUseNone m Always (call ∷ earlier) = UsesNone m Always call × AllUseNone m Always earlier
 
--- A WINDOW LETS OUT two segments more than cwnd at most, where nothing is in flight (RFC 3042, 2)
+-- A WINDOW HAS ROOM for two segments more than cwnd at most, where nothing is in flight (RFC 3042, 2)
 abbrev pub LetsOutTwoMore : {W : Type 0} → Control W → Type 0
 LetsOutTwoMore {W = W} c = (w : W) → c.room w 0 ≤ c.cwnd w + 2 * c.smss w
 

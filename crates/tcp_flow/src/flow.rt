@@ -154,7 +154,7 @@ impl<C: Paced + Drop, W: Congestion + Drop> Flow<C, W> {
         taken
     }
 
-    ghost use Rattle.tcp_flow.specs.Flow.{StaysInOwn, StaysInWindow, is_idle, lost_by, nxt_of};
+    ghost use Rattle.tcp_flow.specs.Flow.{StaysInOwn, StaysInWindow, is_idle, left_of, lost_by, most_of, nxt_of};
 
     /// SND.NXT.
     pub(crate) fn nxt(&self) -> u64
@@ -171,9 +171,9 @@ impl<C: Paced + Drop, W: Congestion + Drop> Flow<C, W> {
     /// window is told first.
     pub fn emit(&mut self, now: u64, window: u64, out: &mut [u8]) -> Option<Sent>
         requires { C.machine.room ≤ length out.old }
-        ensures sent { result ≡ sent_of C.machine self.old.driving.core (allowed W.control (rested C.machine W.control self.old now) window) }
+        ensures sent { result ≡ sent_of C.machine self.old.driving.core (allowed C.machine W.control (rested C.machine W.control self.old now) window) }
         ensures most { IfSome result (λ sent. sent.len ≤ C.machine.room) }
-        ensures written { out.new ≡ written_of C.machine self.old.driving.core (allowed W.control (rested C.machine W.control self.old now) window) out.old }
+        ensures written { out.new ≡ written_of C.machine self.old.driving.core (allowed C.machine W.control (rested C.machine W.control self.old now) window) out.old }
         ensures stays { StaysInWindow C.machine W.control (rested C.machine W.control self.old now) window result }
         ensures stays_own { StaysInOwn C.machine W.control (rested C.machine W.control self.old now) window result }
         ensures state { self.new ≡ emitted C.machine W.control (rested C.machine W.control self.old now) now window }
@@ -200,8 +200,8 @@ impl<C: Paced + Drop, W: Congestion + Drop> Flow<C, W> {
         most: usize,
     ) -> Option<C::Train>
         requires { C.machine.room ≤ length out.old }
-        ensures train { result ≡ C.train_answer self.old.driving.core (allowed W.control (rested C.machine W.control self.old now) window) most (length out.old) }
-        ensures written { out.new ≡ C.machine.written_row self.old.driving.core (allowed W.control (rested C.machine W.control self.old now) window) most out.old }
+        ensures train { result ≡ C.train_answer self.old.driving.core (allowed C.machine W.control (rested C.machine W.control self.old now) window) most (length out.old) }
+        ensures written { out.new ≡ C.machine.written_row self.old.driving.core (allowed C.machine W.control (rested C.machine W.control self.old now) window) most out.old }
         ensures state { self.new ≡ emitted_as_one C.machine W.control (rested C.machine W.control self.old now) now window most (length out.old) }
     {
         let window = self.reach(now, window);
@@ -219,9 +219,9 @@ impl<C: Paced + Drop, W: Congestion + Drop> Flow<C, W> {
     /// How far what goes out may reach past SND.UNA, behind an idle time of which the window is told.
     #[inline(always)]
     fn reach(&mut self, now: u64, window: u64) -> u64
-        ensures value { result ≡ allowed W.control (rested C.machine W.control self.old now) window }
+        ensures value { result ≡ allowed C.machine W.control (rested C.machine W.control self.old now) window }
         ensures own { result ≤ window }
-        ensures most { W.control.limits self.new.window ≡ true → result ≤ W.control.cwnd self.new.window + 2 * W.control.smss self.new.window }
+        ensures most { W.control.limits self.new.window ≡ true → result ≤ most_of C.machine W.control self.new }
         ensures driving { self.new.driving ≡ self.old.driving }
         ensures rested { self.new ≡ rested C.machine W.control self.old now }
     {
@@ -229,18 +229,51 @@ impl<C: Paced + Drop, W: Congestion + Drop> Flow<C, W> {
             return window;
         }
         self.rest(now);
-        self.allowed(window)
+        self.let_out(window)
     }
 
-    /// How far what goes out may reach past SND.UNA.
-    #[inline(never)]
-    fn allowed(&self, window: u64) -> u64
-        requires { W.control.limits self.now.window ≡ true }
-        ensures value { result ≡ allowed W.control self.now window }
+    /// How far past SND.UNA what goes out may reach, within the caller's window: as far as the congestion window has it, if it is one.
+    #[inline(always)]
+    #[must_use]
+    pub fn allowed(&self, window: u64) -> u64
+        ensures value { result ≡ allowed C.machine W.control self.now window }
         ensures own { result ≤ window }
-        ensures most { result ≤ W.control.cwnd self.now.window + 2 * W.control.smss self.now.window }
+        ensures most { W.control.limits self.now.window ≡ true → result ≤ most_of C.machine W.control self.now }
     {
+        if !self.window.limits() {
+            return window;
+        }
+        self.let_out(window)
+    }
+
+    /// The same, under a window that is one.
+    #[inline(never)]
+    #[tactic(auto, unfolding(crate::specs::Flow::let_out_of, crate::specs::Flow::most_of))]
+    fn let_out(&self, window: u64) -> u64
+        requires { W.control.limits self.now.window ≡ true }
+        ensures value { result ≡ allowed C.machine W.control self.now window }
+        ensures own { result ≤ window }
+        ensures most { result ≤ most_of C.machine W.control self.now }
+    {
+        let left = self.left();
+        if left > 0 {
+            return window.min(self.window.cwnd().saturating_add(left));
+        }
         window.min(self.window.room(0))
+    }
+
+    /// What has left the network by what blocks report, before a loss is found (RFC 6675, 5, step 3).
+    fn left(&self) -> u64
+        ensures { result ≡ left_of C.machine W.control self.now }
+    {
+        if self.is_patient
+            && self.window.ssthresh() <= self.window.cwnd()
+            && self.window.is_new_loss(self.driver.core().una())
+        {
+            self.driver.core().reported()
+        } else {
+            0
+        }
     }
 
     /// The window is told of an idle time.

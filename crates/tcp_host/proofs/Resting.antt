@@ -31,8 +31,8 @@ module _ {S W : Type 0} (m : Machine S) (c : Control W) where
   unfolding flow_sent flow_after
   flow-rests f now window e =
       let r = rested m c f now in
-      driver_rests m r.driving (at r.driving now) (allowed c r window)
-      (subst (λ (d : Driving S). sent_of m d.core (allowed c r window) ≡ None) (sym (rested-driving f now)) e)
+      driver_rests m r.driving (at r.driving now) (allowed m c r window)
+      (subst (λ (d : Driving S). sent_of m d.core (allowed m c r window) ≡ None) (sym (rested-driving f now)) e)
 
   -- what is discarded is emitted twice
   going-rests : (k : Connecting S W) (now window : ℕ) → sent_going m c k now window ≡ None

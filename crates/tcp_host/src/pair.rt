@@ -2,8 +2,8 @@
 ghost use Rattle.std.specs.Prelude.{◌≡◌};
 ghost use Rattle.tcp_host.specs.Pair.{acknowledges, asks, pair_of};
 
-/// A socket: an IPv4 address and a port (RFC 9293, 3.3.1). They are ordered by their ports first, in which sockets of one
-/// host differ.
+/// A socket: an IPv4 address and a port (RFC 9293, 3.3.1). They are ordered by their ports first, in which most
+/// sockets of one host differ.
 #[derive(Clone, Copy, Debug, PartialEq, Eq, PartialOrd, Ord)]
 pub struct Socket {
     /// The port.
@@ -13,7 +13,7 @@ pub struct Socket {
 }
 
 /// The pair of sockets that identifies a connection (RFC 9293, 3.3.1). They are ordered by the peers first, in whose ports
-/// most connections of a host differ: one comparison of two numbers tells them apart.
+/// most connections of a server differ: there one comparison of two numbers tells them apart.
 #[derive(Clone, Copy, Debug, PartialEq, Eq, PartialOrd, Ord)]
 pub struct Pair {
     /// The peer's.

@@ -33,7 +33,15 @@ pub record Repair : Type 0 where
 
 -- it begins with nothing sent, and at the first time there is: 0 stands for one that isn't known
 abbrev pub new_repair : Repair
-new_repair = record { rack = new_flight; probe = new_probe; trips = no_trips; longest = no_long_trip; recover = None; shrunk = 0; clock = 1 }
+new_repair = record {
+  rack = new_flight;
+  probe = new_probe;
+  trips = no_trips;
+  longest = no_long_trip;
+  recover = None;
+  shrunk = 0;
+  clock = 1;
+}
 
 -- THE TIME OF A CALL: it never goes back, and stands still at the last one
 abbrev pub clock_at : Repair → ℕ → ℕ

@@ -29,7 +29,8 @@ after_trip t trip now = with_least (after_span t now) trip
 abbrev pub least_of : LeastTrip → Option ℕ
 least_of t = earlier t.least t.before
 
--- ---- THE LONGEST ROUND TRIP OF LATE (own): of those that were measured within as long as it took the greatest, 0 before there is one
+-- ---- THE LONGEST ROUND TRIP OF LATE (own): it stays for as long as it took, unless one that is no shorter comes; then the next one
+-- that is measured takes its place. 0 before there is one
 abbrev pub no_long_trip : LongestTrip
 no_long_trip = record { trip = 0; at = 0 }
 

@@ -66,8 +66,9 @@ impl LeastTrip {
     }
 }
 
-/// The longest round trip of late: of those that were measured within as long as it took the greatest, the project's own. Where round
-/// trips have just become shorter, since a queue has drained, what was sent before may still take so long. All is in microseconds.
+/// The longest round trip of late, the project's own: it stays for as long as it took, unless one that is no shorter comes, and then the
+/// next one that is measured takes its place. Where round trips have just become shorter, since a queue has drained, what was sent before
+/// may still take so long. All is in microseconds.
 #[derive(Clone, Copy, Debug, PartialEq, Eq)]
 pub struct LongestTrip {
     /// How long it took: 0 before one was measured.

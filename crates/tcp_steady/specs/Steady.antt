@@ -23,6 +23,7 @@ use Rattle.tcp_connection.specs.Using as own
 use Rattle.tcp_connection.specs.Wired.{insight}
 use Rattle.tcp_end.specs.declared.wired.Wired.{Wired}
 use Rattle.tcp_end.specs.Wired.{intake_of, machine, taken_of}
+use Rattle.tcp_flow.specs.Flow as flow
 use Rattle.tcp_flow.specs.Wired.{numbers_of, smss_of}
 use Rattle.tcp_keep_alive.specs.declared.keep_alive.KeepAliveAction.{KeepAliveAction}
 use Rattle.tcp_keep_alive.specs.declared.keep_alive.KeepAliveAction.TheVariants.{Asks, GivesUp, Nothing}
@@ -122,7 +123,7 @@ module _ {W B : Type 0} where
   next_segment c r = min (c.smss r.connecting.flowing.window) (unsent_of r.connecting.flowing.driving.core.end)
 
   abbrev pub windows_of : Control W → Repaired (Wired B) W → ℕ → ℕ
-  windows_of c r window = min window (min (c.cwnd r.connecting.flowing.window) r.connecting.flowing.driving.core.end.sending.snd_wnd)
+  windows_of c r window = min (flow.allowed machine c r.connecting.flowing window) r.connecting.flowing.driving.core.end.sending.snd_wnd
 
   abbrev pub waits_for_portion : Control W → Repaired (Wired B) W → ℕ → Pacing → Bool
   waits_for_portion c r window p =

@@ -73,6 +73,22 @@ impl<W: Congestion + Drop, B: Allocator, A: Allocator> Steady<W, B, A> {
         ensures state { self.new ≡ after_emit W.control self.old now window }
         ensures rests { IsNone result → RestsAfter machine agreed reports self.new.repairing now }
     {
+        if !self.pacer.is_on() && self.keep_alive.rules().is_none() {
+            return self.repairing.emit(now, window, out);
+        }
+        self.emit_steadied(now, window, out)
+    }
+
+    /// The same, paced or with keep-alives.
+    #[inline(never)]
+    fn emit_steadied(&mut self, now: u64, window: u64, out: &mut [u8]) -> Option<Sent>
+        requires { EMIT_ROOM ≤ length out.old }
+        ensures sent { result ≡ sent_by_emit W.control self.old now window }
+        ensures most { IfSome result (λ sent. sent.len ≤ EMIT_ROOM) }
+        ensures written { out.new ≡ written_by_emit W.control self.old now window out.old }
+        ensures state { self.new ≡ after_emit W.control self.old now window }
+        ensures rests { IsNone result → RestsAfter machine agreed reports self.new.repairing now }
+    {
         match self.emit_first(now, window, out) {
             Some(sent) => Some(sent),
             None => self.emit_last(now, out),

@@ -99,7 +99,8 @@ impl<W: Congestion + Drop, B: Allocator, A: Allocator> Steady<W, B, A> {
         let pace = self.pace();
         let end = self.end();
         let next = pace.smss.min(unsent_of(end));
-        let windows = window.min(pace.cwnd.min(u64::from(end.windows().1)));
+        let allowed = self.repairing.flow().allowed(window);
+        let windows = allowed.min(u64::from(end.windows().1));
         self.pacer.is_paced(pace)
             && self.pacer.left() < next
             && flight_of(end).saturating_add(next) <= windows

@@ -2,7 +2,7 @@
 use core::ffi::c_void;
 use core::ptr;
 
-pub(crate) const VERSION: u32 = 22;
+pub(crate) const VERSION: u32 = 23;
 pub(crate) const END_SIZE: usize = 416;
 pub(crate) const CONNECTION_SIZE: usize = 1216;
 pub(crate) const RECOVERY_MEMORY: usize = 2847;

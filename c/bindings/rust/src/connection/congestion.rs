@@ -30,7 +30,8 @@ pub struct CongestionWindow {
 
 impl Connection<'_> {
     /// Chooses the congestion window (RFC 5681, 3; RFC 9438), which is none where this isn't called: from then on what goes out ends within it,
-    /// too. Call it any time before text is sent. Answers whether it was chosen: not where text was sent already, or a FIN.
+    /// too, and what it lets out beyond itself (RFC 3042; RFC 6675, 5). Call it any time before text is sent. Answers whether it was
+    /// chosen: not where text was sent already, or a FIN.
     ///
     /// ```
     /// # use tcpcore::{Config, Congestion, Connection, Rules, Time};
