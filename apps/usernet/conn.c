@@ -251,15 +251,22 @@ static void taken(struct usernet *net, struct conn *conn, uint32_t answer, const
     wake(net, conn);
 }
 
+/* The addresses and ports of a segment. */
+static struct pair key_of(const struct ip_packet *packet)
+{
+    return (struct pair){packet->src, packet->dst, read16(packet->segment), read16(packet->segment + 2), NULL};
+}
+
 /* A segment for which there is no end. */
-static void arrive_early(struct usernet *net, const struct pair *key, const struct ip_packet *packet, int vouched)
+static void arrive_early(struct usernet *net, const struct ip_packet *packet, int vouched)
 {
     const uint8_t *bytes = packet->segment;
-    struct conn *conn = conn_of(pairs_find(&net->pairs, key));
+    struct pair key = key_of(packet);
+    struct conn *conn = conn_of(pairs_find(&net->pairs, &key));
     if (!is_segment(net, packet, vouched))
         count(net, MALFORMED, 1);
     else if (!conn && bits_of(bytes, SYN | ACK | RST | FIN) == SYN)
-        open_conn(net, key, packet, vouched);
+        open_conn(net, &key, packet, vouched);
     else if (!conn)
         stray(net, packet, vouched);
     else if (bits_of(bytes, RST) && read32(bytes + AT_SEQ) == conn->first + 1)
@@ -269,17 +276,17 @@ static void arrive_early(struct usernet *net, const struct pair *key, const stru
 void arrive(struct usernet *net, const struct ip_packet *packet, int vouched)
 {
     const uint8_t *bytes = packet->segment;
-    struct pair key = {packet->src, packet->dst, read16(bytes), read16(bytes + 2), NULL};
     struct tcpcore_host_arrived arrived;
     struct tcpcore_arrive_report report;
     uint32_t answer = (vouched ? tcpcore_host_arrive_vouched : tcpcore_host_arrive)(&net->ends, time_of(net), packet->src, packet->dst, bytes,
                                                                                     packet->length, &arrived, &report);
     if (arrived.place != TCPCORE_PLACE_END) {
-        arrive_early(net, &key, packet, vouched);
+        arrive_early(net, packet, vouched);
         return;
     }
     struct conn *conn = net->owners[arrived.id.slot];
     if (bits_of(bytes, SYN | ACK | RST | FIN) == SYN && !is_malformed(answer) && reopens(net, conn, bytes)) {
+        struct pair key = key_of(packet);
         drop(net, conn, 0);
         open_conn(net, &key, packet, vouched);
         return;

@@ -54,16 +54,17 @@ static uint64_t edge_of(const struct usernet *net, const struct conn *conn)
 static int goes(struct usernet *net, struct conn *conn, size_t length, int is_refused)
 {
     const uint8_t *segment = segment_place(net);
-    int resets = bits_of(segment, RST) != 0, is_bare = length == header_of(segment) && !bits_of(segment, SYN | FIN);
-    int is_said = resets || (read32(segment + AT_ACK) == conn->end->ack && read16(segment + AT_WINDOW) == conn->end->window);
-    if (is_refused && is_bare && is_said && net->now < conn->end->quiet_until) {
+    struct end *end = conn->end;
+    int is_said = bits_of(segment, RST) || (read32(segment + AT_ACK) == end->ack && read16(segment + AT_WINDOW) == end->window);
+    if (!is_said)
+        end->ack = read32(segment + AT_ACK), end->window = read16(segment + AT_WINDOW), end->edge = edge_of(net, conn);
+    if (!is_refused || !is_said || length != header_of(segment) || bits_of(segment, SYN | FIN))
+        return 1;
+    if (net->now < end->quiet_until) {
         count(net, UNSAID, 1);
         return 0;
     }
-    if (is_refused && is_bare && is_said)
-        conn->end->quiet_until = net->now + net->limits.quiet;
-    if (!is_said)
-        conn->end->ack = read32(segment + AT_ACK), conn->end->window = read16(segment + AT_WINDOW), conn->end->edge = edge_of(net, conn);
+    end->quiet_until = net->now + net->limits.quiet;
     return 1;
 }
 

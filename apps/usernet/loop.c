@@ -28,6 +28,16 @@ static void to_device(const void *packet, size_t length, void *context)
     count(net, EMITTED, write(net->device, packet, length) > 0); /* what it can't take is lost, and sent again */
 }
 
+/* A packet goes on its way, on which there are faults in tests alone. */
+static void pass(struct usernet *net, struct faults *faults, const void *packet, size_t length,
+                 void (*go)(const void *packet, size_t length, void *context))
+{
+    if (faults->percent == 0)
+        go(packet, length, net);
+    else
+        faults_pass(faults, packet, length, go, net);
+}
+
 /* One of a local administration (IEEE 802). */
 const struct ethernet_addr GATEWAY_ETHERNET = {{0x52, 0x55, 10, 0, 2, 2}};
 
@@ -50,7 +60,7 @@ void pass_on_wire(struct usernet *net, uint8_t *frame, size_t length)
     size_t front = net->offloads ? 0 : TUN_HEADER;
     if (net->is_tap)
         frame = with_ethernet(net, frame), length += ETHERNET_HEADER;
-    faults_pass(&net->down, frame + front, length - front, to_device, net);
+    pass(net, &net->down, frame + front, length - front, to_device);
 }
 
 /* The same of a packet whose addresses may be surrogates. */
@@ -190,7 +200,7 @@ static void read_device(struct usernet *net)
         if (got <= 0)
             return;
         count(net, ARRIVED, 1);
-        faults_pass(&net->up, net->frame, (size_t)got, from_device, net);
+        pass(net, &net->up, net->frame, (size_t)got, from_device);
     }
 }
 

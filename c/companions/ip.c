@@ -71,21 +71,25 @@ size_t ip_write_any(void *out, tcpcore_addr src, tcpcore_addr dst, size_t length
     return ip_write_chosen(out, src, dst, length, protocol, &(struct ip_choices){0});
 }
 
+/* Writes a word of the header; answers it for the sum. */
+static uint16_t put16(uint8_t *at, uint16_t word)
+{
+    write16(at, word);
+    return word;
+}
+
 size_t ip_write_chosen(void *out, tcpcore_addr src, tcpcore_addr dst, size_t length, uint8_t protocol, const struct ip_choices *choices)
 {
     uint8_t *at = out;
     if (length > MOST - IP_HEADER)
         return 0;
-    memset(at, 0, IP_HEADER);
-    at[0] = 4 << 4 | IP_HEADER / 4;
-    at[1] = choices->services;
-    write16(at + 2, (uint16_t)(length + IP_HEADER));
-    write16(at + 4, choices->may_be_cut ? choices->id : 0);
-    write16(at + 6, choices->may_be_cut ? 0 : DONT_FRAGMENT);
-    at[8] = choices->ttl ? choices->ttl : TIME_TO_LIVE;
-    at[9] = protocol;
+    uint64_t sum = put16(at, (uint16_t)((4 << 4 | IP_HEADER / 4) << 8 | choices->services));
+    sum += put16(at + 2, (uint16_t)(length + IP_HEADER));
+    sum += put16(at + 4, choices->may_be_cut ? choices->id : 0);
+    sum += put16(at + 6, choices->may_be_cut ? 0 : DONT_FRAGMENT);
+    sum += put16(at + 8, (uint16_t)((choices->ttl ? choices->ttl : TIME_TO_LIVE) << 8 | protocol));
     memcpy(at + 12, &src, 4);
     memcpy(at + 16, &dst, 4);
-    write16(at + 10, (uint16_t)(MOST - words_sum(at, IP_HEADER, 0)));
+    write16(at + 10, (uint16_t)(MOST - folded(sum + number(src) + number(dst))));
     return length + IP_HEADER;
 }

@@ -28,17 +28,26 @@ static inline void write16(uint8_t *at, uint16_t value)
     at[1] = (uint8_t)value;
 }
 
+/* A sum of 16-bit words, of which some were taken at once, as one word in one's complement: 2^16 counts as 1 (RFC 1071, 1 and 2). */
+static inline uint16_t folded(uint64_t total)
+{
+    while (total >> 16)
+        total = (total & 0xffff) + (total >> 16);
+    return (uint16_t)total;
+}
+
 /* The one's complement sum of 16-bit words (RFC 1071, 1) and of a number below 2^32; an odd last byte is the high half of a word. Of bytes
    whose checksum is among them and right it is 65,535. */
 static inline uint16_t words_sum(const uint8_t *bytes, size_t length, uint64_t total)
 {
-    for (size_t at = 0; at + 1 < length; at += 2)
+    size_t at = 0;
+    for (; at + 4 <= length; at += 4)
+        total += read32(bytes + at);
+    if (length & 2)
         total += read16(bytes + at);
-    if (length % 2)
+    if (length & 1)
         total += (uint64_t)bytes[length - 1] << 8;
-    while (total >> 16)
-        total = (total & 0xffff) + (total >> 16);
-    return (uint16_t)total;
+    return folded(total);
 }
 
 /* Of these control bits those that are set. */

@@ -6,13 +6,6 @@
 #include <linux/virtio_net.h>
 #include <string.h>
 
-static uint16_t folded(uint64_t sum)
-{
-    while (sum >> 16)
-        sum = (sum & 0xffff) + (sum >> 16);
-    return (uint16_t)sum;
-}
-
 /* The sum of 16-bit words, added to another and folded: eight bytes at a time in this machine's order, which is turned
    at the end (RFC 1071, 2, B and C). */
 static uint16_t sum_of(const uint8_t *bytes, size_t length, uint64_t sum)
