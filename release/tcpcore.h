@@ -135,7 +135,7 @@ extern "C" {
 #endif
 
 /* The version of this header: it grows with each change of a struct, a call or an answer. */
-#define TCPCORE_VERSION 22
+#define TCPCORE_VERSION 23
 
 /* Whether there are hosts (HOSTS, below): where tcpcore.c takes machine code, by the rule that stands at its top. */
 #if !defined(TCPCORE_HAS_HOSTS) && !defined(TCPCORE_PORTABLE) && defined(__GNUC__) && !defined(__TINYC__) && defined(__linux__) && \
@@ -1173,8 +1173,9 @@ uint32_t tcpcore_connection_arrive_vouched(tcpcore_connection *connection, uint6
  * Writes the segment that is due at `now` to `out`, checksum and all (RFC 9293, 3.7, 3.8 and 3.10). What ends more than `window` numbers
  * past SND.UNA waits, unless nothing before it is in flight: `window` is that of the caller's own congestion control (RFC 5681, 3.1), and
  * UINT64_MAX holds nothing back. So does what ends past the congestion window that was chosen, if one was, and the segments that RFC 3042
- * lets out beyond it. A pending acknowledgement goes out alone where what is due waits, and before anything that is sent
- * again. A keep-alive goes out behind all else. New text of a paced connection waits for its portion, too.
+ * lets out beyond it, or in congestion avoidance, where losses are found by time, and while none is found, what the peer's blocks report
+ * (RFC 6675, 5). A pending acknowledgement goes out alone where what is due waits, and before anything that is sent again. A keep-alive
+ * goes out behind all else. New text of a paced connection waits for its portion, too.
  *   DONE: it takes the first segment->length bytes of `out`, and is for address segment->to; more may be due. What lies behind it in
  *   `out` stays. NOT_DUE: none may go out. ROOM: `room` is below TCPCORE_EMIT_ROOM. NO_END; NULL; LENGTH; OVERLAP; COPIED.
  */
@@ -1245,10 +1246,11 @@ uint32_t tcpcore_connection_resend(tcpcore_connection *connection, uint64_t now,
 
 /*
  * Chooses the congestion window of the connection (RFC 5681, 3): TCPCORE_CONGESTION_NONE, which is the default, TCPCORE_CONGESTION_RENO or
- * TCPCORE_CONGESTION_CUBIC. From then on what goes out ends within that window, too, by both emissions and beside `window` of theirs; what
- * is acknowledged, lost and resent, and an idle time, make it grow and shrink. Call it any time before text is sent, also right after the
- * making of the connection: the window begins as RFC 6928 has it with the MSS that both SYNs agree on, and with one segment where a SYN was
- * lost since then (RFC 5681, 3.1). A loss before that it doesn't know of: so choose it behind the making. Of version 16, as the next.
+ * TCPCORE_CONGESTION_CUBIC. From then on what goes out ends within that window, too, by both emissions and beside `window` of theirs, but
+ * for what they let out beyond it; what is acknowledged, lost and resent, and an idle time, make it grow and shrink. Call it any time before
+ * text is sent, also right after the making of the connection: the window begins as RFC 6928 has it with the MSS that both SYNs agree on,
+ * and with one segment where a SYN was lost since then (RFC 5681, 3.1). A loss before that it doesn't know of: so choose it behind the
+ * making. Of version 16, as the next.
  *   DONE; NO_RULE: text was sent already, or a FIN; nothing changed. BAD_RULES: no window has this number. NO_END; NULL; COPIED.
  */
 uint32_t tcpcore_connection_set_congestion(tcpcore_connection *connection, uint32_t congestion);

@@ -6,7 +6,7 @@ import enum
 import ipaddress
 from typing import NamedTuple, Optional, Union
 
-VERSION = 22
+VERSION = 23
 EMIT_ROOM = 1520
 TRAIN_ROOM = 65_515
 RESET_ROOM = 20
