@@ -142,7 +142,7 @@ after_acknowledgement w acked snd_una flight =
 
 -- BLOCKS REPORT SO MANY BYTES MORE, and SND.UNA stays: they were delivered (DeliveredData: RFC 6937, 2), and the window grows as where so
 -- much is acknowledged (own: RFC 5681 has what SND.UNA passes alone, which comes at once and late where segments overtake each other); in
--- a recovery it doesn't. What is in flight has them in it
+-- a recovery it doesn't. FlightSize counts them still
 abbrev pub after_delivery : Window → ℕ → ℕ → Window
 after_delivery w delivered flight = if w.is_recovering then w else after_growth w delivered (flight - delivered)
 

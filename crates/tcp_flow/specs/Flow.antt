@@ -183,8 +183,8 @@ abbrev pub rested : {S W : Type 0} → Machine S → Control W → Flowing S W �
 rested m c f now = if c.limits f.window && is_idle m f now then record f { window = c.idle f.window } else f
 
 -- BEFORE A LOSS IS FOUND what blocks report has left the network, so that as much may go out beside cwnd: limited transmit is governed by
--- pipe (RFC 6675, 4 and 5, step 3), here until losses are found by time (own). It is once all is acknowledged that was in flight when the
--- last one was found, and not in slow start, where a gap is mostly that of a queue that has overflown (own)
+-- pipe (RFC 6675, 4 and 5, step 3), here until losses are found by time (own). It holds once all is acknowledged that was in flight when
+-- the last one was found, and not in slow start, where a gap is mostly that of a queue that has overflowed (own)
 abbrev pub is_avoiding : {S W : Type 0} → Control W → Flowing S W → Bool
 is_avoiding c f = nat_le (c.ssthresh f.window) (c.cwnd f.window)
 

@@ -262,7 +262,8 @@ impl<C: Paced + Drop, W: Congestion + Drop> Flow<C, W> {
         window.min(self.window.room(0))
     }
 
-    /// What has left the network by what blocks report, before a loss is found (RFC 6675, 5, step 3).
+    /// What has left the network by what blocks report, where losses are found by time, in congestion avoidance, before one is found
+    /// (RFC 6675, 5, step 3).
     fn left(&self) -> u64
         ensures { result ≡ left_of C.machine W.control self.now }
     {
