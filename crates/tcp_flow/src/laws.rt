@@ -29,9 +29,8 @@ pub fn an_end_counts_its_flight<A: Allocator>()
 
 /// Whatever is called, and however often, no more is in flight than was before, or than some segment has let out since then, which
 /// went out within cwnd and two segments from SND.UNA on, and no further than its caller's window (RFC 5681, 3.1; RFC 3042, 2); where
-/// losses are found by time, in congestion avoidance, while none is found, within cwnd and what blocks reported then, which had left the
-/// network (RFC 6675, 5, step 3); or as a probe, while nothing before it was in flight (RFC 9293, 3.8.6.1). An arrival adds its
-/// answer's SYN at most.
+/// losses are found by time, in congestion avoidance, while none is found, within cwnd and what blocks reported then (RFC 6675, 5,
+/// step 3); or as a probe, while nothing before it was in flight (RFC 9293, 3.8.6.1). An arrival adds its answer's SYN at most.
 ///
 /// The user's calls have to send nothing by themselves, as [`an_end_counts_its_flight`] says of each; the end's Config has to be
 /// good, as [`each_opens_sized`] has it; and the window has to have room for two segments more than cwnd at most, as
