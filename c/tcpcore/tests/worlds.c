@@ -33,7 +33,7 @@ static void cause(void)
     widest = links[0].count + links[1].count;
 }
 
-/* New text stays within the congestion window and what goes past it, but for what goes out while nothing is in flight. */
+/* New text ends no further past the congestion window than past_window has it, but for what goes out while nothing is in flight. */
 static void inspect_new(int at, uint64_t position, uint64_t size)
 {
     struct tcpcore_congestion congestion;
