@@ -1,0 +1,7 @@
+mod Network
+mod Counting
+mod Steps
+mod Moves
+mod Outgoing
+mod Arriving
+mod Networks
