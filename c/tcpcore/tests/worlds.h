@@ -442,7 +442,7 @@ static struct packet *arrived(int at)
 
 /* How far text may go past the congestion window: two segments (RFC 3042), or at most what blocks have reported, where losses are found by
  * time and no recovery goes on (RFC 6675, 5). The bound is looser than the rule: marks are never taken back, what blocks reported counts
- * behind a timeout, too, and two segments count beside it. */
+ * behind a timeout, too, and two segments may go past where blocks report less. */
 static uint64_t past_window(int at, uint64_t una, const struct tcpcore_congestion *congestion)
 {
     int is_open = words[at][RECOVERY] && !congestion->is_recovering && congestion->ssthresh <= congestion->cwnd;

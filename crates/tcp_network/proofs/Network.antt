@@ -117,7 +117,7 @@ comes-by m Always h d now src dst bytes vouched (Between from to) a =
 -- ---- TIME PASSES
 time-by : {S : Type 0} (m : Machine S) (Always : S → Type 0) → CountsNetwork m Always → (d : Driving S) (now : ℕ) (which : Option Timer)
     → Always d.core
-    → Has m Always (after_time_by m d which now).core (max (in_network m d.core) (forgotten m d.core which))
+    → Has m Always (after_time_by m d which now).core (max (in_network m d.core) (forgotten m d.core (after_time_by m d which now).core))
 time-by m Always h d now None a = record { always = a; network = omega arith }
 time-by m Always h d now (Some timer) a = let r = h.expired timer d.core a in record { always = r.0; network = r.1 }
 
@@ -193,7 +193,7 @@ step m Always smss_of c h more driven f (GoesAsOne now window most room) a none 
 step m Always smss_of c h more driven f (Passes now) a none = time-by m Always h f.driving (at f.driving now) (expiry f.driving.times (at f.driving now)) a
 step m Always smss_of c h more driven f (Asks now does) a none =
     let r = none f.driving.core a in
-    record { always = r.0; network = omega (arith, r.1) }
+    record { always = r.0; network = r.1 }
 step m Always smss_of c h more driven f (Limits limit) a none = stays m Always f.driving.core a
 step m Always smss_of c h more driven f (Waits patient) a none = stays m Always f.driving.core a
 step m Always smss_of c h more driven f (Chooses window) a none =

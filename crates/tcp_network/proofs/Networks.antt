@@ -6,7 +6,7 @@ use Rattle.std.proofs.lemmas.Bool.Decides.{nat_tests}
 use Rattle.tcp_driver.specs.declared.machine.Timer.{Timer}
 use Rattle.tcp_driver.specs.declared.machine.Timer.TheVariants as timers
 use Rattle.tcp_sendq.specs.SendQueue.{count_marked, last_mark_end}
-use Rattle.tcp_halves.specs.Sender.{Sending, end_of_text, with_all_resent, with_first_resent, with_resent, with_text}
+use Rattle.tcp_halves.specs.Sender.{Sending, end_of_text, is_in_flight, with_all_resent, with_first_resent, with_resent, with_text}
 use Rattle.tcp_conn.specs.declared.outcome.CallError.{CallError}
 use Rattle.tcp_conn.specs.Calls.{after_abort, after_acknowledge, after_close, after_closing, after_connect, after_listen, after_receive, after_send, close_refusal, is_unanswered, open_refusal, phase_after_close, receive_refusal, refusal_if, send_refusal, state_unless, with_abort, with_bytes_received, with_closing}
 use Rattle.tcp_conn.specs.Due.{text_limit}
@@ -90,19 +90,39 @@ unfolding after_abort
 aborts s p = unless (open_refusal s) s (with_abort s) p (λ e. discards s.phase s.closing s.closing s.sending p)
 
 -- ---- A TIMER expires: that of retransmission forgets what blocks reported
-all-by : (d : Sending) (h o b : Bool) → IsInOrder d h o
-    → IsInOrder (if b then with_all_resent d else d) h o × (left (if b then with_all_resent d else d) ≤ d.snd_nxt - d.snd_una)
+none-between : (low high : ℕ) → nat_lt low high ≡ false → high ≤ low
+none-between low high e = grind (arith, nat_tests, e)
+
+all-by : (d : Sending) (h o b : Bool) → IsInOrder d h o → IsInOrder (if b then with_all_resent d else d) h o
 all-by d h o true p = all_again d h o p
-all-by d h o false p = (p, omega arith)
+all-by d h o false p = p
 
-if-most : (b : Bool) (x most : ℕ) → x ≤ most → (if b then x else 0) ≤ most
-if-most true x most e = e
-if-most false x most e = omega arith
+-- where fewer are marked behind it, all that is in flight is left, and else no more than was
+fewer-by : (sends more fewer : Bool) (una nxt marked now : ℕ) → nat_lt una nxt ≡ more → nat_lt now marked ≡ fewer
+    → (if sends then nxt - una - now else 0)
+    ≤ max (if sends then nxt - una - marked else 0) (if (sends && more) && fewer then nxt - una else 0)
+fewer-by false more fewer una nxt marked now e f = omega arith
+fewer-by true false fewer una nxt marked now e f = omega (arith, none-between una nxt e)
+fewer-by true true true una nxt marked now e f = omega arith
+fewer-by true true false una nxt marked now e f = omega (arith, none-between now marked f)
 
-retransmits : (s : State) → Ordered s
-    → Ordered (after_retransmit s) × (left_in (after_retransmit s).phase (after_retransmit s).sending ≤ s.sending.snd_nxt - s.sending.snd_una)
+forgets-by : (d : Sending) (sends b : Bool)
+    → (if sends then left (if b then with_all_resent d else d) else 0)
+    ≤ max (if sends then left d else 0)
+    (if (sends && is_in_flight (if b then with_all_resent d else d))
+    && nat_lt (count_marked (if b then with_all_resent d else d).queue.marks) (count_marked d.queue.marks) then d.snd_nxt - d.snd_una else 0)
+forgets-by d sends true =
+    fewer-by sends (nat_lt d.snd_una d.snd_nxt) _ d.snd_una d.snd_nxt (count_marked d.queue.marks) (count_marked (with_all_resent d).queue.marks) refl refl
+forgets-by d sends false =
+    fewer-by sends (nat_lt d.snd_una d.snd_nxt) _ d.snd_una d.snd_nxt (count_marked d.queue.marks) (count_marked d.queue.marks) refl refl
+
+retransmits : {A : Type 0} (w : Wired A) → Ordered w.end
+    → Ordered (after_retransmit w.end)
+    × (left_in (after_retransmit w.end).phase (after_retransmit w.end).sending
+    ≤ max (left_in w.end.phase w.end.sending) (forgotten (machine {A = A}) w (record { end = after_retransmit w.end })))
 unfolding after_retransmit
-retransmits s p = let a = all-by s.sending _ _ (sends_again s) p in (a.0, if-most (sends_text s.phase) _ _ a.1)
+retransmits w p =
+    let s = w.end in (all-by s.sending _ _ (sends_again s) p, forgets-by s.sending (sends_text s.phase) (sends_again s))
 
 gaps-by : (d : Sending) (end : Option ℕ) (h o : Bool) → IfSome end (λ e. e ≤ length d.queue.marks) → IsInOrder d h o
     → Leaves d (after_gaps d end) h o
@@ -137,9 +157,6 @@ resends s from to p =
     (if_leaves (resends_between s from to) s.sending (with_resent s.sending from to) s.sending _ _ (stretch_again s.sending from to _ _ p) (as_before s.sending _ _ p))
 
 -- ---- WHAT IS IN THE NETWORK of an end is what is in flight but what is marked, while text may be sent
-none-between : (una nxt : ℕ) → nat_lt una nxt ≡ false → nxt ≤ una
-none-between una nxt e = grind (arith, nat_tests, e)
-
 in-by : (sends more : Bool) (una nxt marked : ℕ) → nat_lt una nxt ≡ more
     → (if sends && more then nxt - una - marked else 0) ≡ (if sends then nxt - una - marked else 0)
 in-by false more una nxt marked e = refl
@@ -164,11 +181,12 @@ nothing {A = A} does sized q w a =
 
 expires : {A : Type 0} → EndCountsFlight A → (timer : Timer) (w : Wired A) → IsPlaced w
     → IsPlaced {A = A} (record { end = expired w.end timer })
-    × (in_network (machine {A = A}) (record { end = expired w.end timer }) ≤ max (in_network (machine {A = A}) w) (forgotten (machine {A = A}) w (Some timer)))
+    × (in_network (machine {A = A}) (record { end = expired w.end timer })
+    ≤ max (in_network (machine {A = A}) w) (forgotten (machine {A = A}) w (record { end = expired w.end timer })))
 expires {A = A} h timers.Retransmit w a =
     let after : Wired A = record { end = after_retransmit w.end } in
-    let r = retransmits w.end a.1 in
-    (((h.expired timers.Retransmit w a.0).0, r.0), omega (arith, counts after, r.1))
+    let r = retransmits {A = A} w a.1 in
+    (((h.expired timers.Retransmit w a.0).0, r.0), omega (arith, counts after, counts w, r.1))
 expires {A = A} h timers.Reorder w a =
     let r = nothing {A = A} after_reorder (λ w b. (h.expired timers.Reorder w b).0) reorders w a in (r.0, omega (arith, r.1))
 expires {A = A} h timers.TimeWait w a =

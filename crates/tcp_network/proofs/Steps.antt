@@ -142,14 +142,11 @@ pub gaps_again : (d : Sending) (end : ℕ) (h o : Bool) → end ≤ length d.que
 gaps_again d end h o e p = again d _ h o p (λ t. omega (arith, e, p.flags))
 
 -- a retransmission timeout forgets all marks
-pub all_again : (d : Sending) (h o : Bool) → IsInOrder d h o
-    → IsInOrder (with_all_resent d) h o × (left (with_all_resent d) ≤ d.snd_nxt - d.snd_una)
+pub all_again : (d : Sending) (h o : Bool) → IsInOrder d h o → IsInOrder (with_all_resent d) h o
 unfolding without_marks
 all_again d h o p =
-    let all : length (replicate (length d.queue.bytes) false) ≡ length d.queue.bytes = length-replicate (length d.queue.bytes) false in (
-      record { flags = omega (arith, all); una = p.una; syn = p.syn; text = λ t. let q = p.text t in record { una = q.una; nxt = q.nxt; range = q.nxt } },
-      omega arith,
-    )
+    let all : length (replicate (length d.queue.bytes) false) ≡ length d.queue.bytes = length-replicate (length d.queue.bytes) false in
+    record { flags = omega (arith, all); una = p.una; syn = p.syn; text = λ t. let q = p.text t in record { una = q.una; nxt = q.nxt; range = q.nxt } }
 
 -- ---- NEW TEXT of the user's, before a close
 pub text_queued : (d : Sending) (limit : ℕ) (text : List ℕ) (h : Bool) → IsInOrder d h true → Leaves d (with_text d limit text) h true
