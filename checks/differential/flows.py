@@ -122,10 +122,18 @@ class Flow:
         # RFC 5681, 4.1: nothing was sent for longer than the timeout.
         if self.flight == 0 and now - self.sent_at > self.driver.estimator.rto:
             self.path.idle()
-        answer = self.driver.emit(now, min(window, int(self.path.room(0))))
+        answer = self.driver.emit(now, min(window, self.lets_out()))
         if answer.startswith("sent") and not answer.endswith(" 0"):
             self.sent_at = now
         return answer
+
+    def lets_out(self):
+        """RFC 6675, 4 and 5, 3: before a loss is found, in congestion avoidance, what blocks report has left the network, and goes out beside cwnd;
+        where losses are found by time, and not a round trip behind a gap."""
+        is_avoiding = self.path.cwnd >= self.path.ssthresh
+        if self.reported and self.driver.is_patient and is_avoiding and self.path.is_new_loss(self.end.una):
+            return self.path.cwnd + self.reported
+        return int(self.path.room(0))
 
     def timeout(self, now):
         una, nxt, flight = self.end.una, self.end.nxt, self.flight

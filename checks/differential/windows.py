@@ -57,7 +57,7 @@ class Reno:
         self.dupacks, self.resent_by_timer = 0, False
         self.pipe = max(0, self.pipe - acked)
         if not self.fast_recovery:
-            return self.delivered(acked, flight, now, rtt)
+            return self.grows(acked, acked + flight, now, rtt)
         if una >= self.recover:
             self.cwnd = min(self.ssthresh, max(flight, self.smss) + self.smss)
             self.fast_recovery, self.bytes_acked = False, 0
@@ -70,12 +70,15 @@ class Reno:
         return self.shown("" if self.is_found else "again")
 
     def delivered(self, count, flight, now=0, rtt=0):
-        """RFC 6937, 2: DeliveredData is what is acknowledged, and what blocks report more."""
-        if not self.fast_recovery:
-            if Fraction(count + flight, self.cwnd) < Fraction(1, 2):
-                self.unused(now)
-            else:
-                self.grow(count, now, rtt)
+        """RFC 6937, 2: DeliveredData is what is acknowledged, and what blocks report more, which is still in flight (RFC 5681, 2: FlightSize)."""
+        return self.shown() if self.fast_recovery else self.grows(count, max(count, flight), now, rtt)
+
+    def grows(self, count, was_in_flight, now, rtt):
+        """RFC 7661, 4.3: the window grows where half of it was in flight."""
+        if Fraction(was_in_flight, self.cwnd) < Fraction(1, 2):
+            self.unused(now)
+        else:
+            self.grow(count, now, rtt)
         return self.shown()
 
     def begin_recovery(self, left, flight, nxt):
@@ -99,9 +102,12 @@ class Reno:
         self.begin_recovery(3, flight, nxt)
         return self.shown("again")
 
+    def is_new_loss(self, una):
+        """RFC 5681, 4.3: once for a window of data."""
+        return not self.fast_recovery and una >= self.recover
+
     def lost(self, una, flight, nxt):
-        # RFC 5681, 4.3: once for a window of data.
-        if self.fast_recovery or una < self.recover:
+        if not self.is_new_loss(una):
             return self.shown()
         self.begin_recovery(min(self.dupacks, 3), flight, nxt)
         return self.shown("shrinks")
