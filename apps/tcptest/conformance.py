@@ -20,8 +20,8 @@ from tcptest import NAMES, run_row, stack_of
 
 HERE = pathlib.Path(__file__).resolve().parent
 PAGE, LIST = TOP / "docs/CONFORMANCE.md", TOP / "docs/EMBEDDING.md"
-NUMBER = re.compile(r"\b(MUST|SHLD|MAY|REC)-(\d+)(?:\s+to\s+(\d+))?")
-RULE = re.compile(r"RFC (7323|2018), ([\d.]+), rule (\d+)")
+NUMBER = re.compile(r"\b(MUST|SHLD|MAY|REC)-(\d+)(?:\s+to\s+(\d+))?\b(?!\s+in\s+part)")
+RULE = re.compile(r"RFC (7323|2018), ([\d.]+), rule (\d+)\b(?!\s+in\s+part)")
 SIGNS = {telling.MET: "met", telling.NOT_MET: "**not met**", telling.SHOULD_NOT: "SHOULD: no", telling.MAY_NOT: "MAY: no", telling.NOT_SEEN: "-"}
 ALLOWED, CALLERS, ADMITTED = {"permitted", "application"}, "caller's, ", "not met, "
 HEADS = {"linux": "Linux", "ours": "Boqtilen", "lwip": "lwIP", "gvisor": "gVisor", "slirp": "libslirp"}
@@ -36,7 +36,7 @@ def requirements():
 
 
 def named():
-    """The numbers that stand under "What is left out"."""
+    """The numbers that stand under "What is left out", but those that are left out in part alone."""
     text = LIST.read_text()
     part = text[text.index("\n## What is left out") :]
     part = part[: part.index("\n## ", 5)]
@@ -95,6 +95,11 @@ def state(number, shown, findings, left_out):
     return "neither met, nor shown, nor named" + (f" ({shown})" if shown else ""), False
 
 
+def is_overnamed(number, shown, findings, left_out):
+    """Whether a requirement is named as left out, and a row or a file shows that it is met."""
+    return number in left_out and shown not in ALLOWED and not shown.startswith(ADMITTED) and state(number, shown, findings, set())[1]
+
+
 def admitted(cited, mine, wanting, partly):
     """Of a requirement that isn't met, or in part alone, as a file says. What rows find met, all of it, may not be told to be unmet."""
     path = cited.partition(": ")[0]
@@ -113,14 +118,20 @@ def run_all(name):
 def compared(findings):
     """Prints what is wrong with our own column, and answers how much that is."""
     left_out, wrong, count = named(), 0, 0
+    known = {number for number, _, _ in requirements()}
     # The comparison can fail: where nothing were named, what isn't met would be found.
     unnamed = [number for number, _, shown in requirements() if not state(number, shown, findings, set())[1]]
     if not {"MUST-10", "MUST-30", "MUST-51", "SHLD-26"} <= set(unnamed):
         print(f"conformance: with nothing named {unnamed} would be missed alone")
         wrong += 1
-    known = {number for number, _, _ in requirements()}
+    overnamed = [number for number, _, shown in requirements() if is_overnamed(number, shown, findings, known)]
+    if not {"MUST-11", "MUST-21"} <= set(overnamed):
+        print(f"conformance: with all named {overnamed} would be found to be met alone")
+        wrong += 1
     for number, _, shown in requirements():
         words, is_enough = state(number, shown, findings, left_out)
+        if is_overnamed(number, shown, findings, left_out):
+            words, is_enough = "named as left out, and it is met", False
         count += 1
         wrong += not is_enough
         if not is_enough:

@@ -1291,11 +1291,11 @@ uint32_t tcpcore_connection_set_policy(tcpcore_connection *connection, const str
  * waits for the retransmission timeout. The window is a quarter of the least round trip, or more where what was sent again came late, and
  * up to twice as long where round trips have just become shorter; what is late by less isn't taken for lost.
  *   Choose a congestion window, too: without one all that looks lost goes out again at once, and a peer that reports as received what was
- * sent last has all that is in flight sent again for each of its segments. That window shrinks once for all that is in flight when
- * a loss is found, also for a loss that a probe has repaired, and once more where what was sent again is lost again. As of version 21 its
- * first slow start may end before a loss, where round trips become longer (RFC 9406), and counts up to eight segments of each answer. The
- * steps of `now` have to be finer than a quarter of a round trip: by a coarser clock what isn't answered yet looks lost, and goes out again
- * in vain.
+ * sent last has all that is in flight sent again for each of its segments. That window shrinks once for all that is in flight when a loss
+ * is found, and once more where what was sent again is lost again. It shrinks, too, for a loss that a probe has repaired, behind which the
+ * next loss counts anew. As of version 21 its first slow start may end before a loss, where round trips become longer (RFC 9406), and
+ * counts up to eight segments of each answer. The steps of `now` have to be finer than a quarter of a round trip: by a coarser clock what
+ * isn't answered yet looks lost, and goes out again in vain.
  *   It counts where both SYNs agree on selective acknowledgement. Else, as of version 20, the first two segments in flight go out again as
  * a probe, once until the first of them is acknowledged, and, as of version 21, where its answer covers no more than these what was sent
  * before it and lies behind them is lost, too, and the first slow start is that of RFC 9406; all else is as without it. What falls due by
