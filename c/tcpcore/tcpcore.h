@@ -104,9 +104,10 @@
  *   over tcpcore_emit that goes on while it answers TCPCORE_DONE ends, and a caller that looks for TCPCORE_NOT_DUE, or TCPCORE_NO_RULE
  *   of a timer, sees the difference. A refusal changes no end. What a call writes through a pointer
  *   (a count, an address, timers, a status) is written at every answer, and is all 0 unless the answer is TCPCORE_DONE,
- *   but for what an arrival reports beside TCPCORE_DROPPED, and whose turn it was beside TCPCORE_NOT_DUE of tcpcore_host_emit; buffers
- *   stay as they are then. Such a pointer may not be over the struct, over the buffer of the same call, or over another such pointer: the
- *   answer is TCPCORE_OVERLAP, and nothing is written there. A buffer may be NULL where its length is 0.
+ *   but for what an arrival reports beside TCPCORE_DROPPED, whose a segment is in tcpcore_host_arrive, whose turn it was beside
+ *   TCPCORE_NOT_DUE of tcpcore_host_emit, and that no timer has expired in tcpcore_host_timeout; buffers stay as they are then. Such a
+ *   pointer may not be over the struct, over the buffer of the same call, or over another such pointer: the answer is TCPCORE_OVERLAP, and
+ *   nothing is written there. A buffer may be NULL where its length is 0.
  *
  * WHAT IS TRUSTED
  *   What a call does to an end is proved of the library. Not proved: tcpcore.c, the C compiler, the three functions of the
@@ -941,8 +942,9 @@ uint32_t tcpcore_time_wait_status(const struct tcpcore_time_wait *time_wait, uin
  *   A connection is an end that keeps its own timers: the retransmission timeout by measured round trips (RFC 6298), what the peer's
  *   blocks passed over (RFC 2018, 5), TIME-WAIT, the user timeout (RFC 9293, 3.8.3), and keep-alives where they are asked for (3.8.4). It
  *   reads no clock: each call is given the time, `now`, in microseconds from any beginning; a time below that of an earlier call counts as
- *   that. It keeps the timers that a plain end leaves to its caller (5. at the top); all else said there of an end holds: MEMORY, STACK,
- *   THREADS, WHO OWNS WHAT, ANSWERS. A call that an end has by the same name answers and does the same.
+ *   that, but for keep-alives and pacing, and at 2^62, 146,000 years, time stands still. It keeps the timers that a plain end leaves to its
+ *   caller (5. at the top); all else said there of an end holds: MEMORY, STACK, THREADS, WHO OWNS WHAT, ANSWERS. A call that an end has by
+ *   the same name answers and does the same.
  *
  *   1. Make and open it: tcpcore_connection_connect or tcpcore_connection_listen.
  *   2. Wait for a segment, or until the time of tcpcore_connection_poll_at, which tcpcore_connection_tick reports as well.
@@ -1336,8 +1338,8 @@ uint32_t tcpcore_connection_set_keep_alive(tcpcore_connection *connection, uint6
  * (tcpcore_connection_set_congestion) practically nothing waits.
  *   Where text waits for its portion an emission answers NOT_DUE, and tcpcore_connection_poll_at is when the next one begins: emit then,
  * whatever tcpcore_connection_timeout answers. So who paces waits by a timer that is finer than a portion takes, which is often a
- * millisecond or less: by a coarser one text goes out more slowly than the window has it, one portion for each call. It may be called at
- * any time, and again. Of version 21.
+ * millisecond or less: by a coarser one text goes out more slowly than the window has it, one portion for each call. Portions go by the
+ * times of the emissions as they are, also where one goes back. It may be called at any time, and again. Of version 21.
  *   DONE; NO_END; NULL; COPIED.
  */
 uint32_t tcpcore_connection_set_pacing(tcpcore_connection *connection, uint32_t is_paced);

@@ -221,6 +221,32 @@ static void unpaced(void)
     free_both();
 }
 
+/* The peer takes 752 bytes more than a portion. They are the next segment, which waits for the next portion. */
+static void cut_by_the_peer(void)
+{
+    enum { REST = 752 };
+    connects(1);
+    CHECK(tcpcore_connection_set_congestion(&a, TCPCORE_CONGESTION_RENO), TCPCORE_DONE);
+    paces(1);
+    meets_within(1, PORTION * FULL + REST);
+    gives(NOW, 10);
+    goes_out(NOW, 10, 0);
+    trip(NOW, 0);
+    CHECK(congestion().cwnd, 14 * FULL);
+    CHECK(status_of(&a).snd_wnd, PORTION * FULL + REST);
+    gives(LATER, 12);
+    goes_out(LATER, PORTION, 10);
+    CHECK(poll_at(), LATER + SLOW_START);
+    goes_out(LATER + SLOW_START - 1, 0, 20);
+    emit(&flying, &a, LATER + SLOW_START);
+    CHECK(flying.count, PORTION + 1);
+    CHECK(flying.of[PORTION].segment.position, 1 + 20 * FULL);
+    CHECK(flying.of[PORTION].segment.count, REST);
+    /* The peer's window is full. */
+    CHECK(poll_at(), LATER + SECOND);
+    free_both();
+}
+
 /* A FIN that no text waits before doesn't wait for a portion. */
 static void a_fin(void)
 {
@@ -275,6 +301,7 @@ int main(void)
     resends();
     alone();
     unpaced();
+    cut_by_the_peer();
     a_fin();
     as_a_train();
     printf("paced: new text goes out in portions, each at its time\n");

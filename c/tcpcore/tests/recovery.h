@@ -167,10 +167,11 @@ static inline void connects(uint8_t sack)
     CHECK(tcpcore_connection_connect(&a, &config, &RULES, THERE, 9, OPENED, blocks[0], sizeof *blocks), TCPCORE_DONE);
 }
 
-/* ESTABLISHED at both ends, by a handshake of a trip. */
-static inline void meets(uint8_t sack)
+/* ESTABLISHED at both ends, by a handshake of a trip; the peer keeps so much. */
+static inline void meets_within(uint8_t sack, size_t capacity)
 {
     tcpcore_config config = config_of(THERE, sack);
+    config.recv_capacity = capacity;
     CHECK(tcpcore_connection_listen(&b, &config, &RULES, OPENED, blocks[1], sizeof *blocks), TCPCORE_DONE);
     emit(&flying, &a, OPENED);
     CHECK(flying.count, 1);
@@ -184,6 +185,8 @@ static inline void meets(uint8_t sack)
     CHECK(status_of(&b).phase, TCPCORE_PHASE_ESTABLISHED);
     CHECK(status_of(&a).sack, sack);
 }
+
+static inline void meets(uint8_t sack) { meets_within(sack, CAPACITY); }
 
 /* The same, and `a` finds losses by time from the making on. */
 static inline void begin(uint8_t sack, uint32_t congestion)

@@ -76,6 +76,10 @@ flight_of e = e.sending.snd_nxt - e.sending.snd_una
 abbrev pub unsent_of : State → ℕ
 unsent_of e = queued_of e - flight_of e
 
+-- how many bytes more the peer's window takes
+abbrev pub room_of : State → ℕ
+room_of end = end.sending.snd_wnd - flight_of end
+
 -- a peer that is given up is a timer of the user's timeout
 abbrev pub timer_by : KeepAliveAction → Option Timer
 timer_by GivesUp = Some User
@@ -110,7 +114,7 @@ bounded_by unsent paced window = if nat_lt 0 unsent then min window paced else w
 
 module _ {W B : Type 0} where
   -- ---- HOW FAST new text goes out: by the congestion window and SRTT (RFC 9002, 7.7). Text waits for the next portion where the
-  -- windows let its next segment out, and the pacer doesn't
+  -- windows let its next segment out, which is cut to what the peer's takes (RFC 9293, 3.8.6), and the pacer doesn't
   abbrev pub pace_of : Control W → Repaired (Wired B) W → Pace
   pace_of c r = record {
     cwnd = c.cwnd r.connecting.flowing.window;
@@ -120,15 +124,15 @@ module _ {W B : Type 0} where
   }
 
   abbrev pub next_segment : Control W → Repaired (Wired B) W → ℕ
-  next_segment c r = min (c.smss r.connecting.flowing.window) (unsent_of r.connecting.flowing.driving.core.end)
-
-  abbrev pub windows_of : Control W → Repaired (Wired B) W → ℕ → ℕ
-  windows_of c r window = min (flow.allowed machine c r.connecting.flowing window) r.connecting.flowing.driving.core.end.sending.snd_wnd
+  next_segment c r =
+      min (min (c.smss r.connecting.flowing.window) (unsent_of r.connecting.flowing.driving.core.end))
+      (room_of r.connecting.flowing.driving.core.end)
 
   abbrev pub waits_for_portion : Control W → Repaired (Wired B) W → ℕ → Pacing → Bool
   waits_for_portion c r window p =
       is_paced p (pace_of c r)
-      && (nat_lt p.left (next_segment c r) && nat_le (flight_of r.connecting.flowing.driving.core.end + next_segment c r) (windows_of c r window))
+      && (nat_lt p.left (next_segment c r)
+      && nat_le (flight_of r.connecting.flowing.driving.core.end + next_segment c r) (flow.allowed machine c r.connecting.flowing window))
 
   -- behind an emission the new text is told that went out, or whether some waits
   abbrev pub told_pacer : Control W → Repaired (Wired B) W → Pacing → Bool → ℕ → ℕ → Pacing

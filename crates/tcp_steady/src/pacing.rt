@@ -1,6 +1,6 @@
 //! How fast new text goes out (RFC 9002, 7.7).
 ghost use Rattle.std.specs.Prelude.{◌≡◌};
-ghost use Rattle.tcp_steady.specs.Steady.{asked_pacer, flight_of, next_segment, pace_of, paced_window, pacer_behind, srtt_by, told_pacer, unsent_of, waits_for_portion, windows_of};
+ghost use Rattle.tcp_steady.specs.Steady.{asked_pacer, flight_of, next_segment, pace_of, paced_window, pacer_behind, srtt_by, told_pacer, unsent_of, waits_for_portion};
 
 use crate::steady::Steady;
 use std::alloc::Allocator;
@@ -92,17 +92,18 @@ impl<W: Congestion + Drop, B: Allocator, A: Allocator> Steady<W, B, A> {
         }
     }
 
-    /// Whether text waits for the next portion: the windows let its next segment out, and the pacer doesn't.
+    /// Whether text waits for the next portion: the windows let its next segment out, which the peer's cuts, and the pacer doesn't.
     fn waits(&self, window: u64) -> bool
         ensures { result ≡ waits_for_portion W.control self.now.repairing window self.now.pacer }
     {
         let pace = self.pace();
         let end = self.end();
-        let next = pace.smss.min(unsent_of(end));
+        let flight = flight_of(end);
+        let room = u64::from(end.windows().1).saturating_sub(flight);
+        let next = pace.smss.min(unsent_of(end)).min(room);
         let allowed = self.repairing.flow().allowed(window);
-        let windows = allowed.min(u64::from(end.windows().1));
         self.pacer.is_paced(pace)
             && self.pacer.left() < next
-            && flight_of(end).saturating_add(next) <= windows
+            && flight.saturating_add(next) <= allowed
     }
 }
