@@ -640,7 +640,9 @@ fn any_calls_at_any_times() {
                     };
                     first += u32::from(taken.is_err());
                 }
-                7 => drop(ends[side].handle_timeout(now)),
+                7 => {
+                    let _ = ends[side].handle_timeout(now);
+                }
                 8 => given[side] += ends[side].send(now, &text(side, given[side]..given[side] + 500)).unwrap_or(0),
                 9 => {
                     if let Ok(Received::Bytes(count)) = ends[side].receive(now, &mut out) {
@@ -650,8 +652,12 @@ fn any_calls_at_any_times() {
                     assert!(read[side] <= given[1 - side]);
                 }
                 10 if any.below(2) == 0 => ends[side].acknowledge(now),
-                10 if any.below(2) == 0 => drop(ends[side].resend_first(now)),
-                10 if any.below(2) == 0 => drop(ends[side].resend(now, any.below(2000), any.below(4000))),
+                10 if any.below(2) == 0 => {
+                    let _ = ends[side].resend_first(now);
+                }
+                10 if any.below(2) == 0 => {
+                    let _ = ends[side].resend(now, any.below(2000), any.below(4000));
+                }
                 10 if any.below(2) == 0 => ends[side].set_policy([Policy::immediate(), Policy::standard()][any.below(2) as usize]),
                 10 if any.below(4) == 0 => ends[side].set_keep_alive(
                     now,
@@ -665,7 +671,9 @@ fn any_calls_at_any_times() {
                     let rule = [Congestion::None, Congestion::Reno, Congestion::Cubic][any.below(3) as usize];
                     assert!(!ends[side].set_congestion(rule) || ends[side].congestion().congestion == rule);
                 }
-                _ if any.below(200) == 0 => drop(ends[side].close(now)),
+                _ if any.below(200) == 0 => {
+                    let _ = ends[side].close(now);
+                }
                 _ => assert!(ends[side].consume(now, 0).map_or(true, |taken| taken == 0)),
             }
         }
