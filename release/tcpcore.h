@@ -111,9 +111,9 @@
  *
  * WHAT IS TRUSTED
  *   What a call does to an end is proved of the library. Not proved: tcpcore.c, the C compiler, the three functions of the
- *   C library, that a block of TCPCORE_MEMORY bytes is enough, and that this header agrees with the library: layout.h
- *   asserts where each field lies, and tests/fields.c reads each one back through what an end does. A pointer to memory
- *   that isn't there, or isn't yours, can't be found: such a call may do anything.
+ *   C library, that a block of TCPCORE_MEMORY or TCPCORE_CONNECTION_MEMORY bytes is enough, and that this header agrees
+ *   with the library: layout.h asserts where each field lies, and tests/fields.c reads each one back through what an end
+ *   does. A pointer to memory that isn't there, or isn't yours, can't be found: such a call may do anything.
  */
 #ifndef TCPCORE_H
 #define TCPCORE_H
@@ -135,7 +135,8 @@ extern "C" {
 #endif
 #endif
 
-/* The version of this header: it grows with each change of a struct, a call or an answer. */
+/* N of the project's version 0.N. It grows with each change of a struct, a call or an answer here, of a public contract in Rattle, and of
+   the form of a script, list or report, so that two versions may have the same calls (CHANGELOG.md). */
 #define TCPCORE_VERSION 23
 
 /* Whether there are hosts (HOSTS, below): where tcpcore.c takes machine code, by the rule that stands at its top. */
@@ -197,8 +198,9 @@ enum {
     TCPCORE_END_OF_STREAM = 52, /* tcpcore_receive: the peer closed, and all its bytes were delivered */
     TCPCORE_NOT_DUE = 53,       /* no segment is due; tcpcore_stray_reset: no reset answers the bytes; tcpcore_connection_timeout: no
                                    timer has expired */
-    TCPCORE_NO_RULE = 54,       /* tcpcore_timer: the timer's bit was clear; tcpcore_connection_set_congestion and
-                                   tcpcore_connection_set_recovery: text was sent already; nothing changed */
+    TCPCORE_NO_RULE = 54,       /* tcpcore_timer: the timer's bit was clear; tcpcore_resend_first and tcpcore_resend: nothing is in
+                                   flight there; tcpcore_connection_set_congestion and tcpcore_connection_set_recovery: text or a
+                                   FIN was sent already; nothing changed */
     TCPCORE_DROPPED = 55,       /* an arrival: the segment was dropped; an answer to it may be due */
     TCPCORE_NOT_MINE = 56,      /* an arrival: the segment is another connection's; nothing changed */
     TCPCORE_NOT_TIME_WAIT = 57,   /* tcpcore_time_wait: the end isn't in TIME-WAIT, or has bytes unread */
@@ -695,8 +697,8 @@ uint32_t tcpcore_consume(tcpcore_end *end, size_t count, size_t *taken);
 uint32_t tcpcore_acknowledge(tcpcore_end *end);
 
 /*
- * This side has no more to send (RFC 9293, 3.10.4); what is queued still goes out, and the peer may send on. Before the
- * handshake was answered the connection ends as aborted.
+ * This side has no more to send (RFC 9293, 3.10.4); what is queued still goes out, and the peer may send on. In LISTEN and
+ * SYN-SENT the connection ends as aborted; in SYN-RECEIVED the close waits for the handshake.
  *   DONE; ENDED, NOT_OPEN, CLOSING; NO_END; NULL; COPIED.
  */
 uint32_t tcpcore_close(tcpcore_end *end);
@@ -724,8 +726,9 @@ uint32_t tcpcore_arrive(tcpcore_end *end, tcpcore_addr src, tcpcore_addr dst, co
 
 /*
  * As tcpcore_arrive, and reports whether the segment has to be answered at once (RFC 5681, 4.2), by emitting what is due:
- * *at_once is 1 where it came out of order or filled all or part of a gap, had a SYN or a FIN, or wasn't taken and has an
- * answer. Where it is 0 an acknowledgement that is due may wait: for a second segment, and at most half a second.
+ * *at_once is 1 where it came out of order or filled all or part of a gap, had a SYN or a FIN, was unacceptable at a zero
+ * window and has an answer (TCPCORE_RULE_TAKEN_SHUT), or wasn't taken and has an answer. Where it is 0 an acknowledgement
+ * that is due may wait: for a second segment, and at most half a second.
  *   As tcpcore_arrive.
  */
 uint32_t tcpcore_arrive_with_at_once(tcpcore_end *end, tcpcore_addr src, tcpcore_addr dst, const void *bytes, size_t length,
@@ -941,12 +944,14 @@ uint32_t tcpcore_time_wait_status(const struct tcpcore_time_wait *time_wait, uin
  * CONNECTIONS
  *   A connection is an end that keeps its own timers: the retransmission timeout by measured round trips (RFC 6298), what the peer's
  *   blocks passed over (RFC 2018, 5), TIME-WAIT, the user timeout (RFC 9293, 3.8.3), and keep-alives where they are asked for (3.8.4). It
- *   reads no clock: each call is given the time, `now`, in microseconds from any beginning; a time below that of an earlier call counts as
- *   that, but for keep-alives and pacing, and at 2^62, 146,000 years, time stands still. It keeps the timers that a plain end leaves to its
- *   caller (5. at the top); all else said there of an end holds: MEMORY, STACK, THREADS, WHO OWNS WHAT, ANSWERS. A call that an end has by
- *   the same name answers and does the same.
+ *   reads no clock: each call that depends on the time is given it, `now`, in microseconds from any beginning; a time below that of an
+ *   earlier call counts as that, but for keep-alives and pacing, and at 2^62, 146,000 years, time stands still. It keeps the timers that a
+ *   plain end leaves to its caller (5. at the top); all else said there of an end holds: MEMORY (with the sizes of
+ *   TCPCORE_CONNECTION_MEMORY and tcpcore_connection_room), STACK, THREADS, WHO OWNS WHAT, ANSWERS. A call that an end has by the same name
+ *   answers and does the same.
  *
- *   1. Make and open it: tcpcore_connection_connect or tcpcore_connection_listen.
+ *   1. Make and open it: tcpcore_connection_connect or tcpcore_connection_listen. Then emit until nothing is due: the SYN is due at once,
+ *      and tcpcore_connection_poll_at is only when it goes out again.
  *   2. Wait for a segment, or until the time of tcpcore_connection_poll_at, which tcpcore_connection_tick reports as well.
  *   3. Hand each segment in by tcpcore_connection_arrive. Where it answers TCPCORE_EMIT_FIRST emit until nothing is due, and hand the
  *      same segment in again.
@@ -1034,8 +1039,8 @@ struct tcpcore_congestion {
     uint32_t reserved[8];
 };
 
-/* When an acknowledgement and a small segment of a connection go out (RFC 9293, 3.7.4 and 3.8.6; RFC 5961, 7). Times are microseconds. Any
-   values may be chosen. */
+/* When an acknowledgement and a small segment of a connection go out (RFC 9293, 3.7.4 and 3.8.6), and ACK throttling, by `answer_interval`
+   (RFC 5961, 7). Times are microseconds. Any values may be chosen. */
 struct tcpcore_policy {
     /* How long an acknowledgement of text waits for a second full segment: 40 ms, and less than 500 ms whatever is chosen
        (RFC 9293, 3.8.6.3). 0: none waits. */
@@ -1274,9 +1279,9 @@ uint32_t tcpcore_connection_congestion(const tcpcore_connection *connection, str
  *   A window that reading has opened by a segment, or by half of the receive capacity, is advertised where the peer has less than half of
  *   that left (RFC 9293, 3.8.6.2.2): a user who reads needn't call tcpcore_connection_acknowledge.
  *   An acknowledgement that only answers segments without text and FIN, or, as of version 20, a SYN in a synchronized state, goes out once
- *   in `answer_interval`, and is discarded meanwhile, as if it were lost: so two ends with zero windows answer each other once in that
- *   time, and not without end. Some seconds are as much as it should be. What answers text isn't limited. `out` of an emission may contain
- *   what was discarded, then, behind what goes out.
+ *   in `answer_interval`, and is discarded meanwhile, as if it were lost (ACK throttling: RFC 5961, 7): so two ends with zero windows
+ *   answer each other once in that time, and not without end. It should be a few seconds at most. What answers text isn't limited. `out` of
+ *   an emission may contain what was discarded, then, behind what goes out.
  *   Under a policy of which anything waits or isn't answered, as of version 21, the peer's SYN again in SYN-RECEIVED has the SYN,ACK go
  *   out again, in place of an acknowledgement alone, which a peer without the SYN,ACK drops.
  * It may be called at any time, and again: an acknowledgement that waited is due then, and text begins to wait anew. *policy is read and
@@ -1358,7 +1363,7 @@ uint32_t tcpcore_connection_set_pacing(tcpcore_connection *connection, uint32_t 
  *   1. Make it: tcpcore_host_new, in a block of TCPCORE_HOST_MEMORY bytes for its tables. Have it listen: tcpcore_host_listen.
  *   2. To connect make a connection by tcpcore_connection_connect in a block of its own, choose its congestion window, its recovery, its
  *      policy, its keep-alives and its pacing, and move it in: tcpcore_host_open. It has a name then, and its struct is empty; its block
- *      stays its own.
+ *      stays its own. Its SYN is due: go on with 6.
  *   3. Wait for a segment, or until the time of tcpcore_host_poll_at. Hand each segment to tcpcore_host_arrive, and go by `place`:
  *      - TCPCORE_PLACE_LISTENER: make a connection by tcpcore_connection_listen with the segment's destination, move it in by
  *        tcpcore_host_admit, and hand the segment in again. Where that isn't TCPCORE_DONE the segment has a fault, and the connection still
@@ -1367,12 +1372,12 @@ uint32_t tcpcore_connection_set_pacing(tcpcore_connection *connection, uint32_t 
  *      - TCPCORE_PLACE_END with TCPCORE_EMIT_FIRST: emit until nobody waits, and hand it in again.
  *   4. Take what tcpcore_host_accept gives, and make the users' calls by name: tcpcore_host_send, tcpcore_host_receive, tcpcore_host_close.
  *   5. Call tcpcore_host_timeout until it answers TCPCORE_NOBODY.
- *   6. Call tcpcore_host_emit, and send what it writes, until it answers TCPCORE_NOBODY. Go on with 3.
+ *   6. Call tcpcore_host_emit, and send what it writes, until it answers TCPCORE_NOBODY.
+ *   7. Look at each connection whose turn brought TCPCORE_NOT_DUE: it may be over. Once it is in TIME-WAIT and all of it was read,
+ *      tcpcore_host_retire leaves a record in its place and moves it out. Once its phase is TCPCORE_PHASE_CLOSED, and nothing is due,
+ *      tcpcore_host_remove moves it out. Its block is free behind tcpcore_connection_free. Go on with 3.
  *   For a device that sums and cuts segments tcpcore_host_arrive_vouched stands beside tcpcore_host_arrive, and tcpcore_host_emit_train
  *   writes those of one connection by its name, before 6; tcpcore_host_emit_by_id writes one of them at once.
- *   7. Of whose turn it was, and had nothing to send, the connection may be over. Once it is in TIME-WAIT and all of it was read,
- *      tcpcore_host_retire leaves a record in its place and moves it out. Once its phase is TCPCORE_PHASE_CLOSED, and nothing is due,
- *      tcpcore_host_remove moves it out. Its block is free behind tcpcore_connection_free.
  */
 
 /* A host, placed by the caller. Its words are the library's: set them by TCPCORE_HOST_INIT alone. */
@@ -1384,7 +1389,9 @@ typedef struct tcpcore_host {
 #define TCPCORE_HOST_INIT {{0, 0, 0}}
 
 /* The name of a connection or of a listener in a host: no other connection, or listener, has it or had it. The number of none is 0, so that
-   a caller keeps zeros where it has no name: calls by them find nothing. */
+   a caller keeps zeros where it has no name: calls by them find nothing. A slot that was left is taken again before a new one is (tested,
+   not proved), so that it is below the most connections that the host has had at once, or of a listener's name the most listeners: a
+   table of as many has place for what a caller keeps of each. */
 struct tcpcore_host_id {
     /* Its number, 1 or more, in the order in which they came. */
     uint64_t number;

@@ -21,7 +21,8 @@ library() {
     cp "$file" "$place/tcpcore_portable.c"
     cp -r "$core/examples" "$core/tests" "$place"
     cp "$top"/c/companions/*.[ch] "$place/companions"
-    cp "$top/docs/"{EMBEDDING,FORMATS,INSTALL,RULES,TRUST}.md "$top/CHANGELOG.md" "$place/docs"
+    # All of them, and their pictures: each sends its reader to others.
+    cp "$top/docs/"*.{md,svg} "$top/CHANGELOG.md" "$place/docs"
     python3 man.py "$core/tcpcore.h" "$(date -u -d "@$when" +%F)" >"$place/man/tcpcore.3"
     for machine in out/prebuilt/*/; do
         mkdir "$place/prebuilt/$(basename "$machine")"

@@ -41,8 +41,9 @@ def rules_struct(rules: Rules) -> ConnectionRulesStruct:
 
 class Connection(Held):
     """One end with its timers: the retransmission timeout by measured round trips (RFC 6298), losses that the peer's blocks show (RFC 2018),
-    TIME-WAIT and the user timeout (RFC 9293, 3.8.3). It has no clock: each call is told `now`, in seconds from any beginning, such as
-    time.monotonic(); a time that goes back counts as the latest before it.
+    TIME-WAIT and the user timeout (RFC 9293, 3.8.3). It has no clock: each call that depends on the time is told `now`, in seconds from any
+    beginning, such as time.monotonic(). A time before that of an earlier call counts as that, but for keep-alives and pacing, which go by
+    the times as they are.
 
     A program does this until the phase is CLOSED, and then emits once more:
 

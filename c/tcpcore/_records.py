@@ -223,9 +223,9 @@ class Policy(NamedTuple):
     `ack_delay` is how long an acknowledgement of text waits for a second full segment, less than 0.5 s; 0 is not at all. `override_timeout`
     is how long text that isn't worth a segment waits, counted from when only its size holds it back: until then no small segment goes
     into a small window, and none goes out just for a window that opened by little; with None no text waits, and silly windows aren't
-    avoided. With `nagle` text that doesn't fill a segment waits while anything is in flight. Of the acknowledgements that only answer
-    segments without text and FIN, or a SYN in a synchronized state, one goes out in `answer_interval`, some seconds at most; with 0 all
-    do."""
+    avoided. With `nagle` text that doesn't fill a segment waits while anything is in flight. `answer_interval` is for ACK throttling (RFC
+    5961, 7): of the acknowledgements that only answer a segment without text and FIN, or a SYN in a synchronized state, as challenge ACKs
+    do, one goes out in this time, a few seconds at most; 0 is no throttling."""
 
     ack_delay: float = 0.04
     override_timeout: Optional[float] = 0.5

@@ -1,7 +1,7 @@
 /*
  * tcpcore_old_names.h: the names of version 8 for calls, types and constants that have others since version 9, as macros, so that a
- * program in the old names is compiled as it is. tcpcore.h includes it; with TCPCORE_NO_OLD_NAMES defined it doesn't. Version 10 won't
- * have it. The fields of structs have new names alone: a macro of so short a word would change the program's own names.
+ * program in the old names is compiled as it is. tcpcore.h includes it; with TCPCORE_NO_OLD_NAMES defined it doesn't. A later version
+ * may leave it out. The fields of structs have new names alone: a macro of so short a word would change the program's own names.
  */
 #ifndef TCPCORE_OLD_NAMES_H
 #define TCPCORE_OLD_NAMES_H

@@ -200,8 +200,8 @@ public:
     tcpcore_end *raw() const { return held.get(); }
 };
 
-// A connection: an end with its clock, which tcpcore.h describes under CONNECTIONS. It reads no clock: each call is given the time, and a
-// time before that of an earlier call counts as that.
+// A connection: an end with its clock, which tcpcore.h describes under CONNECTIONS. It reads no clock: each call that depends on the time
+// is given it, and a time before that of an earlier call counts as that, but for keep-alives and pacing, which go by the times as they are.
 //
 //     1. emit until nothing is due, and send each segment. In CLOSED the connection is over then.
 //     2. Wait for a segment, or until poll_at.
@@ -368,8 +368,8 @@ public:
     // Chooses when an acknowledgement and a small segment go out: at once where this isn't called.
     void set_policy(const struct tcpcore_policy &policy) { detail::done(tcpcore_connection_set_policy(raw(), &policy)); }
     // From `now` on losses are found by time, and the end of what is sent is probed (RFC 8985), where both SYNs agree on selective
-    // acknowledgement; else silence alone is probed, by the first two segments in flight. False where text was sent already. It takes TCPCORE_RECOVERY_MEMORY bytes of its own. Refused where it was called
-    // already.
+    // acknowledgement; else silence alone is probed, by the first two segments in flight. It takes TCPCORE_RECOVERY_MEMORY bytes of its
+    // own. False where text or a FIN was sent already; a second call is refused (TCPCORE_IN_USE).
     bool set_recovery(time now)
     {
         std::unique_ptr<unsigned char[]> memory(new unsigned char[TCPCORE_RECOVERY_MEMORY]);

@@ -44,7 +44,7 @@ const (
 	ErrNoEnd = Refused(C.TCPCORE_NO_END)
 	// ErrInUse: SetRecovery was called before.
 	ErrInUse = Refused(C.TCPCORE_IN_USE)
-	// ErrBegun: text was sent before SetRecovery, or before SetCongestion.
+	// ErrBegun: text or a FIN was sent before SetRecovery, or before SetCongestion.
 	ErrBegun = Refused(C.TCPCORE_NO_RULE)
 )
 
@@ -119,11 +119,12 @@ func (rules Rules) c() C.struct_tcpcore_connection_rules {
 // Connection is one end of one TCP connection, with its clock: an end that keeps its own timers. These are the retransmission timeout by
 // measured round trips (RFC 6298), what the peer's blocks passed over (RFC 2018, 5), TIME-WAIT, and the user timeout (RFC 9293, 3.8.3).
 //
-// It has no socket, reads no clock and starts no goroutine: each call is told what time it is, as time.Now tells it or a clock of the
-// caller's. A time before that of an earlier call counts as that. Struct and block lie in C's memory, which Free gives back. One goroutine
-// at a time uses it, as an End.
+// It has no socket, reads no clock and starts no goroutine: each call that depends on the time is told it, as time.Now tells it or a clock
+// of the caller's. A time before that of an earlier call counts as that, but for keep-alives and pacing, which go by the times as they are.
+// Struct and block lie in C's memory, which Free gives back. One goroutine at a time uses it, as an End.
 //
-// A program goes round this loop, whose steps 2 to 4 are also one call, Exchange:
+// Behind Connect, Emit until nothing is due: the SYN is due at once, and PollAt is only when it goes out again. Then a program goes round
+// this loop, whose steps 2 to 4 are also one call, Exchange:
 //
 //  1. Wait for a segment, or until PollAt.
 //  2. Arrive for each segment that came.
@@ -331,8 +332,8 @@ type Policy struct {
 	// then no small segment goes into a small window, and none goes out just for a window that opened by little. Never: no text waits, and a
 	// window that was opened by reading is advertised only where it was shut.
 	OverrideTimeout time.Duration
-	// Of the acknowledgements that only answer segments without text and FIN, or a SYN in a synchronized state, one goes out in so long (RFC
-	// 5961, 7), some seconds at most; 0: all do.
+	// ACK throttling (RFC 5961, 7): of the acknowledgements that only answer a segment without text and FIN, or a SYN in a synchronized
+	// state, as challenge ACKs do, one goes out in this time, a few seconds at most; 0: no throttling.
 	AnswerInterval time.Duration
 	// Text that doesn't fill a segment waits while anything is in flight, by the Nagle algorithm (RFC 9293, 3.7.4), unless OverrideTimeout is
 	// Never.

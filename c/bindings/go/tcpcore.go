@@ -87,7 +87,7 @@ const (
 
 // Config is what an end is made from; Shift below 0 says that windows aren't scaled. Limit 0 is the greatest under which no old segment
 // is taken for another. Runs is from 1 to MaxRuns, and 0 is Runs of this package: a path that reorders makes about one run for each five
-// segments that it carries in the time of its jitter, and each takes 16 bytes.
+// segments that it carries in the time of its jitter, and each takes 24 bytes of the block.
 type Config struct {
 	Addr                       Addr
 	Port, MSS                  uint16

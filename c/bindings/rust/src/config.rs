@@ -99,7 +99,7 @@ impl Config {
 
     /// The most runs of bytes that are kept out of order (RFC 9293, 3.10.7.4), and the most runs of the peer's blocks that are remembered
     /// (RFC 2018, 5), 1 to [`MAX_RUNS`](crate::MAX_RUNS); 0 is [`RUNS`](crate::RUNS), as where nothing is said. A path that reorders makes
-    /// about one for each five segments that it carries in the time of its jitter; each takes 16 bytes.
+    /// about one for each five segments that it carries in the time of its jitter; each takes 24 bytes of the block.
     pub const fn runs(mut self, runs: u16) -> Config {
         self.0.runs = runs;
         self

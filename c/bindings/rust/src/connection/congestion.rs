@@ -20,7 +20,7 @@ pub struct CongestionWindow {
     pub congestion: Congestion,
     /// The congestion window; 2^40 where none was chosen, more than is ever in flight.
     pub cwnd: u64,
-    /// The slow start threshold; 2^40 before a loss.
+    /// The slow start threshold; 2^40 until slow start has ended once.
     pub ssthresh: u64,
     /// SMSS: 536 until the SYNs have agreed on it; 0 where no window was chosen.
     pub smss: u64,

@@ -27,10 +27,11 @@ use rules::NEVER;
 /// One end of one TCP connection, with its clock: an end that keeps its own timers. These are the retransmission timeout by measured
 /// round trips (RFC 6298), what the peer's blocks passed over (RFC 2018, 5), TIME-WAIT, and the user timeout (RFC 9293, 3.8.3).
 ///
-/// It has no socket, reads no clock and starts no thread: each call is told what time it is. A time before that of an earlier call counts
-/// as that. [`Connection::connect`] and [`Connection::listen`] give it memory of its own, and it is a `Connection<'static>`;
-/// [`Connection::connect_in`] and [`Connection::listen_in`] are given a block of the caller's, which it borrows. It can be moved, and is
-/// freed when it is dropped, without a word to the peer.
+/// It has no socket, reads no clock and starts no thread: each call that depends on the time is told it. A time before that of an earlier
+/// call counts as that, but for keep-alives and pacing, which go by the times as they are. [`Connection::connect`] and
+/// [`Connection::listen`] give it memory of its own, and it is a `Connection<'static>`; [`Connection::connect_in`] and
+/// [`Connection::listen_in`] are given a block of the caller's, which it borrows. It can be moved, and is freed when it is dropped, without
+/// a word to the peer.
 ///
 /// # The loop
 /// 1. [`poll_transmit`](Connection::poll_transmit) until it has nothing, and send each segment. In CLOSED the connection is over then.

@@ -16,8 +16,8 @@ pub struct Policy {
     /// then no small segment goes into a small window, and none goes out just for a window that opened by little. `None`: no text waits,
     /// and a window that was opened by reading is advertised only where it was shut.
     pub override_timeout: Option<Duration>,
-    /// Of the acknowledgements that only answer segments without text and FIN, or a SYN in a synchronized state, one goes out in so long
-    /// (RFC 5961, 7), some seconds at most. 0: all do.
+    /// ACK throttling (RFC 5961, 7): of the acknowledgements that only answer a segment without text and FIN, or a SYN in a synchronized
+    /// state, as challenge ACKs do, one goes out in this time, a few seconds at most. 0: no throttling.
     pub answer_interval: Duration,
     /// Whether text that doesn't fill a segment waits while anything is in flight, by the Nagle algorithm (RFC 9293, 3.7.4). It counts where
     /// there is an `override_timeout`.

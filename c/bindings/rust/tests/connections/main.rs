@@ -576,7 +576,8 @@ fn what_making_refuses() {
         assert_eq!(made.err(), Some(Error::NoMemory), "{length}");
     }
     assert_eq!(good.runs(4097).connection_room(), 0);
-    assert_eq!((Error::BadRules.number(), Error::BadRules.to_string()), (29, "no timeout can be made from the rules".into()));
+    let text = "no timeout can be made from the rules, or no congestion window has this number";
+    assert_eq!((Error::BadRules.number(), Error::BadRules.to_string()), (29, text.into()));
 }
 
 /// In blocks of the caller's, wherever they begin; and moved, to another thread, too.
