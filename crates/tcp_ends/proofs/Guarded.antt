@@ -37,7 +37,7 @@ abbrev guarded_maybe : ℕ → WorldState → Option EventContent → WorldState
 guarded_maybe reach w None = w
 guarded_maybe reach w (Some event) = guarded_after reach w event
 
-abbrev guarded_happened : ℕ → WorldState → Option Happening → WorldState
+abbrev pub guarded_happened : ℕ → WorldState → Option Happening → WorldState
 guarded_happened reach w None = w
 guarded_happened reach w (Some happening) = after_guarded reach w happening
 
@@ -166,7 +166,7 @@ rest-guarded : (reach : ℕ) (w : WorldState) (side : Side) (wanted : Bool) → 
 rest-guarded reach w side true = refl
 rest-guarded reach w side false = plain-event reach w (Timer side Retransmit) tt
 
-guarded-incident : {H : Type 0} (reach : ℕ) (p : Pair H) (incident : Incident) → AreGuarded reach p
+pub guarded-incident : {H : Type 0} (reach : ℕ) (p : Pair H) (incident : Incident) → AreGuarded reach p
     → world_in (pair_after_incident p incident) ≡ guarded_happened reach (world_in p) (happening_of p incident)
 unfolding pair_after_incident happening_of
 guarded-incident reach p (Calls call) guards = guarded-call reach p call guards ∙ of-event reach (world_in p) (event_of p call)
@@ -176,13 +176,13 @@ guarded-incident reach p (Rests side) guards =
     rests p side (timer_answer (end_of (member_of p side)) Retransmit) refl ∙ rest-guarded reach (world_in p) side (timer_answer (end_of (member_of p side)) Retransmit)
 
 -- ---- MANY
-more : (reach : ℕ) (w : WorldState) (o : Option Happening) (list : List Happening)
+pub more : (reach : ℕ) (w : WorldState) (o : Option Happening) (list : List Happening)
     → after_all_guarded reach w (happens o list) ≡ after_all_guarded reach (guarded_happened reach w o) list
 unfolding after_all_guarded
 more reach w None list = refl
 more reach w (Some happening) list = refl
 
-still-guarded : {H : Type 0} (reach : ℕ) (p : Pair H) (incident : Incident) → AreGuarded reach p → AreGuarded reach (pair_after_incident p incident)
+pub still-guarded : {H : Type 0} (reach : ℕ) (p : Pair H) (incident : Incident) → AreGuarded reach p → AreGuarded reach (pair_after_incident p incident)
 still-guarded reach p incident guards = λ side. incident-guards p incident side ∙ guards side
 
 pub incidents-guarded : {H : Type 0} (reach : ℕ) (p : Pair H) (list : List Incident) → AreGuarded reach p
@@ -213,14 +213,14 @@ fair-rest : (reach : ℕ) (w : WorldState) (wanted : Bool) (side : Side) → IfS
 fair-rest reach w true side = tt
 fair-rest reach w false side = tt
 
-fair-incident : {H : Type 0} (reach : ℕ) (p : Pair H) (incident : Incident) → IsFairToGuard reach p incident
+pub fair-incident : {H : Type 0} (reach : ℕ) (p : Pair H) (incident : Incident) → IsFairToGuard reach p incident
     → IfSome (happening_of p incident) (IsFairInWorld reach (world_in p))
 unfolding happening_of
 fair-incident reach p (Calls call) h = fair-event reach (world_in p) (event_of p call) (call-bytes p call h)
 fair-incident reach p (Injects side now i) h = fair-injection reach p side i (is_lost (member_of p side) i.bytes) h
 fair-incident reach p (Rests side) h = fair-rest reach (world_in p) (timer_answer (end_of (member_of p side)) Retransmit) side
 
-fair-more : (reach : ℕ) (w : WorldState) (o : Option Happening) (list : List Happening) → IfSome o (IsFairInWorld reach w)
+pub fair-more : (reach : ℕ) (w : WorldState) (o : Option Happening) (list : List Happening) → IfSome o (IsFairInWorld reach w)
     → AreFairInWorld reach (guarded_happened reach w o) list → AreFairInWorld reach w (happens o list)
 unfolding AreFairInWorld
 fair-more reach w None list h rest = rest
@@ -249,14 +249,14 @@ fair-two : (reach : ℕ) (w : WorldState) (first second : EventContent) (list : 
 unfolding AreFairInWorld
 fair-two reach w first second list one two rest = (one, (two, rest))
 
-both-plain : (reach : ℕ) (w : WorldState) (opening_a opening_b : Opening)
+pub both-plain : (reach : ℕ) (w : WorldState) (opening_a opening_b : Opening)
     → world_after (world_after w (opening_event A opening_a)) (opening_event B opening_b)
     ≡ guarded_after reach (guarded_after reach w (opening_event A opening_a)) (opening_event B opening_b)
 both-plain reach w opening_a opening_b =
     plain-event reach (world_after w (opening_event A opening_a)) (opening_event B opening_b) (opening-plain B opening_b)
     ∙ ap (λ v. guarded_after reach v (opening_event B opening_b)) (plain-event reach w (opening_event A opening_a) (opening-plain A opening_a))
 
-begun-guarded : {H : Type 0} (life reach : ℕ) (x y : Driving (Wired H)) → guard_of (new_member x) ≡ Some reach → guard_of (new_member y) ≡ Some reach
+pub begun-guarded : {H : Type 0} (life reach : ℕ) (x y : Driving (Wired H)) → guard_of (new_member x) ≡ Some reach → guard_of (new_member y) ≡ Some reach
     → AreGuarded reach (pair_of life (new_member x) (new_member y))
 begun-guarded life reach x y e f A = e
 begun-guarded life reach x y e f B = f

@@ -1,0 +1,5 @@
+mod Apart
+mod Coming
+mod Worlds
+mod Ends
+mod Guarded
