@@ -3,3 +3,4 @@ mod Coming
 mod Worlds
 mod Ends
 mod Guarded
+mod Vouched

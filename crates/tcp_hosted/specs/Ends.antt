@@ -1,6 +1,7 @@
 -- TWO ENDS WITH THEIR TIMES AT HOSTS, AMONG STRANGERS (RFC 5961, 1), from where `connect` or `listen` opened them on.
-use Rattle.std.specs.Prelude.{◌≡◌, ℕ, ◌≤◌, true, false, List, [], ◌∷◌, Some, Ok}
+use Rattle.std.specs.Prelude.{◌≡◌, ℕ, ◌≤◌, true, false, List, [], ◌∷◌, length, Some, Ok}
 use Rattle.tcp_wire.specs.Checksum.{AreBytes}
+use Rattle.tcp_wire.specs.Vouched.{with_right_sum}
 use Rattle.tcp_driver.specs.Driver.{Driving}
 use Rattle.tcp_halves.specs.Config.{IsConfig}
 use Rattle.tcp_halves.specs.declared.config.Config.{Config}
@@ -35,6 +36,12 @@ ComesAsIncident {H = H} cmp old new now src dst bytes =
     (m peer : Member H) (slot : ℕ) → HasKey cmp old.ends (pair_between (party_in m) (party_in peer)) slot → end_at old.ends slot ≡ Some m.driving
     → HasKey cmp new.ends (pair_between (party_in m) (party_in peer)) slot
     × (end_at new.ends slot ≡ Some (member_at_host m peer now (record { src = src; dst = dst; bytes = bytes })).driving)
+
+-- WHAT A DEVICE HAS VOUCHED FOR (RFC 9293, 3.1) does what the segment does that is summed, with the right checksum
+abbrev pub VouchedIsSummed : Type 0 → Type 0
+VouchedIsSummed H =
+    (pair : FourValues) (end : Driving (Wired H)) (now : ℕ) (src dst bytes : List ℕ) → 20 ≤ length bytes
+    → at_host (of_driver machine) pair end now src dst bytes true ≡ at_host (of_driver machine) pair end now src dst (with_right_sum src dst bytes) false
 
 -- ---- WHAT HAPPENS: a call of the two; what comes to the host of one at a time; or nothing at all, where a side is said to rest
 abbrev pub pair_at_hosts : {H : Type 0} → Pair H → Incident → Pair H

@@ -3,7 +3,7 @@
 //!
 //! - [`an_arrival_is_handed_on`], [`a_vouched_arrival_is_handed_on`]: what comes to a host does to the end of its four values what that
 //!   end's own `arrive` does, and nothing to any other. Of a driver [`an_arrival_is_an_incident`] says that this is what the laws below
-//!   have an injection do.
+//!   have an injection do, and [`what_is_vouched_is_summed`] what of one that a device has vouched for.
 //! - [`every_run_at_hosts_is_safe`]: so two ends are safe, whatever strangers send to their hosts, unless it has the connection's four
 //!   values and is let in. Of ends with their times [`two_ends_at_hosts_are_safe`] says so, and [`two_guarded_ends_at_hosts_are_safe`]
 //!   of those with a guard, to whom strangers may send far more.
@@ -14,7 +14,7 @@
 
 ghost use Rattle.std.specs.Prelude.{false, true};
 ghost use Rattle.tcp_hosted.specs.Coming.{HandsOn};
-ghost use Rattle.tcp_hosted.specs.Ends.{ComesAsIncident, TwoEndsAtHostsAreSafe, TwoGuardedEndsAtHostsAreSafe};
+ghost use Rattle.tcp_hosted.specs.Ends.{ComesAsIncident, TwoEndsAtHostsAreSafe, TwoGuardedEndsAtHostsAreSafe, VouchedIsSummed};
 ghost use Rattle.tcp_hosted.specs.Worlds.{EveryRunAtHostsIsSafe};
 
 use std::alloc::Allocator;
@@ -59,6 +59,12 @@ pub fn an_arrival_is_an_incident<A: Allocator, L: Drop, B: Allocator + Copy>(
 {
     an_arrival_is_handed_on(host, now, src, dst, bytes)
 }
+
+/// What a device has vouched for does to a driver at its host what the segment does that is summed, with the right checksum in it. So what
+/// the laws below ask of a segment, that it isn't let in, is asked of that one.
+pub fn what_is_vouched_is_summed<A: Allocator>()
+    ensures { VouchedIsSummed A }
+{}
 
 /// The headline at hosts: over every list of what happens, where any bytes come to either end's host, from and to any address, at any
 /// time, of which those with the connection's four values aren't let in.
